@@ -1,0 +1,5 @@
+use Rattle.cube_model.proofs.Housed.{one_room_is_plain}
+use Rattle.cube_model.proofs.laws.rooms.one_room_is_plain.Goals as goal
+
+pub returns : goal.returns
+returns c = one_room_is_plain

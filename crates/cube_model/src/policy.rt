@@ -1,0 +1,54 @@
+// What an owner writes down of protection.
+use crate::{Items, Levels};
+
+/// How the sums of a measure are controlled.
+#[derive(Clone, Copy, Debug, PartialEq, Eq)]
+pub enum Method {
+    /// Not at all: the measure is open.
+    Plain,
+    /// By one source cuboid, which cuts each protected cell.
+    Lattice,
+    /// By links between places, from which each protected place is free.
+    Parity,
+}
+
+/// One method for each measure.
+pub type Methods = Items<Method>;
+
+/// The members of one level of a dimension that a slice lists.
+#[derive(Drop)]
+pub struct Within {
+    /// The number of the dimension.
+    pub dimension: u32,
+    /// The level, counted from 0, the finest.
+    pub level: u32,
+    /// The numbers of the members, in increasing order.
+    pub members: Items<u32>,
+}
+
+/// What an object protects of a cube: the places whose ancestors are listed, in each dimension
+/// that is named here. An empty slice is the whole cube.
+pub type Slice = Items<Within>;
+
+/// A protected object: the cells at these levels and below that cover a place of the slice.
+#[derive(Drop)]
+pub struct Object {
+    /// The number of the measure that is protected.
+    pub measure: u32,
+    /// A level for each dimension.
+    pub levels: Levels,
+    /// Where the measure is protected.
+    pub slice: Slice,
+}
+
+/// A list of objects.
+pub type Objects = Items<Object>;
+
+/// A policy: how each measure is controlled, and what is protected.
+#[derive(Drop)]
+pub struct Policy {
+    /// One method for each measure.
+    pub methods: Methods,
+    /// The protected objects, in the order of the policy.
+    pub objects: Objects,
+}
