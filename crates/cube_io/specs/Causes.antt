@@ -1,0 +1,12 @@
+-- Counts of faults, which never fall, and what a call that fails says of them.
+use Rattle.std.specs.Prelude.{◌≡◌, ℕ, ◌+◌, ◌-◌, ◌^◌, ◌≤◌, min, Result, OnOk, OnErr}
+
+-- the count rose between these two; one that stands at the end of its type is taken as risen
+abbrev pub Rose : ℕ → ℕ → Type 0
+Rose before now = min (before + 1) (2 ^ 64 - 1) ≤ now
+
+-- a call that failed was counted, and one that went well left the count as it was
+pub record HasCause {T E : Type 0} (before now : ℕ) (result : Result T E) : Type 0 where
+  pub later : before ≤ now
+  pub steady : OnOk result (now ≡ before)
+  pub failed : OnErr result (Rose before now)

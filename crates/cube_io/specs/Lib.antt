@@ -1,0 +1,7 @@
+pub mod Causes
+pub mod Content
+pub mod Files
+pub mod States
+pub mod Told
+pub mod Wires
+pub mod Reads

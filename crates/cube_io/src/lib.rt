@@ -1,0 +1,19 @@
+//! What lies outside the program: sources and sinks of bytes, folders of files, stores of logs, and wires. Each is a
+//! trait that counts its faults; what an object holds is told where it can be known.
+#![tactic(auto)]
+
+mod faults;
+mod folder;
+mod null;
+mod sink;
+mod source;
+mod store;
+mod wire;
+
+pub use faults::Failed;
+pub use folder::{FileFault, Folder, MAX_FILE, MemFolder};
+pub use null::{NullSink, NullStore, NullWire};
+pub use sink::{MemSink, Sink};
+pub use source::{MemSource, Source};
+pub use store::{Store, StoreFault};
+pub use wire::{Event, Wire};

@@ -1,0 +1,80 @@
+// Sinks of bytes.
+ghost use Rattle.std.specs.Prelude.{◌≡◌, ◌≤◌, ℕ, List, [], length, Some, None, IsOk, IfOk};
+ghost use Rattle.std.specs.declared.option.Option.{Option};
+ghost use Rattle.cube_io.specs.Causes.{HasCause};
+ghost use Rattle.cube_io.specs.Content.{PutAppends};
+
+use crate::Failed;
+use cube_model::NoMemory;
+use std::alloc::Global;
+
+/// A sink of bytes.
+pub trait Sink {
+    /// The bytes that were written, where the sink tells them.
+    ghost written: { Self → Option (List ℕ) };
+
+    /// How often the sink has failed.
+    ghost faults: { Self → ℕ };
+
+    /// Writes the piece at the end, or fails after a prefix of it. An empty piece never fails.
+    fn put(&mut self, piece: &[u8]) -> Result<(), Failed>
+        ensures bytes { PutAppends (written self.old) (written self.new) result piece.now }
+        ensures empty { piece.now ≡ [] → IsOk result }
+        ensures cause { HasCause (faults self.old) (faults self.new) result };
+}
+
+/// A sink into memory of fixed room. It fails at the puts with these numbers, counted from 0, and where the room is
+/// used up.
+#[derive(Drop)]
+pub struct MemSink {
+    bytes: Vec<u8>,
+    room: usize,
+    failing: Vec<u64>,
+    calls: u64,
+    faults: u64,
+}
+
+impl MemSink {
+    /// An empty sink, with room for so many bytes.
+    pub fn with_room(alloc: Global, room: usize, failing: Vec<u64>) -> Result<Self, NoMemory>
+        ensures written { IfOk result (λ sink. ⟦<MemSink as Sink>⟧.written sink ≡ Some []) }
+        ensures faults { IfOk result (λ sink. ⟦<MemSink as Sink>⟧.faults sink ≡ 0) }
+    {
+        Ok(MemSink {
+            bytes: Vec::with_capacity(alloc, room)?,
+            room,
+            failing,
+            calls: 0,
+            faults: 0,
+        })
+    }
+
+    /// The bytes that were written.
+    pub fn bytes(&self) -> &[u8]
+        ensures { ⟦<MemSink as Sink>⟧.written self.now ≡ Some result.now }
+    {
+        self.bytes.as_slice()
+    }
+}
+
+impl Sink for MemSink {
+    ghost written = { λ s. Some s.bytes.items };
+
+    ghost faults = { λ s. s.faults };
+
+    fn put(&mut self, piece: &[u8]) -> Result<(), Failed> {
+        if piece.is_empty() {
+            return Ok(());
+        }
+        let call = self.calls;
+        self.calls = self.calls.saturating_add(1);
+        if self.failing.contains(&call)
+            || piece.len() > self.room.saturating_sub(self.bytes.len())
+            || self.bytes.extend_from_slice(piece).is_err()
+        {
+            self.faults = self.faults.saturating_add(1);
+            return Err(Failed);
+        }
+        Ok(())
+    }
+}
