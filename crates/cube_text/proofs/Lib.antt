@@ -1,0 +1,4 @@
+pub mod Digits
+pub mod UnitsReadBack
+pub mod Quotes
+pub mod NameLaws

@@ -1,0 +1,7 @@
+use Rattle.std.proofs.Common.{◌≡◌, ◌++◌, take, ◌∷◌}
+use Rattle.std.specs.List.{flat_map}
+use Rattle.cube_text.specs.Quoting.{spelled}
+use Rattle.cube_text.proofs.names.push_quoted.Given as goal
+
+abbrev pub invariant-loop-byte : goal.invariant-loop-byte
+invariant-loop-byte l = l.text ≡ l.fn.text ++ (34 ∷ flat_map spelled (take l.byte-index l.name))
