@@ -1,0 +1,5 @@
+pub mod Tables
+pub mod DimsFile
+pub mod Words
+pub mod MeasureParts
+pub mod Examples
