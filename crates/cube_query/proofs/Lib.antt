@@ -1,0 +1,17 @@
+pub mod Items
+pub mod Parts
+pub mod Fronts
+pub mod Languages
+pub mod Runs
+pub mod Blanks
+pub mod Names
+pub mod Picks
+pub mod Lists
+pub mod Forms
+pub mod Wholes
+pub mod Places
+pub mod Prints
+pub mod Printed
+pub mod Says
+pub mod Back
+pub mod Valid
