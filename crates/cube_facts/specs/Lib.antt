@@ -1,0 +1,4 @@
+pub mod Records
+pub mod Words
+pub mod Flat
+pub mod Table
