@@ -1,0 +1,12 @@
+pub mod Anew
+pub mod Digits
+pub mod Found
+pub mod GoesOn
+pub mod Guess
+pub mod Heading
+pub mod Heads
+pub mod Judged
+pub mod Named
+pub mod Openings
+pub mod Phrases
+pub mod Requests

@@ -1,0 +1,13 @@
+pub mod Buffers
+pub mod Checks
+pub mod Examples
+pub mod Facts
+pub mod Form
+pub mod Head
+pub mod Hearing
+pub mod Laws
+pub mod Methods
+pub mod Responses
+pub mod Stream
+pub mod Targets
+pub mod Ways
