@@ -1,0 +1,14 @@
+use Rattle.std.proofs.Common.{◌≡◌, ◌≤◌, ◌-◌}
+use Rattle.cube_app.proofs.Stands.{Stands}
+use Rattle.cube_app.proofs.talk.converse.Given as goal
+
+abbrev pub invariant-reads : goal.invariant-reads
+invariant-reads g l = record {
+  stands : Stands l.flat (g.I.Source.left l.initial.input) (g.I.Source.left l.input) (g.O.Sink.written l.initial.out) (g.O.Sink.written l.out) l.carry l.lines l.bytes;
+  few_bytes : l.bytes ≤ 1099511627776;
+  input_steady : g.I.Source.faults l.input ≡ g.I.Source.faults l.initial.input;
+  output_steady : g.O.Sink.faults l.out ≡ g.O.Sink.faults l.initial.out;
+}
+
+abbrev pub decreases-reads : goal.decreases-reads
+decreases-reads g l = 1099511627776 - l.bytes

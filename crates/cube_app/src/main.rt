@@ -1,0 +1,62 @@
+//! The program: it makes the real objects, runs, prints the text on standard error and ends with the status.
+#![tactic(auto)]
+
+mod carry;
+mod edge;
+mod report;
+mod run;
+mod talk;
+#[cfg(test)]
+mod tests;
+mod words;
+
+use cube_io::{NullStore, NullWire};
+use cube_model::{Items, Text, Texts};
+use edge::{FileFolder, ReaderSource, WriterSink};
+use run::run;
+use std::env::{Env, FillError};
+use std::io;
+use std::io::Write;
+use std::process::ExitCode;
+
+// A word of a command line has fewer bytes than this.
+const MAX_WORD: usize = 131_072;
+
+// The words behind the program's name, of any bytes.
+fn words_of(rt: &HostRuntime) -> Option<Texts> {
+    let mut words = Items::new(rt.alloc());
+    let mut buf = [0u8; MAX_WORD];
+    for number in 1..usize::MAX {
+        match rt.arg(number, &mut buf) {
+            Ok(count) => {
+                let word = Text::from_bytes(rt.alloc(), &buf[..count]).ok()?;
+                words.push(word).ok()?;
+            }
+            Err(FillError::NotPresent) => return Some(words),
+            Err(FillError::TooLong) => return None,
+        }
+    }
+    None
+}
+
+fn main(rt: HostRuntime) -> ExitCode {
+    let Some(words) = words_of(&rt) else {
+        return ExitCode::from(7);
+    };
+    let mut files = FileFolder::new(&rt);
+    let mut store = NullStore::new();
+    let mut input = ReaderSource::new(rt.reader());
+    let mut out = WriterSink::new(io::writer(&rt));
+    let mut wire = NullWire;
+    let report = run(
+        rt.alloc(),
+        words.as_slice(),
+        &mut files,
+        &mut store,
+        &mut input,
+        &mut out,
+        &mut wire,
+    );
+    let _ = rt.stderr().write_all(report.text.as_slice());
+    ExitCode::from(report.status)
+}

@@ -1,0 +1,176 @@
+// The words of the command line.
+ghost use Rattle.std.specs.Prelude.{◌≡◌, ◌≤◌, not, length, take, drop, find, option_copied, []};
+ghost use Rattle.cube_app.specs.Words.{command_word, option_word, needed as needed_by, command_of as command_in, is_option as is_option_of, stands_in, options_in, first_wrong as first_wrong_behind, orders_of as orders_in, value_behind as value_in, value_of as value_given};
+
+use cube_model::Text;
+
+/// What the program is asked to do.
+#[derive(Clone, Copy, Debug, PartialEq, Eq)]
+pub enum Command {
+    /// Print how it is used.
+    Help,
+    /// Print its version.
+    Version,
+    /// Answer lines over a flat fact file.
+    Sum,
+}
+
+/// An option of a command.
+#[derive(Clone, Copy, Debug, PartialEq, Eq)]
+pub enum Setting {
+    /// The fact file.
+    Facts,
+}
+
+/// What is wrong with the words.
+#[derive(Clone, Copy, Debug, PartialEq, Eq)]
+pub enum Usage {
+    /// There is no word.
+    NoCommand,
+    /// The word with this number, from 0, is wrong.
+    Wrong(usize),
+    /// The command lacks this option.
+    Missing(Setting),
+}
+
+const COMMANDS: [Command; 3] = [Command::Help, Command::Version, Command::Sum];
+
+impl Command {
+    fn word(self) -> &'static [u8]
+        ensures { result.now ≡ command_word self }
+    {
+        match self {
+            Command::Help => b"--help",
+            Command::Version => b"--version",
+            Command::Sum => b"sum",
+        }
+    }
+
+    fn needed(self) -> &'static [Setting]
+        ensures { result.now ≡ needed_by self }
+    {
+        match self {
+            Command::Help => &[],
+            Command::Version => &[],
+            Command::Sum => &[Setting::Facts],
+        }
+    }
+}
+
+impl Setting {
+    /// The word of the option.
+    pub fn word(self) -> &'static [u8]
+        ensures { result.now ≡ option_word self }
+    {
+        match self {
+            Setting::Facts => b"--facts",
+        }
+    }
+}
+
+fn command_of(word: &[u8]) -> Option<Command>
+    ensures { result ≡ command_in word.now }
+{
+    COMMANDS
+        .iter()
+        .find(|command| word == command.word())
+        .copied()
+}
+
+fn is_option(command: Command, word: &[u8]) -> bool
+    ensures { result ≡ is_option_of command word.now }
+{
+    command
+        .needed()
+        .iter()
+        .any(|setting| word == setting.word())
+}
+
+// Whether the word stands in an option's place among words behind a command.
+fn is_given(word: &[u8], words: &[Text]) -> bool
+    ensures { result ≡ stands_in word.now (options_in words.now) }
+{
+    match words {
+        [] => false,
+        [option] => option.as_slice() == word,
+        [option, _, more @ ..] => option.as_slice() == word || is_given(word, more),
+    }
+}
+
+// The first wrong word from a place on, before which there are pairs.
+fn first_wrong(command: Command, words: &[Text], at: usize) -> Option<usize>
+    requires { at ≤ length words.now }
+    ensures { result ≡ first_wrong_behind command (take at words.now) (drop at words.now) }
+{
+    match &words[at..] {
+        [] => None,
+        [_] => Some(at + 1),
+        [option, _, ..] => {
+            let word = option.as_slice();
+            if !is_option(command, word) || is_given(word, &words[..at]) {
+                return Some(at + 1);
+            }
+            first_wrong(command, words, at + 2)
+        }
+    }
+}
+
+fn is_lacking(setting: Setting, words: &[Text]) -> bool
+    ensures { result ≡ not (stands_in (option_word setting) (options_in words.now)) }
+{
+    !is_given(setting.word(), words)
+}
+
+fn first_lacking(settings: &[Setting], words: &[Text]) -> Option<Setting>
+    ensures { result ≡ find (λ s. not (stands_in (option_word s) (options_in words.now))) settings.now }
+{
+    match settings {
+        [] => None,
+        [setting, ..] if is_lacking(*setting, words) => Some(*setting),
+        [_, more @ ..] => first_lacking(more, words),
+    }
+}
+
+/// The command that the words give, or what is wrong with them.
+pub fn orders_of(words: &[Text]) -> Result<Command, Usage>
+    ensures { result ≡ orders_in words.now }
+{
+    let [word, more @ ..] = words else {
+        return Err(Usage::NoCommand);
+    };
+    let Some(command) = command_of(word.as_slice()) else {
+        return Err(Usage::Wrong(0));
+    };
+    if let Some(number) = first_wrong(command, more, 0) {
+        return Err(Usage::Wrong(number));
+    }
+    match first_lacking(command.needed(), more) {
+        None => Ok(command),
+        Some(setting) => Err(Usage::Missing(setting)),
+    }
+}
+
+fn value_behind<'a>(word: &[u8], words: &'a [Text]) -> Option<&'a Text>
+    ensures { option_copied result ≡ value_in word.now words.now }
+{
+    match words {
+        [option, value, more @ ..] => {
+            if option.as_slice() == word {
+                Some(value)
+            } else {
+                value_behind(word, more)
+            }
+        }
+        _ => None,
+    }
+}
+
+/// The value of an option among the words of a command.
+pub fn value_of(words: &[Text], setting: Setting) -> Option<&Text>
+    ensures { option_copied result ≡ value_given setting words.now }
+{
+    match words {
+        [_, more @ ..] => value_behind(setting.word(), more),
+        [] => None,
+    }
+}
