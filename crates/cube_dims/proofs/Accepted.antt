@@ -2,20 +2,22 @@
 use Rattle.std.proofs.Common.{◌≡◌, ℕ, zero, suc, ◌<◌, ◌≤◌, Bool, true, false, not, List, [], ◌∷◌, length, get_or, take, map, refl, sym, ap, ◌∙◌, eqb, eqb-true, eq-eqb, ltb, arith}
 use Rattle.std.specs.List.{list_any, list_all}
 use Rattle.std.specs.Str.{bytes_eq}
-use Rattle.std.proofs.lemmas.Bool.{false≢true, ltb-true, ltb-false}
+use Rattle.std.proofs.lemmas.Bool.{ltb-true, ltb-false}
 use Rattle.std.proofs.lemmas.List.{get_or-take, length-take-le, get_or-map, take-map, length-map}
-use Rattle.std.specs.Prelude.{Option, Some, None, is_none, unwrap_or, option_map, option_and_then}
+use Rattle.std.specs.Prelude.{Option}
 use Rattle.std.proofs.lemmas.Slice.Eq.{bytes_eq-Decides}
-use Rattle.toml.specs.Data.{Data, string, integer, float, boolean, datetime, array, table}
+use Rattle.toml.specs.Data.{Data}
 use Rattle.cube_model.specs.Checks.{in_turn}
 use Rattle.cube_model.specs.Cubes.{names_at, place_of, distinct, IsHierarchy}
 use Rattle.cube_model.specs.Names.{is_name, is_level_name}
 use Rattle.cube_model.specs.Dims.{NamedDimension, plain, AreDistinct, IsDimension}
 use Rattle.cube_model.proofs.DimsFacts.{distinct_by_turns, up-named, same_number}
 use Rattle.cube_model.proofs.Members.{tested}
-use Rattle.cube_dims.specs.Tables.{items_list, all_as, as_list, is_empty_array, value_or}
+use Rattle.cube_tables.specs.Tables.{as_list, value_or}
 use Rattle.cube_dims.specs.DimsFile.{list_faults, bad_level, level_twice, path_faults, named_faults, parts_ways, leaf, stands_in, AreHierarchy}
-use Rattle.cube_dims.proofs.Turns.{no_append, no_check, turn_at}
+use Rattle.cube_dims.specs.declared.fault.DimsFault.TheVariants.{Missing, WrongKind}
+use Rattle.cube_tables.proofs.Nonempty as nonempty
+use Rattle.cube_tables.proofs.Turns.{no_append, no_check, turn_at}
 use Rattle.cube_dims.proofs.Hierarchy.{none_at, name_at, name_of_path, in_range, same_parent}
 
 pub not_false : (b : Bool) → not b ≡ false → b ≡ true
@@ -55,27 +57,8 @@ are_hierarchy entry levels paths h = record {
 
 -- ---- a list that is there, of the kind, and not empty
 
-some_of_kind : {X : Type 0} (kind : Data → Option X) (ds : List Data) → eqb (length ds) 0 ≡ false → is_none (all_as kind ds) ≡ false → 1 ≤ length (unwrap_or (all_as kind ds) [])
-some_of_kind kind [] e h = absurd (false≢true (sym e))
-some_of_kind kind (d ∷ ds) e h = by_item (kind d) (all_as kind ds) h
-  where
-    by_item : {X : Type 0} (o : Option X) (os : Option (List X)) → is_none (option_and_then (λ x. option_map (λ xs. x ∷ xs) os) o) ≡ false → 1 ≤ length (unwrap_or (option_and_then (λ x. option_map (λ xs. x ∷ xs) os) o) [])
-    by_item None os h = absurd (false≢true (sym h))
-    by_item (Some x) None h = absurd (false≢true (sym h))
-    by_item (Some x) (Some xs) h = omega arith
-
-some_items : {X : Type 0} (kind : Data → Option X) (d : Data) → is_empty_array d ≡ false → is_none (as_list kind d) ≡ false → 1 ≤ length (unwrap_or (as_list kind d) [])
-some_items kind (array ds) a b = some_of_kind kind (items_list ds) a b
-some_items kind (string s) a b = absurd (false≢true (sym b))
-some_items kind (integer s) a b = absurd (false≢true (sym b))
-some_items kind (float s) a b = absurd (false≢true (sym b))
-some_items kind (boolean s) a b = absurd (false≢true (sym b))
-some_items kind (datetime s) a b = absurd (false≢true (sym b))
-some_items kind (table s) a b = absurd (false≢true (sym b))
-
 pub has_items : {X : Type 0} (kind : Data → Option X) (key : List ℕ) (value : Option Data) → list_faults (as_list kind) key value ≡ [] → 1 ≤ length (value_or [] (as_list kind) value)
-has_items kind key None h = absurd (cc)
-has_items kind key (Some d) h = let parts = no_append _ _ h in some_items kind d (no_check _ _ parts.0) (no_check _ _ parts.1)
+has_items kind key value h = nonempty.has_items Missing WrongKind kind key value h
 
 -- ---- the rules
 

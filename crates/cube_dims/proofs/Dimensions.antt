@@ -3,11 +3,11 @@ use Rattle.std.proofs.Common.{◌≡◌, ◌⊎◌, ℕ, ◌+◌, ◌≤◌, Lis
 use Rattle.toml.specs.Data.{Members, as_str}
 use Rattle.cube_model.specs.Checks.{unless}
 use Rattle.cube_model.specs.Dims.{NamedDimension, IsDimension}
-use Rattle.cube_dims.specs.Tables.{as_texts, entry_of}
-use Rattle.cube_dims.specs.DimsFile.{under, dimension_in, dimension_of, dimension_kinds, dimension_faults, named_faults}
+use Rattle.cube_tables.specs.Tables.{as_texts, entry_of, under}
+use Rattle.cube_dims.specs.DimsFile.{dimension_in, dimension_of, dimension_kinds, dimension_faults, named_faults}
 use Rattle.cube_dims.specs.declared.fault.DimsFault.{DimsFault}
 use Rattle.cube_dims.specs.declared.fault.DimsFault.TheVariants.{NoMemory}
-use Rattle.cube_dims.proofs.Turns.{Refused, first, next, both_nothing, nothing, value, refused, accepted, no_append}
+use Rattle.cube_tables.proofs.Turns.{Refused, first, next, both_nothing, nothing, value, refused, accepted, no_append}
 use Rattle.cube_dims.proofs.Accepted.{has_items, is_dimension}
 
 abbrev pub kinds : List ℕ → Members → List DimsFault

@@ -1,9 +1,6 @@
-pub mod Items
-pub mod Turns
 pub mod Hierarchy
 pub mod Accepted
 pub mod PathChecks
 pub mod Dimensions
 pub mod Measures
-pub mod Tabled
 pub mod Whole

@@ -4,14 +4,14 @@ use Rattle.std.specs.Prelude.{Option, is_none, unwrap_or}
 use Rattle.toml.specs.Data.{Members}
 use Rattle.cube_model.specs.Checks.{unless, check}
 use Rattle.cube_model.specs.Dims.{NamedDimension, NamedMeasure}
-use Rattle.cube_dims.specs.Tables.{entry_of}
-use Rattle.cube_dims.specs.DimsFile.{under, measure_of, measure_kinds, measure_naming, measure_faults, decimals_in}
+use Rattle.cube_tables.specs.Tables.{entry_of, under}
+use Rattle.cube_dims.specs.DimsFile.{measure_of, measure_kinds, measure_naming, measure_faults, decimals_in}
 use Rattle.cube_dims.specs.MeasureParts.{parts_in}
 use Rattle.cube_dims.specs.declared.measure.Parts.{Parts}
 use Rattle.cube_dims.specs.declared.fault.DimsFault.{DimsFault}
 use Rattle.cube_dims.specs.declared.fault.DimsFault.TheVariants.{NoMemory, Limit}
 use Rattle.cube_model.specs.declared.limit.LimitKind.TheVariants.{Decimals}
-use Rattle.cube_dims.proofs.Turns.{Refused, first, next, both_nothing, nothing, value, refused, accepted}
+use Rattle.cube_tables.proofs.Turns.{Refused, first, next, both_nothing, nothing, value, refused, accepted}
 
 abbrev pub kinds : List ℕ → Members → List DimsFault
 kinds entry table = measure_kinds entry (under (codes "name") table) (under (codes "column") table) (under (codes "decimals") table)

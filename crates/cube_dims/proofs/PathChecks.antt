@@ -6,10 +6,10 @@ use Rattle.cube_model.specs.Checks.{check}
 use Rattle.cube_model.specs.Cubes.{names_at}
 use Rattle.cube_model.specs.Names.{is_name}
 use Rattle.cube_model.specs.Dims.{NamedDimension, plain}
-use Rattle.cube_dims.specs.Tables.{item_of}
+use Rattle.cube_tables.specs.Tables.{item_of}
 use Rattle.cube_dims.specs.DimsFile.{path_faults, parts_ways, leaf, stands_in}
 use Rattle.cube_dims.specs.declared.fault.DimsFault.TheVariants.{NoMemory, Uneven, BadName, LeafTwice, TwoParents}
-use Rattle.cube_dims.proofs.Turns.{Refused, check_none, check_fault, both_nothing, first, next, item_number}
+use Rattle.cube_tables.proofs.Turns.{Refused, check_none, check_fault, both_nothing, first, next, item_number}
 
 pub path_read : (paths read : List (List (List ℕ))) (path : List (List ℕ)) (i : ℕ) → read ≡ paths → i < length paths → path ≡ get_or read i path → path ≡ get_or paths i []
 path_read paths read path i same l at = at ∙ ap (λ (ps : List (List (List ℕ))). get_or ps i path) same ∙ get_or_default paths i path [] l

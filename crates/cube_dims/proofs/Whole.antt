@@ -12,12 +12,12 @@ use Rattle.cube_model.specs.Cubes.{cuboid_count}
 use Rattle.cube_model.specs.Dims.{NamedDimension, NamedMeasure, IsDimension, IsMeasure, IsDims, AreDistinct, plain}
 use Rattle.cube_model.proofs.Parts.{list_any-map}
 use Rattle.cube_model.proofs.DimsFacts.{distinct_by_turns, distinct_behind}
-use Rattle.cube_dims.specs.Tables.{as_tables, as_texts, is_empty_array, items_list, items_at, table_in}
-use Rattle.cube_dims.specs.DimsFile.{under, tables_of, tables_faults, list_faults, dimension_of, dimension_faults, dimensions_faults, named_faults, measure_of, measure_faults, measures_faults, decimals_in, decimals_of, dims_in, dims_faults}
+use Rattle.cube_tables.specs.Tables.{as_tables, as_texts, is_empty_array, items_list, items_at, table_in, under}
+use Rattle.cube_dims.specs.DimsFile.{tables_of, tables_faults, list_faults, dimension_of, dimension_faults, dimensions_faults, named_faults, measure_of, measure_faults, measures_faults, decimals_in, decimals_of, dims_in, dims_faults}
 use Rattle.cube_model.specs.declared.limit.LimitKind.TheVariants.{Dimensions, Measures, Cuboids}
 use Rattle.cube_dims.specs.declared.fault.DimsFault.TheVariants.{Limit}
 use Rattle.cube_model.proofs.Members.{tested}
-use Rattle.cube_dims.proofs.Turns.{no_append, no_check, both_nothing, turn_at}
+use Rattle.cube_tables.proofs.Turns.{no_append, no_check, both_nothing, turn_at}
 use Rattle.cube_dims.proofs.Accepted.{not_false, has_items, is_dimension}
 use Rattle.cube_dims.proofs.Dimensions.{kinds, dimension_entry}
 

@@ -2,22 +2,19 @@
 use Rattle.std.specs.Prelude.{◌≡◌, ℕ, ◌+◌, ◌<◌, Bool, false, not, ◌&&◌, ◌||◌, ◌==◌, nat_lt, nat_le, List, [], ◌∷◌, ◌++◌, length, map, codes, slice_index_or, Option, Some, None, is_none, Result, Err, if◌then◌else◌, unwrap_or, ℤ, pos, negsuc}
 use Rattle.std.specs.List.{list_all, list_any}
 use Rattle.std.specs.Str.{bytes_eq}
-use Rattle.toml.specs.Data.{Data, Members, get_member, as_str, as_integer}
+use Rattle.toml.specs.Data.{Data, Members, as_str, as_integer}
 use Rattle.cube_model.specs.Checks.{check, in_turn, unless}
 use Rattle.cube_model.specs.Names.{is_name, is_level_name, is_measure_name}
 use Rattle.cube_model.specs.Cubes.{cuboid_count}
 use Rattle.cube_model.specs.Dims.{NamedDimension, NamedMeasure, Dims, plains}
 use Rattle.cube_model.specs.declared.limit.LimitKind.{LimitKind}
 use Rattle.cube_model.specs.declared.limit.LimitKind.TheVariants as limit
-use Rattle.cube_dims.specs.Tables.{toml_of, as_list, as_texts, as_tables, is_empty_array, value_or, items_at, table_in, entry_of, key_of, item_of}
+use Rattle.cube_tables.specs.Kinds as kinds
+use Rattle.cube_tables.specs.Tables.{toml_of, under, as_list, as_texts, as_tables, value_or, items_at, table_in, entry_of, key_of, item_of}
 use Rattle.cube_dims.specs.declared.fault.DimsFault.{DimsFault}
 use Rattle.cube_dims.specs.declared.fault.DimsFault.TheVariants as fault
 
 -- ---- values
-
--- the value under a key of a table
-abbrev pub under : List ℕ → Members → Option Data
-under key table = get_member key table
 
 -- a dimension; its column is by default the name of the finest level
 abbrev pub dimension_in : Option Data → Option Data → Option Data → Option Data → NamedDimension
@@ -63,16 +60,13 @@ dims_in table = record {
 -- ---- faults of kind: the value has to be there and of the kind, or of the kind where it is there
 
 abbrev pub text_faults : List ℕ → Option Data → List DimsFault
-text_faults key None = fault.Missing key ∷ []
-text_faults key (Some d) = check (is_none (as_str d)) (fault.WrongKind key)
+text_faults key value = kinds.required_faults fault.Missing fault.WrongKind as_str key value
 
 abbrev pub list_faults : {X : Type 0} → (Data → Option X) → List ℕ → Option Data → List DimsFault
-list_faults kind key None = fault.Missing key ∷ []
-list_faults kind key (Some d) = check (is_empty_array d) (fault.Missing key) ++ check (is_none (kind d)) (fault.WrongKind key)
+list_faults kind key value = kinds.list_faults fault.Missing fault.WrongKind kind key value
 
 abbrev pub optional_faults : {X : Type 0} → (Data → Option X) → List ℕ → Option Data → List DimsFault
-optional_faults kind key None = []
-optional_faults kind key (Some d) = check (is_none (kind d)) (fault.WrongKind key)
+optional_faults kind key value = kinds.optional_faults fault.WrongKind kind key value
 
 -- a list of tables, at most so many
 abbrev pub tables_faults : LimitKind → ℕ → List ℕ → Option Data → List DimsFault

@@ -1,4 +1,3 @@
-pub mod Tables
 pub mod DimsFile
 pub mod Words
 pub mod MeasureParts

@@ -1,8 +1,8 @@
 -- What the table of a measure has, before its names are looked at.
 use Rattle.std.specs.Prelude.{[], codes}
 use Rattle.toml.specs.Data.{Members, as_str}
-use Rattle.cube_dims.specs.Tables.{value_or}
-use Rattle.cube_dims.specs.DimsFile.{under, decimals_in}
+use Rattle.cube_tables.specs.Tables.{value_or, under}
+use Rattle.cube_dims.specs.DimsFile.{decimals_in}
 use Rattle.cube_dims.specs.declared.measure.Parts.{Parts}
 
 abbrev pub parts_in : Members → Parts

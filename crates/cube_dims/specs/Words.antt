@@ -1,6 +1,6 @@
 -- The words of a fault.
-use Rattle.std.specs.Prelude.{ℕ, List, ◌∷◌, ◌++◌, codes, decimal}
-use Rattle.cube_model.specs.Limits.{limit_word}
+use Rattle.std.specs.Prelude.{ℕ, List, ◌++◌, codes}
+use Rattle.cube_model.specs.Limits.{limit_words}
 use Rattle.cube_dims.specs.declared.fault.DimsFault.{DimsFault}
 use Rattle.cube_dims.specs.declared.fault.DimsFault.TheVariants as fault
 
@@ -13,5 +13,5 @@ fault_words (fault.NameTwice key) = codes "name twice " ++ key
 fault_words (fault.LeafTwice key) = codes "leaf twice " ++ key
 fault_words (fault.TwoParents key) = codes "two parents " ++ key
 fault_words (fault.Uneven key) = codes "uneven " ++ key
-fault_words (fault.Limit which number) = codes "limit " ++ limit_word which ++ 32 ∷ decimal number
+fault_words (fault.Limit which number) = limit_words which number
 fault_words fault.NoMemory = codes "no memory"

@@ -1,5 +1,5 @@
 // One dimension of a dimension file.
-ghost use Rattle.std.specs.Prelude.{◌≡◌, ◌+◌, ◌<◌, ◌≤◌, ◌^◌, [], ◌∷◌, length, map, take, not, nat_lt, codes, slice_index_or, unwrap_or, IfOk};
+ghost use Rattle.std.specs.Prelude.{◌≡◌, ◌+◌, ◌<◌, ◌^◌, [], length, take, not, codes, slice_index_or, unwrap_or, IfOk};
 ghost use Rattle.std.specs.List.{list_any};
 ghost use Rattle.std.specs.Str.{bytes_eq};
 ghost use Rattle.toml.specs.View.{table_view};
@@ -7,17 +7,17 @@ ghost use Rattle.cube_model.specs.Answers.{Answers};
 ghost use Rattle.cube_model.specs.Checks.{check, in_turn, unless};
 ghost use Rattle.cube_model.specs.Names.{is_name};
 ghost use Rattle.cube_model.specs.Dims.{ancestor_names, IsDimension};
-ghost use Rattle.cube_dims.specs.Tables.{key_of, item_of};
-ghost use Rattle.cube_dims.specs.DimsFile.{under, dimension_in, dimension_of, dimension_kinds, stands_in, bad_level, level_twice, bad_names, names_twice, size_faults, path_faults, named_faults, dimension_faults};
+ghost use Rattle.cube_tables.specs.Tables.{key_of, under};
+ghost use Rattle.cube_dims.specs.DimsFile.{dimension_in, dimension_of, dimension_kinds, stands_in, bad_level, level_twice, bad_names, names_twice, size_faults, named_faults, dimension_faults};
 ghost use Rattle.cube_dims.specs.declared.fault.DimsFault.TheVariants as fault;
 
 use crate::fault::DimsFault;
 use crate::names::{is_level_name, is_name};
 use crate::paths::{check_paths, members_of};
-use crate::table::{
+use cube_model::{Dimension, Items, LimitKind, NoMemory, NumberedNames, Text, Texts};
+use cube_tables::{
     entry_text, item_text, key_text, read_lists, read_optional_text, read_text, read_texts,
 };
-use cube_model::{Dimension, Items, LimitKind, NoMemory, NumberedNames, Text, Texts};
 use std::alloc::Global;
 use std::marker::Model;
 use toml::Table;
@@ -94,10 +94,10 @@ fn first_of(alloc: Global, levels: &Texts) -> Result<Text, NoMemory>
 fn read_parts(alloc: Global, table: &Table, entry: &Text) -> Result<Parts, DimsFault>
     ensures { Answers fault.NoMemory result (unless (dimension_kinds entry.now (under (codes "name") (table_view table.now)) (under (codes "column") (table_view table.now)) (under (codes "levels") (table_view table.now)) (under (codes "paths") (table_view table.now))) (dimension_in (under (codes "name") (table_view table.now)) (under (codes "column") (table_view table.now)) (under (codes "levels") (table_view table.now)) (under (codes "paths") (table_view table.now)))) }
 {
-    let name = read_text(alloc, table, entry, "name")?;
-    let column = read_optional_text(alloc, table, entry, "column")?;
-    let levels = read_texts(alloc, table, entry, "levels")?;
-    let paths = read_lists(alloc, table, entry, "paths")?;
+    let name = read_text::<DimsFault>(alloc, table, entry, "name")?;
+    let column = read_optional_text::<DimsFault>(alloc, table, entry, "column")?;
+    let levels = read_texts::<DimsFault>(alloc, table, entry, "levels")?;
+    let paths = read_lists::<DimsFault>(alloc, table, entry, "paths")?;
     let column = column_or(alloc, column, &levels)?;
     Ok(Parts {
         name,

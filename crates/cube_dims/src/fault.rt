@@ -1,11 +1,10 @@
 // What is wrong with a dimension file.
-ghost use Rattle.std.specs.Prelude.{◌≡◌, ◌∷◌, ◌++◌, codes, decimal, IfOk, OnOk};
-ghost use Rattle.cube_model.specs.Limits.{limit_word};
+ghost use Rattle.std.specs.Prelude.{◌≡◌, ◌++◌, IfOk};
 ghost use Rattle.cube_dims.specs.Words.{fault_words};
 ghost use Rattle.cube_dims.specs.declared.fault.DimsFault.TheVariants as fault;
 
 use cube_model::{LimitKind, NoMemory, Text};
-use itoa::Buffer;
+use cube_tables::TableFault;
 use std::alloc::Global;
 
 /// The first fault of a dimension file.
@@ -44,6 +43,26 @@ impl From<NoMemory> for DimsFault {
     }
 }
 
+impl TableFault for DimsFault {
+    ghost missing = { λ key. fault.Missing key };
+
+    ghost wrong_kind = { λ key. fault.WrongKind key };
+
+    ghost no_memory = { fault.NoMemory };
+
+    fn is_missing(key: Text) -> DimsFault {
+        DimsFault::Missing { key }
+    }
+
+    fn is_wrong_kind(key: Text) -> DimsFault {
+        DimsFault::WrongKind { key }
+    }
+
+    fn out_of_memory() -> DimsFault {
+        DimsFault::NoMemory
+    }
+}
+
 /// Some words, and a key behind them.
 fn with_key(alloc: Global, words: &[u8], key: &Text) -> Result<Text, NoMemory>
     ensures { IfOk result (λ text. text ≡ words.now ++ key.now) }
@@ -51,25 +70,6 @@ fn with_key(alloc: Global, words: &[u8], key: &Text) -> Result<Text, NoMemory>
     let mut text = Text::from_bytes(alloc, words)?;
     text.extend(key.as_slice())?;
     Ok(text)
-}
-
-/// The words of a limit.
-fn limit_text(alloc: Global, which: LimitKind, number: u64) -> Result<Text, NoMemory>
-    ensures { IfOk result (λ text. text ≡ codes "limit " ++ limit_word which ++ 32 ∷ decimal number) }
-{
-    let mut text = Text::from_bytes(alloc, b"limit ")?;
-    text.extend(which.word())?;
-    text.extend(b" ")?;
-    push_number(&mut text, number)?;
-    Ok(text)
-}
-
-/// Puts the decimal digits of a number at the end of a text.
-pub(crate) fn push_number(text: &mut Text, number: u64) -> Result<(), NoMemory>
-    ensures { OnOk result (text.new ≡ text.old ++ decimal number) }
-{
-    let mut buffer = Buffer::new();
-    text.extend(buffer.format(number).as_bytes())
 }
 
 /// The words of a fault, as `leaf twice dimension 1 paths 2`.
@@ -85,7 +85,7 @@ pub fn fault_text(alloc: Global, fault: &DimsFault) -> Result<Text, NoMemory>
         DimsFault::LeafTwice { key } => with_key(alloc, b"leaf twice ", key),
         DimsFault::TwoParents { key } => with_key(alloc, b"two parents ", key),
         DimsFault::Uneven { key } => with_key(alloc, b"uneven ", key),
-        DimsFault::Limit { which, number } => limit_text(alloc, *which, *number),
+        DimsFault::Limit { which, number } => which.text(alloc, *number),
         DimsFault::NoMemory => Text::from_bytes(alloc, b"no memory"),
     }
 }

@@ -1,8 +1,8 @@
 // Look-ups by name, and ancestors.
-ghost use Rattle.std.specs.Prelude.{◌≡◌, ◌<◌, ◌≤◌, length, map, position};
+ghost use Rattle.std.specs.Prelude.{◌≡◌, ◌<◌, ◌≤◌, length, position};
 ghost use Rattle.std.specs.Str.{bytes_eq};
 ghost use Rattle.cube_model.specs.Cubes.{up};
-ghost use Rattle.cube_model.specs.Dims.{plain, members, found, dimension_at, dimension_names, measure_names, IsDims};
+ghost use Rattle.cube_model.specs.Dims.{plain, members, found, dimension_at, dimension_names, measure_names};
 
 use cube_model::{Dimension, Dims, Measure, Text};
 

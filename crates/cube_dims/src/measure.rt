@@ -6,8 +6,8 @@ ghost use Rattle.toml.specs.View.{table_view};
 ghost use Rattle.cube_model.specs.Answers.{Answers};
 ghost use Rattle.cube_model.specs.Checks.{check, unless};
 ghost use Rattle.cube_model.specs.Names.{is_measure_name};
-ghost use Rattle.cube_dims.specs.Tables.{key_of};
-ghost use Rattle.cube_dims.specs.DimsFile.{under, measure_of, measure_kinds, bad_measure_names, measure_names_twice, measure_naming, measure_faults};
+ghost use Rattle.cube_tables.specs.Tables.{key_of, under};
+ghost use Rattle.cube_dims.specs.DimsFile.{measure_of, measure_kinds, bad_measure_names, measure_names_twice, measure_naming, measure_faults};
 ghost use Rattle.cube_dims.specs.MeasureParts.{parts_in};
 ghost use Rattle.cube_dims.specs.declared.fault.DimsFault.TheVariants as fault;
 ghost use Rattle.cube_model.specs.declared.limit.LimitKind.TheVariants as limit;
@@ -15,8 +15,9 @@ ghost use Rattle.cube_model.specs.declared.limit.LimitKind.TheVariants as limit;
 use crate::dimension::{check_free, check_name, has_column};
 use crate::fault::DimsFault;
 use crate::names::is_measure_name;
-use crate::table::{entry_text, key_text, read_decimals, read_optional_text, read_text};
+use crate::table::read_decimals;
 use cube_model::{Dimension, LimitKind, Measure, NoMemory, Text};
+use cube_tables::{entry_text, key_text, read_optional_text, read_text};
 use std::alloc::Global;
 use toml::Table;
 
@@ -42,8 +43,8 @@ struct Parts {
 fn read_parts(alloc: Global, table: &Table, entry: &Text) -> Result<Parts, DimsFault>
     ensures { Answers fault.NoMemory result (unless (measure_kinds entry.now (under (codes "name") (table_view table.now)) (under (codes "column") (table_view table.now)) (under (codes "decimals") (table_view table.now))) (parts_in (table_view table.now))) }
 {
-    let name = read_text(alloc, table, entry, "name")?;
-    let column = read_optional_text(alloc, table, entry, "column")?;
+    let name = read_text::<DimsFault>(alloc, table, entry, "name")?;
+    let column = read_optional_text::<DimsFault>(alloc, table, entry, "column")?;
     let decimals = read_decimals(alloc, table, entry, "decimals")?;
     let column = column_or(alloc, column, &name)?;
     Ok(Parts {

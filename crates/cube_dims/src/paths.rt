@@ -1,5 +1,5 @@
 // The paths of a dimension: their leaves, and the parents of their members.
-ghost use Rattle.std.specs.Prelude.{◌≡◌, ◌<◌, ◌≤◌, [], length, map, take, not, slice_index_or, IfOk};
+ghost use Rattle.std.specs.Prelude.{◌≡◌, ◌<◌, ◌≤◌, [], length, take, not, slice_index_or, IfOk};
 ghost use Rattle.std.specs.List.{list_all, list_any};
 ghost use Rattle.std.specs.Str.{bytes_eq};
 ghost use Rattle.cube_model.specs.Answers.{Answers};
@@ -13,8 +13,8 @@ ghost use Rattle.cube_dims.specs.declared.fault.DimsFault.TheVariants as fault;
 use crate::dimension::Parts;
 use crate::fault::DimsFault;
 use crate::names::is_name;
-use crate::table::item_text;
 use cube_model::{Items, NoMemory, NumberedNames, Text};
+use cube_tables::item_text;
 use std::alloc::Global;
 
 /// For each named level the ancestors of the leaves.

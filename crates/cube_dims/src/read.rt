@@ -1,20 +1,21 @@
 // The dimension file as a whole.
-ghost use Rattle.std.specs.Prelude.{◌≡◌, ◌≤◌, length, map, codes, nat_lt};
+ghost use Rattle.std.specs.Prelude.{◌≤◌, length, map, nat_lt};
 ghost use Rattle.toml.specs.View.{view, table_view};
 ghost use Rattle.cube_model.specs.Answers.{Answers};
 ghost use Rattle.cube_model.specs.Checks.{check, unless};
 ghost use Rattle.cube_model.specs.Cubes.{cuboid_count};
 ghost use Rattle.cube_model.specs.Dims.{plain};
-ghost use Rattle.cube_dims.specs.Tables.{table_in};
-ghost use Rattle.cube_dims.specs.DimsFile.{under, tables_of, dimension_of, measure_of, dimensions_faults, measures_faults, dims_faults, dims_in, dims_of};
+ghost use Rattle.cube_tables.specs.Tables.{table_in, under};
+ghost use Rattle.cube_dims.specs.DimsFile.{dimension_of, measure_of, dimensions_faults, measures_faults, dims_faults, dims_in, dims_of};
 ghost use Rattle.cube_dims.specs.declared.fault.DimsFault.TheVariants as fault;
 ghost use Rattle.cube_model.specs.declared.limit.LimitKind.TheVariants as limit;
 
 use crate::dimension::read_dimension;
 use crate::fault::DimsFault;
 use crate::measure::read_measure;
-use crate::table::{check_tables, items_under, read_table};
+use crate::table::check_some_tables;
 use cube_model::{Dimension, Dims, Items, LimitKind, Measure};
+use cube_tables::{items_under, read_table};
 use std::alloc::Global;
 use toml::{Table, Value};
 
@@ -75,8 +76,8 @@ fn read_measures(
 fn read_in(alloc: Global, table: &Table) -> Result<Dims, DimsFault>
     ensures { Answers fault.NoMemory result (unless (dims_faults (table_view table.now)) (dims_in (table_view table.now))) }
 {
-    check_tables(alloc, table, "dimension", LimitKind::Dimensions, 8)?;
-    check_tables(alloc, table, "measure", LimitKind::Measures, 16)?;
+    check_some_tables(alloc, table, "dimension", LimitKind::Dimensions, 8)?;
+    check_some_tables(alloc, table, "measure", LimitKind::Measures, 16)?;
     let dimensions = read_dimensions(alloc, items_under(table, "dimension"))?;
     check_cuboids(dimensions.as_slice())?;
     let measures = read_measures(alloc, items_under(table, "measure"), dimensions.as_slice())?;

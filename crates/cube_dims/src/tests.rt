@@ -334,9 +334,9 @@ fn said_of_leaves(alloc: Global, count: u32) -> Result<Text, NoMemory> {
     let mut lines = Text::from_bytes(alloc, b"name = \"d\"\nlevels = [\"a\", \"b\"]\npaths = [")?;
     for leaf in 0..count {
         lines.extend(b"['")?;
-        crate::fault::push_number(&mut lines, u64::from(leaf))?;
+        lines.push_number(u64::from(leaf))?;
         lines.extend(b"','")?;
-        crate::fault::push_number(&mut lines, u64::from(leaf / 7))?;
+        lines.push_number(u64::from(leaf / 7))?;
         lines.extend(b"'],")?;
     }
     lines.extend(b"]")?;

@@ -4,3 +4,7 @@ pub mod Whole
 pub mod Load
 pub mod Parts
 pub mod Block
+pub mod Turns
+pub mod Adding
+pub mod Recorded
+pub mod Filled

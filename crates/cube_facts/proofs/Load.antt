@@ -12,8 +12,8 @@ use Rattle.cube_model.specs.Protection.{first}
 use Rattle.cube_text.specs.Units.{units_of}
 use Rattle.cube_facts.specs.declared.fault.FactsFault.{FactsFault}
 use Rattle.cube_facts.specs.declared.fault.FactsFault.TheVariants as fault
-use Rattle.cube_facts.specs.Records.{records_of}
-use Rattle.cube_facts.specs.Flat.{Flat, FlatRow, last_field, row_faults, flat_faults, flat_row, flat_of, ok_or_zero}
+use Rattle.cube_facts.specs.Records.{records_of, ok_or_zero}
+use Rattle.cube_facts.specs.Flat.{Flat, FlatRow, last_field, row_faults, flat_faults, flat_row, flat_of}
 use Rattle.cube_facts.specs.Table.{IsUnits, rows_in, IsTable}
 
 -- what is said where the first fault of some is known

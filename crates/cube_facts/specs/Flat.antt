@@ -1,5 +1,5 @@
 -- Flat fact files: columns of texts, and last a column of whole numbers; and the sums that lines ask for.
-use Rattle.std.specs.Prelude.{ℕ, ◌+◌, ◌-◌, Bool, true, not, ◌&&◌, ◌||◌, ◌==◌, nat_lt, nat_le, List, [], ◌∷◌, ◌++◌, length, take, map, filter, codes, unwrap_or, if◌then◌else◌, Result, Ok, Err, ℤ, pos, ◌+ℤ◌}
+use Rattle.std.specs.Prelude.{ℕ, ◌+◌, ◌-◌, Bool, true, not, ◌&&◌, ◌||◌, ◌==◌, nat_lt, nat_le, List, [], ◌∷◌, ◌++◌, length, take, map, filter, codes, unwrap_or, if◌then◌else◌, Result, Err, ℤ, pos, ◌+ℤ◌}
 use Rattle.std.specs.List.{list_any, slice_split}
 use Rattle.std.specs.Str.{bytes_eq}
 use Rattle.csv.specs.Reading.{strip_bom}
@@ -8,8 +8,7 @@ use Rattle.cube_model.specs.Names.{begins_with_mark}
 use Rattle.cube_model.specs.Checks.{check, in_turn, unless}
 use Rattle.cube_model.specs.declared.limit.LimitKind.TheVariants as limit
 use Rattle.cube_text.specs.Units.{units_of}
-use Rattle.cube_text.specs.declared.units.UnitFault.{UnitFault}
-use Rattle.cube_facts.specs.Records.{records_of}
+use Rattle.cube_facts.specs.Records.{records_of, most_facts, value_faults, ok_or_zero}
 use Rattle.cube_facts.specs.declared.fault.FactsFault.{FactsFault}
 use Rattle.cube_facts.specs.declared.fault.FactsFault.TheVariants as fault
 use Rattle.cube_facts.specs.declared.flat.FlatReply.{FlatReply}
@@ -25,23 +24,10 @@ pub record Flat : Type 0 where
   pub width : ℕ
   pub rows : List FlatRow
 
--- the most rows
-abbrev pub most_facts : ℕ
-most_facts = 1000000
-
 -- ---- what a file says
 
 abbrev pub last_field : List (List ℕ) → List ℕ
 last_field fields = unwrap_or (field_at fields (length fields - 1)) []
-
--- the fault of a number in a column
-abbrev pub value_faults : ℕ → List ℕ → Result ℤ UnitFault → List FactsFault
-value_faults row column (Ok value) = []
-value_faults row column (Err cause) = fault.BadValue row column cause ∷ []
-
-abbrev pub ok_or_zero : Result ℤ UnitFault → ℤ
-ok_or_zero (Ok value) = value
-ok_or_zero (Err cause) = pos 0
 
 -- the faults of a record behind so many: there are enough already, another number of fields than there are columns, no
 -- number in the last column

@@ -1,4 +1,7 @@
 pub mod Records
 pub mod Words
+pub mod FactFile
 pub mod Flat
 pub mod Table
+pub mod Filling
+pub mod Examples

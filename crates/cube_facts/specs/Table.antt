@@ -30,7 +30,3 @@ abbrev pub kept_sum : List Bool → List ℤ → ℤ
 kept_sum [] values = pos 0
 kept_sum (keep ∷ kept) [] = pos 0
 kept_sum (keep ∷ kept) (value ∷ values) = (if keep then value else pos 0) +ℤ kept_sum kept values
-
--- a sum of so many values, none of which is too large
-abbrev pub IsSumOf : ℕ → ℤ → Type 0
-IsSumOf n sum = (neg_ℤ (pos (1000000000000 * n)) ≤ℤ sum) × (sum ≤ℤ pos (1000000000000 * n))

@@ -1,8 +1,7 @@
 // Why a fact file is refused.
-ghost use Rattle.std.specs.Prelude.{◌≡◌, ◌++◌, OnOk, IfOk};
-ghost use Rattle.std.specs.Fmt.{decimal};
+ghost use Rattle.std.specs.Prelude.{◌≡◌, ◌++◌, codes, decimal, IfOk};
 ghost use Rattle.cube_facts.specs.declared.fault.FactsFault.TheVariants as fault;
-ghost use Rattle.cube_facts.specs.Words.{unit_words as words_of_units, at_field, facts_words};
+ghost use Rattle.cube_facts.specs.Words.{unit_words as words_of_units, at_field as field_words, fault_words};
 
 use cube_model::{LimitKind, NoMemory, Text};
 use cube_text::UnitFault;
@@ -72,58 +71,54 @@ fn unit_words(cause: UnitFault) -> &'static [u8]
     }
 }
 
-fn push_number(alloc: Global, text: &mut Text, number: u64) -> Result<(), NoMemory>
-    ensures { OnOk result (text.new ≡ text.old ++ decimal number) }
+// The words of a fault behind the field that it is in.
+fn at_field(alloc: Global, row: u64, column: &Text, words: &[u8]) -> Result<Text, NoMemory>
+    ensures { IfOk result (λ text. text ≡ field_words row column.now ++ words.now) }
 {
-    text.extend(number.to_string(alloc)?.as_bytes())
-}
-
-fn push_field(alloc: Global, text: &mut Text, row: u64, column: &Text) -> Result<(), NoMemory>
-    ensures { OnOk result (text.new ≡ text.old ++ at_field row column.now) }
-{
-    text.extend(b"row ")?;
-    push_number(alloc, text, row)?;
+    let mut text = Text::from_bytes(alloc, b"row ")?;
+    text.push_number(row)?;
     text.extend(b" column ")?;
     text.extend(column.as_slice())?;
-    text.extend(b": ")
+    text.extend(b": ")?;
+    text.extend(words)?;
+    Ok(text)
 }
 
-/// The words of a fault, as a report has them.
-pub fn fault_words(alloc: Global, fault: &FactsFault) -> Result<Text, NoMemory>
-    ensures { IfOk result (λ text. text ≡ facts_words fault.now) }
+// Words around one that the file gave.
+fn around(alloc: Global, before: &[u8], word: &Text, behind: &[u8]) -> Result<Text, NoMemory>
+    ensures { IfOk result (λ text. text ≡ before.now ++ word.now ++ behind.now) }
 {
-    let mut text = Text::new(alloc);
+    let mut text = Text::from_bytes(alloc, before)?;
+    text.extend(word.as_slice())?;
+    text.extend(behind)?;
+    Ok(text)
+}
+
+fn fields_text(alloc: Global, row: u64) -> Result<Text, NoMemory>
+    ensures { IfOk result (λ text. text ≡ codes "row " ++ decimal row ++ codes " fields") }
+{
+    let mut text = Text::from_bytes(alloc, b"row ")?;
+    text.push_number(row)?;
+    text.extend(b" fields")?;
+    Ok(text)
+}
+
+/// The words of a fault, as `row 2 column pay: too fine`.
+pub fn fault_text(alloc: Global, fault: &FactsFault) -> Result<Text, NoMemory>
+    ensures { IfOk result (λ text. text ≡ fault_words fault.now) }
+{
     match fault {
-        FactsFault::NoHeader => text.extend(b"no header")?,
-        FactsFault::MissingColumn { name } => {
-            text.extend(b"missing column ")?;
-            text.extend(name.as_slice())?;
-        }
-        FactsFault::ColumnTwice { name } => {
-            text.extend(b"column ")?;
-            text.extend(name.as_slice())?;
-            text.extend(b" twice")?;
-        }
-        FactsFault::Fields { row } => {
-            text.extend(b"row ")?;
-            push_number(alloc, &mut text, *row)?;
-            text.extend(b" fields")?;
-        }
+        FactsFault::NoHeader => Text::from_bytes(alloc, b"no header"),
+        FactsFault::MissingColumn { name } => around(alloc, b"missing column ", name, b""),
+        FactsFault::ColumnTwice { name } => around(alloc, b"column ", name, b" twice"),
+        FactsFault::Fields { row } => fields_text(alloc, *row),
         FactsFault::UnknownMember { row, column } => {
-            push_field(alloc, &mut text, *row, column)?;
-            text.extend(b"unknown member")?;
+            at_field(alloc, *row, column, b"unknown member")
         }
         FactsFault::BadValue { row, column, cause } => {
-            push_field(alloc, &mut text, *row, column)?;
-            text.extend(unit_words(*cause))?;
+            at_field(alloc, *row, column, unit_words(*cause))
         }
-        FactsFault::Limit { which, number } => {
-            text.extend(b"limit ")?;
-            text.extend(which.word())?;
-            text.extend(b" ")?;
-            push_number(alloc, &mut text, *number)?;
-        }
-        FactsFault::NoMemory => text.extend(b"no memory")?,
+        FactsFault::Limit { which, number } => which.text(alloc, *number),
+        FactsFault::NoMemory => Text::from_bytes(alloc, b"no memory"),
     }
-    Ok(text)
 }

@@ -1,22 +1,22 @@
 // Flat fact files: rows of fields and a value each, and sums over the rows that a line matches.
-ghost use Rattle.std.specs.Prelude.{◌≡◌, ◌≢◌, ◌⊎◌, ◌<◌, ◌≤◌, ◌+◌, ◌-◌, ◌*◌, ◌^◌, ◌++◌, ◌∷◌, [], ℕ, List, length, take, drop, pos, true, false, Some, None, ◌==◌, ◌&&◌, if◌then◌else◌, slice_index_or, All, position, count_by, option_map, IfOk, IfErr, IfSome, IfNone, OnOk};
-ghost use Rattle.csv.specs.Records.{fields_of, field_at};
+ghost use Rattle.std.specs.Prelude.{◌≡◌, ◌⊎◌, ◌<◌, ◌≤◌, ◌+◌, ◌-◌, ◌*◌, ◌^◌, ◌++◌, ◌∷◌, [], ℕ, length, take, pos, true, false, Some, None, ◌==◌, if◌then◌else◌, slice_index_or, All, position, count_by, IfOk, IfErr, IfSome, IfNone, OnOk};
+ghost use Rattle.csv.specs.Records.{fields_of};
 ghost use Rattle.cube_model.specs.Answers.{Answers};
+ghost use Rattle.cube_model.specs.Cores.{IsSumOf};
 ghost use Rattle.cube_model.specs.Protection.{first};
 ghost use Rattle.cube_text.specs.Units.{units_of};
 ghost use Rattle.cube_facts.specs.declared.fault.FactsFault.TheVariants as fault;
-ghost use Rattle.cube_facts.specs.Flat.{last_field, row_faults, ok_or_zero, flat_of, parts, part_matches as part_test, matches, sum_of, reply_of};
-ghost use Rattle.cube_facts.specs.Table.{IsUnits, rows_in, IsTable, row_at, Keeps, kept_sum, IsSumOf};
+ghost use Rattle.cube_facts.specs.Flat.{last_field, row_faults, flat_of, parts, part_matches as part_test, matches, sum_of, reply_of};
+ghost use Rattle.cube_facts.specs.Records.{ok_or_zero};
+ghost use Rattle.cube_facts.specs.Table.{IsUnits, rows_in, IsTable, row_at, Keeps, kept_sum};
 
 use crate::FactsFault;
-use crate::records::{has_second_mark, open_records};
+use crate::records::{MAX_FACTS, has_second_mark, open_records};
 use csv::ByteRecord;
 use cube_model::{LimitKind, NoMemory, NumberedNames, Text};
 use cube_text::read_units;
 use std::alloc::Global;
 use std::marker::Model;
-
-const MAX_FACTS: u64 = 1_000_000;
 
 /// A flat fact file: a row has a text for each dimension column, and a value.
 #[derive(Drop)]
@@ -38,10 +38,10 @@ impl Model for Flat {
 }
 
 // The last field of a record, or no bytes where it has none.
-fn last_of(record: &ByteRecord) -> &[u8]
-    ensures { result.now ≡ last_field (fields_of record.now) }
+fn last_of(row: &ByteRecord) -> &[u8]
+    ensures { result.now ≡ last_field (fields_of row.now) }
 {
-    match record.get(record.len().saturating_sub(1)) {
+    match row.get(row.len().saturating_sub(1)) {
         Some(field) => field,
         None => &[],
     }
@@ -50,18 +50,18 @@ fn last_of(record: &ByteRecord) -> &[u8]
 // The value of a record behind so many others.
 fn row_value(
     alloc: Global,
-    record: &ByteRecord,
+    row: &ByteRecord,
     columns: usize,
     last: &[u8],
     earlier: u64,
 ) -> Result<i64, FactsFault>
     requires { earlier < 2 ^ 64 - 1 }
-    ensures ok { OnOk result (row_faults columns last.now earlier (fields_of record.now) ≡ []) }
-    ensures value { IfOk result (λ value. value ≡ ok_or_zero (units_of 0 (last_field (fields_of record.now)))) }
+    ensures ok { OnOk result (row_faults columns last.now earlier (fields_of row.now) ≡ []) }
+    ensures value { IfOk result (λ value. value ≡ ok_or_zero (units_of 0 (last_field (fields_of row.now)))) }
     ensures bounded { IfOk result IsUnits }
-    ensures long { OnOk result (length (fields_of record.now) ≡ columns) }
+    ensures long { OnOk result (length (fields_of row.now) ≡ columns) }
     ensures few { OnOk result (earlier < 1000000) }
-    ensures err { IfErr result (λ e. (e ≡ fault.NoMemory) ⊎ (first (row_faults columns last.now earlier (fields_of record.now)) ≡ Some e)) }
+    ensures err { IfErr result (λ e. (e ≡ fault.NoMemory) ⊎ (first (row_faults columns last.now earlier (fields_of row.now)) ≡ Some e)) }
 {
     if earlier >= MAX_FACTS {
         return Err(FactsFault::Limit {
@@ -69,15 +69,19 @@ fn row_value(
             number: MAX_FACTS,
         });
     }
-    let row = earlier + 1;
-    if record.len() != columns {
-        return Err(FactsFault::Fields { row });
+    let number = earlier + 1;
+    if row.len() != columns {
+        return Err(FactsFault::Fields { row: number });
     }
-    match read_units(last_of(record), 0) {
+    match read_units(last_of(row), 0) {
         Ok(value) => Ok(value),
         Err(cause) => {
             let column = Text::from_bytes(alloc, last)?;
-            Err(FactsFault::BadValue { row, column, cause })
+            Err(FactsFault::BadValue {
+                row: number,
+                column,
+                cause,
+            })
         }
     }
 }
@@ -86,15 +90,15 @@ fn row_value(
 fn with_fields(
     alloc: Global,
     names: NumberedNames,
-    record: &ByteRecord,
+    row: &ByteRecord,
     width: usize,
 ) -> Result<NumberedNames, NoMemory>
-    requires { width ≤ length (fields_of record.now) }
-    ensures { IfOk result (λ all. all ≡ names ++ take width (fields_of record.now)) }
+    requires { width ≤ length (fields_of row.now) }
+    ensures { IfOk result (λ all. all ≡ names ++ take width (fields_of row.now)) }
 {
     let mut all = names;
     for column in 0..width {
-        let Some(field) = record.get(column) else {
+        let Some(field) = row.get(column) else {
             return Err(NoMemory);
         };
         all = all.with_name(alloc, field)?;

@@ -2,8 +2,14 @@
 #![tactic(auto)]
 
 mod fault;
+mod file;
 mod flat;
+mod layout;
 mod records;
+mod totals;
+mod worked;
 
-pub use fault::{FactsFault, fault_words};
+pub use fault::{FactsFault, fault_text};
+pub use file::read_facts;
 pub use flat::{Flat, FlatReply, read_flat, sum_flat};
+pub use worked::worked_facts;

@@ -8,6 +8,9 @@ ghost use Rattle.cube_model.specs.Names.{begins_with_mark};
 use csv::{Reader, ReaderBuilder};
 use std::alloc::Global;
 
+/// The most records behind a header.
+pub const MAX_FACTS: u64 = 1_000_000;
+
 const MARK: [u8; 3] = [0xEF, 0xBB, 0xBF];
 
 #[tactic(auto, unfolding(csv::specs::Reading::strip_bom))]

@@ -1,8 +1,11 @@
 -- A head that comes byte after byte.
-use Rattle.std.proofs.Common.{◌≡◌, ◌≢◌, ◌⊎◌, inl, inr, ℕ, ◌+◌, ◌<◌, Bool, true, false, List, [], ◌∷◌, ◌++◌, length, take, get_or, refl, sym, ◌∙◌, ap, arith, append_assoc, length-append, Some, None, if◌then◌else◌}
-use Rattle.std.specs.Prelude.{MatchBool, nat_eq}
+use Rattle.std.proofs.Common.{◌≡◌, ◌≢◌, ◌⊎◌, inl, inr, ℕ, ◌+◌, ◌<◌, ◌≤◌, Bool, true, false, List, [], ◌∷◌, ◌++◌, length, take, get_or, refl, sym, ◌∙◌, ap, arith, append_assoc, length-append, Some, None, if◌then◌else◌}
+use Rattle.std.specs.Prelude.{MatchBool, nat_eq, drop, ◌-◌}
+use Rattle.std.specs.List.{ends_with}
+use lib.Pointwise.{pointwise}
+use Rattle.std.proofs.lemmas.Bool.{and_right}
 use Rattle.std.proofs.lemmas.Bool.Decides.{nat_tests}
-use Rattle.std.proofs.lemmas.List.{take_more}
+use Rattle.std.proofs.lemmas.List.{take_more, drop-append-le}
 use Rattle.cube_http.specs.Head.{at_end, front, rest}
 use Rattle.cube_http.specs.Stream.{Placed, is_break, ends_head, head_len, most_head, items}
 use Rattle.cube_http.specs.Laws.{later, BreaksSayNothing}
@@ -103,3 +106,26 @@ breaks_say_nothing text more =
     let b = length (front is_break (rest is_break text ++ more)) in
     breaks (text ++ more) ∙ ap (λ (n : ℕ). later n (items (rest is_break (text ++ more)))) (front_more text more)
     ∙ ap (λ (l : List ℕ). later (a + b) (items l)) (sym (rest_more text more)) ∙ sym (later_later a b (items (rest is_break (rest is_break text ++ more)))) ∙ ap (later a) (sym (breaks (rest is_break text ++ more)))
+
+-- lists whose last items differ are not the same
+ends_apart : (xs ys : List ℕ) (x y : ℕ) → nat_eq x y ≡ false → pointwise nat_eq (xs ++ x ∷ []) (ys ++ y ∷ []) ≡ false
+ends_apart [] [] x y e = rw e refl
+ends_apart [] (z ∷ []) x y e = and_right (nat_eq x z) false refl
+ends_apart [] (z ∷ w ∷ ys) x y e = and_right (nat_eq x z) false refl
+ends_apart (z ∷ []) [] x y e = and_right (nat_eq z y) false refl
+ends_apart (z ∷ w ∷ xs) [] x y e = and_right (nat_eq z y) false refl
+ends_apart (z ∷ xs) (w ∷ ys) x y e = and_right (nat_eq z w) (pointwise nat_eq (xs ++ x ∷ []) (ys ++ y ∷ [])) (ends_apart xs ys x y e)
+
+-- nor does the longer one end with the other
+ends_without : (needle xs : List ℕ) (x y : ℕ) → nat_eq x y ≡ false → ends_with nat_eq (xs ++ y ∷ []) (needle ++ x ∷ []) ≡ false
+ends_without needle xs x y e =
+    let k = length (xs ++ y ∷ []) - length (needle ++ x ∷ []) in
+    let few : k ≤ length xs = omega (arith, length-append xs (y ∷ []), length-append needle (x ∷ [])) in
+    rw (drop-append-le k xs (y ∷ []) few) (ends_apart needle (drop k xs) x y e)
+
+-- a byte that is no LF ends no head
+pub other_ends_none : (front bytes : List ℕ) (b : ℕ) → bytes ≡ front ++ b ∷ [] → b ≢ 10 → nat_eq b 10 ≡ ends_head bytes
+other_ends_none front bytes b is other =
+    let e : nat_eq 10 b ≡ false = grind (arith, nat_tests) in
+    let f : nat_eq b 10 ≡ false = grind (arith, nat_tests) in
+    rw (f, is, ends_without (10 ∷ []) front 10 b e, ends_without (10 ∷ 13 ∷ []) front 10 b e) refl

@@ -12,11 +12,12 @@ use Rattle.cube_http.specs.Facts.{Judges}
 use Rattle.cube_http.specs.Stream.{Placed, Item, is_break, ends_head, head_len, most_head, parsed, measured, opening, items_from, heard_of, items}
 use Rattle.cube_http.specs.Stream.Item.{Continue, Whole, Bad}
 use Rattle.cube_http.specs.Stream.Opening.{Unended, Refused, Headed}
-use Rattle.cube_http.specs.Buffers.{GoesOn, Stops, IsRead}
+use Rattle.cube_http.specs.Buffers.{GoesOn, Stops, IsRead, KeepsBody}
 use Rattle.cube_http.specs.declared.connection.Conn.{Conn}
 use Rattle.cube_http.specs.declared.connection.Conn.TheVariants as state
 use Rattle.cube_http.specs.declared.connection.Heard.{Heard}
 use Rattle.cube_http.specs.declared.connection.Heard.TheVariants as heard
+use Rattle.cube_http.specs.declared.connection.Kept.{Kept}
 use Rattle.cube_http.specs.Hearing.{Adds, Hears}
 use Rattle.cube_http.specs.Laws.{later}
 use Rattle.cube_http.specs.Methods.{kind_of, is_post}
@@ -267,3 +268,16 @@ head_stops old piece new n m said conn is stops le h =
     let left : rest is_break (old ++ take m piece) ≡ new ++ more =
     ap (rest is_break) text ∙ sym (rest_more (old ++ take n piece) more) ∙ ap (λ (l : List ℕ). rest is_break (l ++ more)) (sym is) ∙ rest_on new more stops.begins (stops_some new stops) in
     heard_behind (old ++ take m piece) said conn (rw left h)
+
+-- a body that becomes whole, in what is kept
+pub whole_kept : (old new : Kept) (part : List ℕ) → KeepsBody old → (new.head ≡ old.head) × (new.facts ≡ old.facts) → new.body.items ≡ old.body.items ++ part → length new.body.items ≡ new.facts.length
+    → Adds (items (old.head.items ++ old.body.items)) ((old.head.items ++ old.body.items) ++ part) (Whole (record { head = guess new.head.items; body = new.body.items }))
+whole_kept old new part keeps same body size =
+    rw same.0 (body_whole old.head.items old.body.items part new.body.items old.facts keeps.read keeps.unfinished body (size ∙ ap (λ (f : HeadFacts). f.length) same.1))
+
+-- a body that goes on, in what is kept
+pub more_kept : (old new : Kept) (part : List ℕ) → KeepsBody old → (new.head ≡ old.head) × (new.facts ≡ old.facts) → new.body.items ≡ old.body.items ++ part → length part ≤ old.facts.length - length old.body.items
+    → length new.body.items ≢ new.facts.length
+    → (items ((old.head.items ++ old.body.items) ++ part) ≡ items (old.head.items ++ old.body.items)) × (new.head.items ++ new.body.items ≡ rest is_break ((old.head.items ++ old.body.items) ++ part))
+more_kept old new part keeps same body few unfinished =
+    rw same.0 (body_more old.head.items old.body.items part new.body.items old.facts keeps.read keeps.unfinished body few (λ e. unfinished (e ∙ ap (λ (f : HeadFacts). f.length) (sym same.1))))

@@ -1,5 +1,6 @@
 -- What a connection keeps of the request that it hears.
-use Rattle.std.specs.Prelude.{◌≡◌, ◌⊎◌, ℕ, ◌<◌, ◌≤◌, false, List, length, None, Some, if◌then◌else◌, true}
+use Rattle.std.specs.Prelude.{◌≡◌, ◌⊎◌, ℕ, ◌<◌, ◌≤◌, false, List, [], length, vec_capacity, None, Some, if◌then◌else◌, true}
+use Rattle.cube_http.specs.declared.connection.Kept.{Kept}
 use Rattle.cube_http.specs.declared.head.HeadFacts.{HeadFacts}
 use Rattle.cube_http.specs.Head.{at_end, guess}
 use Rattle.cube_http.specs.Facts.{AreFacts}
@@ -19,14 +20,31 @@ pub record Stops (head : List ℕ) : Type 0 where
   pub full : (ends_head head ≡ true) ⊎ (length head ≡ most_head)
   pub short : length head ≤ most_head
 
--- room for a head and for a body
-pub record HaveRoom (head_room body_room : ℕ) : Type 0 where
-  pub head : most_head ≤ head_room
-  pub body : 65536 ≤ body_room
-
 -- the bytes are a head that passes all checks, and its facts are these
 pub record IsRead (head : List ℕ) (facts : HeadFacts) : Type 0 where
   pub begins : at_end head ≡ false
   pub opens : opening head ≡ Headed (length head) (guess head)
   pub tells : AreFacts head (guess head) facts
   pub small : facts.length ≤ 65536
+
+-- there is room for a head and for a body
+pub record KeepsRoom (kept : Kept) : Type 0 where
+  pub head : most_head ≤ vec_capacity kept.head
+  pub body : 65536 ≤ vec_capacity kept.body
+
+-- a head that goes on, and nothing behind it
+pub record KeepsHead (kept : Kept) : Type 0 where
+  pub goes_on : GoesOn kept.head.items
+  pub empty : kept.body.items ≡ []
+  pub room : KeepsRoom kept
+
+-- a head that was read, and the front of its body
+pub record KeepsBody (kept : Kept) : Type 0 where
+  pub read : IsRead kept.head.items kept.facts
+  pub unfinished : length kept.body.items < kept.facts.length
+  pub room : KeepsRoom kept
+
+-- a head that was read, and any body
+pub record KeepsRequest (kept : Kept) : Type 0 where
+  pub read : IsRead kept.head.items kept.facts
+  pub room : KeepsRoom kept

@@ -1,9 +1,10 @@
 // The states of a connection.
-ghost use Rattle.std.specs.Prelude.{false, ◌≡◌, ℕ, ◌<◌, ◌≤◌, List, [], ◌∷◌, ◌++◌, length, ◌-◌, take, drop, MatchBool, IfSome, IfNone, IfOk, IsTrue, vec_capacity};
+ghost use Rattle.std.specs.Prelude.{false, ◌≡◌, ◌↔◌, ℕ, ◌<◌, ◌≤◌, List, [], ◌∷◌, ◌++◌, length, ◌-◌, min, take, drop, IsTrue, MatchBool, MatchResult, IfSome, IfNone, IfOk, vec_capacity};
 ghost use Rattle.cube_http.specs.Head.{at_end, rest};
 ghost use Rattle.cube_http.specs.Stream as stream;
-ghost use Rattle.cube_http.specs.Buffers.{GoesOn, Stops, HaveRoom, IsRead};
-ghost use Rattle.cube_http.specs.Hearing.{Follows, Hears, HearsOn};
+ghost use Rattle.cube_http.specs.Stream.Item.{Bad};
+ghost use Rattle.cube_http.specs.Buffers.{GoesOn, Stops, IsRead, KeepsHead, KeepsBody, KeepsRequest, KeepsRoom};
+ghost use Rattle.cube_http.specs.Hearing.{Adds, Follows, Hears, HearsOn};
 ghost use Rattle.cube_http.specs.Checks.{closes};
 ghost use Rattle.cube_http.specs.Methods.{is_head, kind_of};
 ghost use Rattle.cube_http.specs.Targets.{wanted};
@@ -12,7 +13,8 @@ ghost use Rattle.cube_http.specs.declared.connection.Heard.TheVariants as heard;
 use crate::head::{HeadFacts, MethodKind, judge};
 use crate::targets::{Wanted, read_wanted};
 use cube_model::{Fixed, NoMemory};
-use std::alloc::Global;
+use httparse::spans::Span;
+use std::alloc::{AllocError, Global};
 use std::marker::Model;
 
 /// The most bytes of a head.
@@ -21,82 +23,92 @@ pub const MAX_HEAD: usize = 16_384;
 /// The most bytes of a body.
 pub const MAX_BODY: usize = 65_536;
 
+// What is kept of a request that is heard: the bytes of its head, those of its body, and the facts of
+// a head that has ended.
+#[derive(Drop)]
+struct Kept {
+    head: Vec<u8>,
+    body: Vec<u8>,
+    facts: HeadFacts,
+}
+
+// The facts before a head has ended.
+const NO_FACTS: HeadFacts = HeadFacts {
+    method: MethodKind::Other,
+    target: Span { start: 0, end: 0 },
+    length: 0,
+    waits: false,
+    closes: false,
+};
+
 /// A connection that hears the head of a request. Contracts see the bytes of the head so far,
 /// without the line ends before it.
 #[derive(Drop)]
 pub struct HeadConn {
-    head: Vec<u8>,
-    body: Vec<u8>,
+    kept: Box<Kept>,
 }
 
 impl Model for HeadConn {
-    ghost use Rattle.std.specs.Prelude.{ℕ, List, ◌≡◌, [], vec_capacity};
-    ghost use Rattle.cube_http.specs.Buffers.{GoesOn, HaveRoom};
+    ghost use Rattle.std.specs.Prelude.{ℕ, List};
+    ghost use Rattle.cube_http.specs.Buffers.{KeepsHead};
 
     ghost Value = { List ℕ };
 
-    ghost view = { λ c. c.head.items };
+    ghost view = { λ c. c.kept.value.head.items };
 
-    ghost invariant = { λ c. GoesOn c.head.items × HaveRoom (vec_capacity c.head) (vec_capacity c.body) × (c.body.items ≡ []) };
+    ghost invariant = { λ c. KeepsHead c.kept.value };
 }
 
 /// A connection that hears the body of a request. Contracts see the bytes of the request so far,
 /// without the line ends before it.
 #[derive(Drop)]
 pub struct BodyConn {
-    head: Vec<u8>,
-    body: Vec<u8>,
-    facts: HeadFacts,
+    kept: Box<Kept>,
 }
 
 impl Model for BodyConn {
-    ghost use Rattle.std.specs.Prelude.{ℕ, ◌<◌, ◌≤◌, List, ◌++◌, length, vec_capacity};
-    ghost use Rattle.cube_http.specs.Buffers.{HaveRoom, IsRead};
+    ghost use Rattle.std.specs.Prelude.{ℕ, List, ◌++◌};
+    ghost use Rattle.cube_http.specs.Buffers.{KeepsBody};
 
     ghost Value = { List ℕ };
 
-    ghost view = { λ c. c.head.items ++ c.body.items };
+    ghost view = { λ c. c.kept.value.head.items ++ c.kept.value.body.items };
 
-    ghost invariant = { λ c. IsRead c.head.items c.facts × (length c.body.items < c.facts.length) × HaveRoom (vec_capacity c.head) (vec_capacity c.body) };
+    ghost invariant = { λ c. KeepsBody c.kept.value };
 }
 
 /// A connection that heard a whole request. Contracts see the request.
 #[derive(Drop)]
 pub struct DoneConn {
-    head: Vec<u8>,
-    body: Vec<u8>,
-    facts: HeadFacts,
+    kept: Box<Kept>,
 }
 
 impl Model for DoneConn {
-    ghost use Rattle.std.specs.Prelude.{vec_capacity};
     ghost use Rattle.cube_http.specs.Head.{guess};
     ghost use Rattle.cube_http.specs.Stream.{Request};
-    ghost use Rattle.cube_http.specs.Buffers.{HaveRoom, IsRead};
+    ghost use Rattle.cube_http.specs.Buffers.{KeepsRequest};
 
     ghost Value = { Request };
 
-    ghost view = { λ c. record { head = guess c.head.items; body = c.body.items } };
+    ghost view = { λ c. record { head = guess c.kept.value.head.items; body = c.kept.value.body.items } };
 
-    ghost invariant = { λ c. IsRead c.head.items c.facts × HaveRoom (vec_capacity c.head) (vec_capacity c.body) };
+    ghost invariant = { λ c. KeepsRequest c.kept.value };
 }
 
 /// A connection whose bytes were refused. Contracts see nothing of it.
 #[derive(Drop)]
 pub struct DeadConn {
-    head: Vec<u8>,
-    body: Vec<u8>,
+    kept: Box<Kept>,
 }
 
 impl Model for DeadConn {
-    ghost use Rattle.std.specs.Prelude.{vec_capacity};
-    ghost use Rattle.cube_http.specs.Buffers.{HaveRoom};
+    ghost use Rattle.cube_http.specs.Buffers.{KeepsRoom};
 
     ghost Value = { Unit {0} };
 
     ghost view = { λ _. tt };
 
-    ghost invariant = { λ c. HaveRoom (vec_capacity c.head) (vec_capacity c.body) };
+    ghost invariant = { λ c. KeepsRoom c.kept.value };
 }
 
 /// A connection, in one of its states.
@@ -150,6 +162,14 @@ fn ends_head(bytes: &[u8]) -> bool
     bytes.ends_with(b"\n\n") || bytes.ends_with(b"\n\r\n")
 }
 
+// The same of bytes whose last one is this: no other byte than LF ends an empty line.
+fn ends_here(bytes: &[u8], last: u8) -> bool
+    requires { (front : List ℕ) × (bytes.now ≡ front ++ last ∷ []) }
+    ensures { result ≡ stream.ends_head bytes.now }
+{
+    last == b'\n' && ends_head(bytes)
+}
+
 // Keeps one more byte of a head. Tells whether the head stops there.
 fn keep_byte(head: &mut Vec<u8>, byte: u8) -> bool
     requires room { stream.most_head ≤ vec_capacity head.old }
@@ -159,11 +179,8 @@ fn keep_byte(head: &mut Vec<u8>, byte: u8) -> bool
     ensures stops { MatchBool result (Stops head.new.items) (GoesOn head.new.items) }
     ensures room { stream.most_head ≤ vec_capacity head.new }
 {
-    match head.push(byte) {
-        Ok(()) => {}
-        Err(_) => unreachable!(),
-    }
-    ends_head(head) || head.len() == MAX_HEAD
+    head.push_reserved(byte);
+    ends_here(head, byte) || head.len() == MAX_HEAD
 }
 
 // The same, but a byte of a line end before the head is dropped.
@@ -196,6 +213,25 @@ fn push_head(head: &mut Vec<u8>, piece: &[u8]) -> Option<usize>
     None
 }
 
+// The same: a piece of one byte needs no loop.
+#[inline(always)]
+fn push_piece(head: &mut Vec<u8>, piece: &[u8]) -> Option<usize>
+    requires room { stream.most_head ≤ vec_capacity head.old }
+    requires goes_on { GoesOn head.old.items }
+    ensures stops { IfSome result (λ used. (0 < used) × (used ≤ length piece.now) × (head.new.items ≡ rest stream.is_break (head.old.items ++ take used piece.now)) × Stops head.new.items) }
+    ensures more { IfNone result ((head.new.items ≡ rest stream.is_break (head.old.items ++ piece.now)) × GoesOn head.new.items) }
+    ensures room { stream.most_head ≤ vec_capacity head.new }
+{
+    if piece.len() != 1 {
+        return push_head(head, piece);
+    }
+    if push_byte(head, piece[0]) {
+        Some(1)
+    } else {
+        None
+    }
+}
+
 // What comes behind a head.
 #[derive(Drop)]
 enum Behind {
@@ -206,66 +242,96 @@ enum Behind {
 }
 
 // What comes behind a head that passes all checks.
-fn begin_body(head: Vec<u8>, body: Vec<u8>, facts: HeadFacts) -> Behind
-    requires read { IsRead head.items facts }
-    requires room { HaveRoom (vec_capacity head) (vec_capacity body) }
-    requires empty { body.items ≡ [] }
-    ensures { Follows head.items result }
+fn begin_body(kept: Box<Kept>) -> Behind
+    requires heard { KeepsRequest kept.value }
+    requires empty { kept.value.body.items ≡ [] }
+    ensures { Follows kept.value.head.items result }
 {
+    let facts = kept.facts;
     if facts.length == 0 {
-        return Behind::Halt(Conn::Done(DoneConn { head, body, facts }), Heard::Whole);
+        return Behind::Halt(Conn::Done(DoneConn { kept }), Heard::Whole);
     }
-    let waits = facts.waits;
-    let conn = BodyConn { head, body, facts };
-    if waits {
+    let conn = BodyConn { kept };
+    if facts.waits {
         Behind::Halt(Conn::Body(conn), Heard::Continue)
     } else {
         Behind::Body(conn)
     }
 }
 
-// What comes behind a head that stops.
-fn end_head(head: Vec<u8>, body: Vec<u8>) -> Behind
-    requires stops { Stops head.items }
-    requires room { HaveRoom (vec_capacity head) (vec_capacity body) }
-    requires empty { body.items ≡ [] }
-    ensures { Follows head.items result }
+// Judges a head that stops, and keeps its facts.
+fn judge_kept(kept: &mut Kept) -> Result<(), Fixed>
+    requires stops { Stops kept.old.head.items }
+    ensures same { (kept.new.head ≡ kept.old.head) × (kept.new.body ≡ kept.old.body) }
+    ensures judged { MatchResult result (λ _. IsRead kept.new.head.items kept.new.facts) (λ fixed. Adds [] kept.old.head.items (Bad fixed)) }
 {
-    if !ends_head(&head) {
-        let dead = DeadConn { head, body };
-        return Behind::Halt(Conn::Dead(dead), Heard::Bad(Fixed::HeadTooLarge));
+    if !ends_head(&kept.head) {
+        return Err(Fixed::HeadTooLarge);
     }
-    match judge(&head) {
-        Err(fixed) => Behind::Halt(Conn::Dead(DeadConn { head, body }), Heard::Bad(fixed)),
-        Ok(facts) => begin_body(head, body, facts),
+    match judge(&kept.head) {
+        Err(fixed) => Err(fixed),
+        Ok(facts) => {
+            kept.facts = facts;
+            Ok(())
+        }
     }
 }
 
-// Hears a piece of a body.
-fn hear_body(head: Vec<u8>, mut body: Vec<u8>, facts: HeadFacts, piece: &[u8]) -> Fed
-    requires read { IsRead head.items facts }
-    requires unfinished { length body.items < facts.length }
-    requires room { HaveRoom (vec_capacity head) (vec_capacity body) }
-    requires some { 0 < length piece.now }
-    ensures used { (0 < result.used) × (result.used ≤ length piece.now) }
-    ensures more { result.heard ≡ heard.More → result.used ≡ length piece.now }
-    ensures hears { Hears (stream.items (head.items ++ body.items)) ((head.items ++ body.items) ++ take result.used piece.now) result.heard result.conn }
+// What comes behind a head that stops.
+fn end_head(mut kept: Box<Kept>) -> Behind
+    requires stops { Stops kept.value.head.items }
+    requires room { KeepsRoom kept.value }
+    requires empty { kept.value.body.items ≡ [] }
+    ensures { Follows kept.value.head.items result }
 {
-    let used = (facts.length - body.len()).min(piece.len());
-    match body.extend_from_slice(&piece[..used]) {
+    match judge_kept(&mut kept) {
+        Ok(()) => begin_body(kept),
+        Err(fixed) => Behind::Halt(Conn::Dead(DeadConn { kept }), Heard::Bad(fixed)),
+    }
+}
+
+// Keeps as many bytes of a piece as the body lacks. Tells how many.
+fn push_body(kept: &mut Kept, piece: &[u8]) -> usize
+    requires { KeepsBody kept.old }
+    ensures used { result ≡ min (kept.old.facts.length - length kept.old.body.items) (length piece.now) }
+    ensures body { kept.new.body.items ≡ kept.old.body.items ++ take result piece.now }
+    ensures same { (kept.new.head ≡ kept.old.head) × (kept.new.facts ≡ kept.old.facts) }
+    ensures room { KeepsRoom kept.new }
+{
+    let used = (kept.facts.length - kept.body.len()).min(piece.len());
+    match kept.body.extend_from_slice(&piece[..used]) {
         Ok(()) => {}
         Err(_) => unreachable!(),
     }
-    if body.len() == facts.length {
+    used
+}
+
+// Whether all bytes of the body are kept.
+fn is_whole(kept: &Kept) -> bool
+    ensures { IsTrue result ↔ (length kept.now.body.items ≡ kept.now.facts.length) }
+{
+    kept.body.len() == kept.facts.length
+}
+
+// Hears a piece of a body.
+fn hear_body(mut kept: Box<Kept>, piece: &[u8]) -> Fed
+    requires hears { KeepsBody kept.value }
+    requires some { 0 < length piece.now }
+    ensures used { (0 < result.used) × (result.used ≤ length piece.now) }
+    ensures more { result.heard ≡ heard.More → result.used ≡ length piece.now }
+    ensures hears { Hears (stream.items (kept.value.head.items ++ kept.value.body.items)) ((kept.value.head.items ++ kept.value.body.items) ++ take result.used piece.now) result.heard result.conn }
+{
+    let used = push_body(&mut kept, piece);
+    if is_whole(&kept) {
         Fed {
             used,
-            conn: Conn::Done(DoneConn { head, body, facts }),
+            conn: Conn::Done(DoneConn { kept }),
             heard: Heard::Whole,
         }
     } else {
         Fed {
             used,
-            conn: Conn::Body(BodyConn { head, body, facts }),
+            conn: Conn::Body(BodyConn { kept }),
             heard: Heard::More,
         }
     }
@@ -295,34 +361,56 @@ fn hear_behind(behind: Behind, used: usize, piece: &[u8]) -> Fed
     }
 }
 
+// Hears a piece whose first bytes, so many of them, end a head. It stands apart, so that what a
+// piece within a head runs through stays short.
+#[inline(never)]
+fn hear_end(kept: Box<Kept>, used: usize, piece: &[u8]) -> Fed
+    requires stops { Stops kept.value.head.items }
+    requires room { KeepsRoom kept.value }
+    requires empty { kept.value.body.items ≡ [] }
+    requires used { used ≤ length piece.now }
+    ensures used { (used ≤ result.used) × (result.used ≤ length piece.now) }
+    ensures more { result.heard ≡ heard.More → result.used ≡ length piece.now }
+    ensures hears { HearsOn kept.value.head.items (take (result.used - used) (drop used piece.now)) result.heard result.conn }
+{
+    hear_behind(end_head(kept), used, piece)
+}
+
 // Hears a piece of a head.
-fn hear_head(mut head: Vec<u8>, body: Vec<u8>, piece: &[u8]) -> Fed
-    requires goes_on { GoesOn head.items }
-    requires room { HaveRoom (vec_capacity head) (vec_capacity body) }
-    requires empty { body.items ≡ [] }
+#[inline(always)]
+fn hear_head(mut kept: Box<Kept>, piece: &[u8]) -> Fed
+    requires hears { KeepsHead kept.value }
     requires some { 0 < length piece.now }
     ensures used { (0 < result.used) × (result.used ≤ length piece.now) }
     ensures more { result.heard ≡ heard.More → result.used ≡ length piece.now }
-    ensures hears { Hears [] (head.items ++ take result.used piece.now) result.heard result.conn }
+    ensures hears { Hears [] (kept.value.head.items ++ take result.used piece.now) result.heard result.conn }
 {
-    match push_head(&mut head, piece) {
+    match push_piece(&mut kept.head, piece) {
         None => Fed {
             used: piece.len(),
-            conn: Conn::Head(HeadConn { head, body }),
+            conn: Conn::Head(HeadConn { kept }),
             heard: Heard::More,
         },
-        Some(used) => hear_behind(end_head(head, body), used, piece),
+        Some(used) => hear_end(kept, used, piece),
     }
 }
 
+// Drops all bytes that are kept.
+fn clear(kept: &mut Kept)
+    requires { KeepsRoom kept.old }
+    ensures { KeepsHead kept.new × (kept.new.head.items ≡ []) }
+{
+    kept.head.clear();
+    kept.body.clear();
+}
+
 // A connection that has heard nothing, with these buffers.
-fn make_fresh(mut head: Vec<u8>, mut body: Vec<u8>) -> HeadConn
-    requires { HaveRoom (vec_capacity head) (vec_capacity body) }
+fn make_fresh(mut kept: Box<Kept>) -> HeadConn
+    requires { KeepsRoom kept.value }
     ensures { result ≡ [] }
 {
-    head.clear();
-    body.clear();
-    HeadConn { head, body }
+    clear(&mut kept);
+    HeadConn { kept }
 }
 
 impl HeadConn {
@@ -331,26 +419,31 @@ impl HeadConn {
     pub fn new(alloc: Global) -> Result<HeadConn, NoMemory>
         ensures { IfOk result (λ conn. conn ≡ []) }
     {
-        let head = Vec::with_capacity(alloc, MAX_HEAD)?;
-        let body = Vec::with_capacity(alloc, MAX_BODY)?;
-        Ok(make_fresh(head, body))
+        let kept = Kept {
+            head: Vec::with_capacity(alloc, MAX_HEAD)?,
+            body: Vec::with_capacity(alloc, MAX_BODY)?,
+            facts: NO_FACTS,
+        };
+        let kept = Box::new(alloc, kept).map_err(AllocError::from)?;
+        Ok(make_fresh(kept))
     }
 
     /// Hears a piece, up to where a head or its request ends, or all of it.
+    #[inline(always)]
     pub fn feed(self, piece: &[u8]) -> Fed
         requires { 0 < length piece.now }
         ensures used { (0 < result.used) × (result.used ≤ length piece.now) }
         ensures more { result.heard ≡ heard.More → result.used ≡ length piece.now }
         ensures hears { Hears [] (self ++ take result.used piece.now) result.heard result.conn }
     {
-        hear_head(self.head, self.body, piece)
+        hear_head(self.kept, piece)
     }
 
     /// Forgets what it heard. Takes no memory.
     pub fn renew(self) -> HeadConn
         ensures { result ≡ [] }
     {
-        make_fresh(self.head, self.body)
+        make_fresh(self.kept)
     }
 }
 
@@ -362,14 +455,14 @@ impl BodyConn {
         ensures more { result.heard ≡ heard.More → result.used ≡ length piece.now }
         ensures hears { Hears (stream.items self) (self ++ take result.used piece.now) result.heard result.conn }
     {
-        hear_body(self.head, self.body, self.facts, piece)
+        hear_body(self.kept, piece)
     }
 
     /// Forgets what it heard. Takes no memory.
     pub fn renew(self) -> HeadConn
         ensures { result ≡ [] }
     {
-        make_fresh(self.head, self.body)
+        make_fresh(self.kept)
     }
 }
 
@@ -378,15 +471,17 @@ impl DoneConn {
     pub fn wanted(&self, alloc: Global) -> Result<Wanted, NoMemory>
         ensures { IfOk result (λ asked. asked ≡ wanted self.now) }
     {
-        let target = self.facts.target.of(&self.head);
-        read_wanted(alloc, self.facts.method, target, &self.body)
+        let kept: &Kept = &self.kept;
+        let target = kept.facts.target.of(&kept.head);
+        read_wanted(alloc, kept.facts.method, target, &kept.body)
     }
 
     /// Whether the reply is sent without its body: the method is HEAD.
     pub fn head_only(&self) -> bool
         ensures { result ≡ is_head (kind_of self.now.head.method) }
     {
-        match self.facts.method {
+        let kept: &Kept = &self.kept;
+        match kept.facts.method {
             MethodKind::Head => true,
             _ => false,
         }
@@ -396,14 +491,15 @@ impl DoneConn {
     pub fn closes(&self) -> bool
         ensures { result ≡ closes self.now.head }
     {
-        self.facts.closes
+        let kept: &Kept = &self.kept;
+        kept.facts.closes
     }
 
     /// A connection that has heard nothing, for what follows the request. Takes no memory.
     pub fn next(self) -> HeadConn
         ensures { result ≡ [] }
     {
-        make_fresh(self.head, self.body)
+        make_fresh(self.kept)
     }
 }
 
@@ -412,6 +508,6 @@ impl DeadConn {
     pub fn renew(self) -> HeadConn
         ensures { result ≡ [] }
     {
-        make_fresh(self.head, self.body)
+        make_fresh(self.kept)
     }
 }

@@ -1,12 +1,12 @@
 // The head of a request.
-ghost use Rattle.std.specs.Prelude.{◌≡◌, MatchOption, IfSome, length, None, false, IsTrue};
+ghost use Rattle.std.specs.Prelude.{◌≡◌, MatchOption, IfSome, length, None, false};
 ghost use Rattle.httparse.specs.Spans.{IsRequestWithin};
 ghost use Rattle.cube_http.specs.Head.{at_end, head_of, HasNoHead, SpansHead, SpansSome};
 ghost use Rattle.cube_http.specs.Facts as spec;
 ghost use Rattle.cube_http.specs.Methods as methods;
 ghost use Rattle.httparse.specs.Grammar.{RequestHead};
 ghost use Rattle.httparse.specs.Spans.{IsHeaderWithin, IsWithin};
-ghost use Rattle.std.specs.Prelude.{All, Some, ◌≤◌};
+ghost use Rattle.std.specs.Prelude.{All, Some};
 
 use crate::fields::{check, is_closing, is_waiting};
 use cube_model::Fixed;

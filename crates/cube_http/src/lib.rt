@@ -15,5 +15,5 @@ mod tests;
 pub use connection::{
     BodyConn, Conn, DeadConn, DoneConn, Fed, HeadConn, Heard, MAX_BODY, MAX_HEAD,
 };
-pub use responses::{body_of, write_head};
+pub use responses::{body_of, status_of, write_head};
 pub use targets::{Route, Wanted};

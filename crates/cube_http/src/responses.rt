@@ -1,6 +1,5 @@
 // The bytes of a response.
-ghost use Rattle.std.specs.Prelude.{◌≡◌, ◌+◌, ◌≤◌, ◌<◌, ◌++◌, ◌∷◌, [], length, take, codes, decimal, IsTrue, Some, option_map};
-ghost use Rattle.http.specs.StatusCode.{IsStatusCode, reason_phrase};
+ghost use Rattle.std.specs.Prelude.{◌≡◌, ◌+◌, ◌≤◌, ◌++◌, ◌∷◌, [], length, take, IsTrue, Some};
 ghost use Rattle.cube_http.specs.Responses as spec;
 
 use cube_model::{Fixed, Kind, Reply};
@@ -118,8 +117,8 @@ fn phrase(status: u16) -> &'static [u8]
     }
 }
 
-// The status of a reply.
-fn status_of(reply: &Reply) -> u16
+/// The status of a reply.
+pub fn status_of(reply: &Reply) -> u16
     ensures { result ≡ spec.status_of reply.now }
 {
     match reply {

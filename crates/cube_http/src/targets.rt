@@ -1,5 +1,5 @@
 // What a request asks for.
-ghost use Rattle.std.specs.Prelude.{◌≡◌, IfOk, option_map, position, codes, if◌then◌else◌, string_bytes, take, drop};
+ghost use Rattle.std.specs.Prelude.{◌≡◌, IfOk, option_map, position, codes, if◌then◌else◌, take};
 ghost use Rattle.std.specs.List.{list_all, before_first, after_first};
 ghost use Rattle.cube_http.specs.Targets as spec;
 ghost use Rattle.cube_http.specs.Methods as methods;

@@ -1,5 +1,6 @@
 pub mod Causes
 pub mod Content
+pub mod Desks
 pub mod Files
 pub mod States
 pub mod Told

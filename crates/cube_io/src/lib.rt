@@ -2,6 +2,7 @@
 //! trait that counts its faults; what an object holds is told where it can be known.
 #![tactic(auto)]
 
+mod desk;
 mod faults;
 mod folder;
 mod null;
@@ -10,6 +11,7 @@ mod source;
 mod store;
 mod wire;
 
+pub use desk::Desk;
 pub use faults::Failed;
 pub use folder::{FileFault, Folder, MAX_FILE, MemFolder};
 pub use null::{NullSink, NullStore, NullWire};

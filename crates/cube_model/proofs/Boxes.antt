@@ -276,7 +276,7 @@ before_one_way (a ∷ x) (b ∷ y) p q = ⊎_elim
     (or_cases (ltb a b) (eqb a b && before x y) p)
 
 -- increasing lists with the same members are one
-same_increasing : (xs ys : List (List ℕ)) → IsIncreasing xs → IsIncreasing ys → ((z : List ℕ) → IsIn z xs → IsIn z ys) → ((z : List ℕ) → IsIn z ys → IsIn z xs) → xs ≡ ys
+pub same_increasing : (xs ys : List (List ℕ)) → IsIncreasing xs → IsIncreasing ys → ((z : List ℕ) → IsIn z xs → IsIn z ys) → ((z : List ℕ) → IsIn z ys → IsIn z xs) → xs ≡ ys
 same_increasing [] [] a b f g = refl
 same_increasing [] (y ∷ ys) a b f g = absurd (g y (inl refl))
 same_increasing (x ∷ xs) [] a b f g = absurd (f x (inl refl))

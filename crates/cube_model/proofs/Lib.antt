@@ -30,3 +30,5 @@ pub mod DimsFacts
 pub mod Numbers
 pub mod Ranks
 pub mod Freshly
+pub mod Filled
+pub mod Behind

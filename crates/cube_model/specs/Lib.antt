@@ -1,6 +1,8 @@
 pub mod Cubes
 pub mod Names
 pub mod Dims
+pub mod Cores
+pub mod Policies
 pub mod Requests
 pub mod Protection
 pub mod Links

@@ -1,5 +1,5 @@
 -- The words for what is limited.
-use Rattle.std.specs.Prelude.{ℕ, List, codes}
+use Rattle.std.specs.Prelude.{ℕ, List, ◌++◌, codes, decimal}
 use Rattle.cube_model.specs.declared.limit.LimitKind.{LimitKind}
 use Rattle.cube_model.specs.declared.limit.LimitKind.TheVariants.{Dimensions, Measures, Levels, Leaves, Cuboids, Decimals, Objects, Facts, Points, File}
 
@@ -15,3 +15,7 @@ limit_word Objects = codes "objects"
 limit_word Facts = codes "facts"
 limit_word Points = codes "points"
 limit_word File = codes "file"
+
+-- the words of a fault that names a limit
+abbrev pub limit_words : LimitKind → ℕ → List ℕ
+limit_words which number = codes "limit " ++ limit_word which ++ codes " " ++ decimal number

@@ -1,7 +1,8 @@
 // A list with its allocator, seen by contracts as a list.
-ghost use Rattle.std.specs.Prelude.{◌≡◌, ◌==◌, ◌++◌, ◌∷◌, [], List, length, slice_get, OnOk, OnErr, IfOk, option_copied};
+ghost use Rattle.std.specs.Prelude.{◌≡◌, ◌==◌, ◌++◌, ◌∷◌, [], List, length, decimal, slice_get, OnOk, OnErr, IfOk, option_copied};
 
 use crate::NoMemory;
+use itoa::Buffer;
 use std::alloc::Global;
 use std::marker::Model;
 
@@ -113,5 +114,13 @@ impl Items<u8> {
     {
         self.items.extend_from_slice(bytes)?;
         Ok(())
+    }
+
+    /// Puts the decimal digits of a number at the end.
+    pub fn push_number(&mut self, number: u64) -> Result<(), NoMemory>
+        ensures ok { OnOk result (self.new ≡ self.old ++ decimal number) }
+        ensures err { OnErr result (self.new ≡ self.old) }
+    {
+        self.extend(Buffer::new().format(number).as_bytes())
     }
 }

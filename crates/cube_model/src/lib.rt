@@ -13,7 +13,7 @@ mod answer;
 mod ask;
 mod cell;
 mod change;
-pub mod dims;
+mod dims;
 mod entry;
 mod items;
 pub mod laws;

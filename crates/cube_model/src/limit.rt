@@ -1,6 +1,9 @@
 // What is limited.
-ghost use Rattle.std.specs.Prelude.{◌≡◌};
-ghost use Rattle.cube_model.specs.Limits.{limit_word};
+ghost use Rattle.std.specs.Prelude.{◌≡◌, IfOk};
+ghost use Rattle.cube_model.specs.Limits.{limit_word, limit_words};
+
+use crate::{NoMemory, Text};
+use std::alloc::Global;
 
 /// What a file has more of than is taken.
 #[derive(Clone, Copy, Debug, PartialEq, Eq)]
@@ -35,5 +38,15 @@ impl LimitKind {
             LimitKind::Points => b"points",
             LimitKind::File => b"file",
         }
+    }
+    /// The words of a fault that names a limit, as `limit leaves 65536`.
+    pub fn text(self, alloc: Global, number: u64) -> Result<Text, NoMemory>
+        ensures { IfOk result (λ text. text ≡ limit_words self number) }
+    {
+        let mut text = Text::from_bytes(alloc, b"limit ")?;
+        text.extend(self.word())?;
+        text.extend(b" ")?;
+        text.push_number(number)?;
+        Ok(text)
     }
 }

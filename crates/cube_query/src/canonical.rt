@@ -1,8 +1,8 @@
 // The canonical text of a request.
-ghost use Rattle.std.specs.Prelude.{◌≡◌, ◌<◌, ◌≤◌, ◌++◌, ◌∷◌, length, true, map, IfOk, OnOk, Ok, codes, if◌then◌else◌};
+ghost use Rattle.std.specs.Prelude.{◌≡◌, ◌<◌, ◌≤◌, ◌++◌, length, true, IfOk, OnOk, Ok};
 ghost use Rattle.std.specs.List.{list_all};
 ghost use Rattle.cube_model.specs.Dims.{plain, plains, members};
-ghost use Rattle.cube_model.specs.Requests.{fits, is_grouped, is_one as one_test};
+ghost use Rattle.cube_model.specs.Requests.{is_grouped, is_one as one_test};
 ghost use Rattle.cube_query.specs.Faults.{request_of};
 ghost use Rattle.cube_query.specs.Canonical.{is_request, is_there, what_text, level_text, member_text, pick_text, behind, by_texts, pick_texts, PicksFit, request_text};
 
@@ -26,8 +26,8 @@ fn all_one(picks: &[Option<Pick>]) -> bool
     picks.iter().all(|pick| is_one(pick))
 }
 
-// Some grouping level is a named one.
-fn groups(dims: &Dims, levels: &[u32]) -> bool
+/// Whether some level is a named one.
+pub fn groups(dims: &Dims, levels: &[u32]) -> bool
     requires { length levels.now ≡ length dims.now.dimensions }
     ensures { result ≡ is_grouped (plains dims.now) levels.now }
 {
@@ -49,7 +49,8 @@ fn push_what(text: &mut Text, dims: &Dims, what: What) -> Result<(), NoMemory>
     }
 }
 
-fn push_level(text: &mut Text, dimension: &Dimension, level: u32) -> Result<(), NoMemory>
+/// Writes a named level, as `region.area`.
+pub fn push_level(text: &mut Text, dimension: &Dimension, level: u32) -> Result<(), NoMemory>
     requires { level < length dimension.now.levels }
     ensures { OnOk result (text.new ≡ text.old ++ level_text dimension.now level) }
 {
@@ -58,7 +59,8 @@ fn push_level(text: &mut Text, dimension: &Dimension, level: u32) -> Result<(), 
     push_name(text, dimension.levels()[level as usize].as_slice())
 }
 
-fn push_member(
+/// Writes a member of a named level.
+pub fn push_member(
     text: &mut Text,
     dimension: &Dimension,
     level: u32,
@@ -95,8 +97,13 @@ fn push_pick(
     Ok(())
 }
 
-// Writes the levels that are not `all` behind a word.
-fn push_levels(text: &mut Text, dims: &Dims, levels: &[u32], word: &[u8]) -> Result<(), NoMemory>
+/// Writes the levels that are not `all` behind a word, with a comma and a blank between.
+pub fn push_levels(
+    text: &mut Text,
+    dims: &Dims,
+    levels: &[u32],
+    word: &[u8],
+) -> Result<(), NoMemory>
     requires { length levels.now ≡ length dims.now.dimensions }
     ensures { OnOk result (text.new ≡ text.old ++ behind word.now (by_texts dims.now.dimensions levels.now)) }
 {

@@ -1,5 +1,5 @@
 // A place in a query text, and the steps that read from it.
-ghost use Rattle.std.specs.Prelude.{◌≡◌, ◌≤◌, ◌-◌, length, drop, nat_lt, IfOk, OnOk};
+ghost use Rattle.std.specs.Prelude.{◌≡◌, ◌≤◌, ◌-◌, length};
 ghost use Rattle.std.specs.List.{prefix_len};
 ghost use Rattle.cube_text.specs.Quoting.{is_bare as bare_test};
 ghost use Rattle.cube_query.specs.Grammar.{is_blank as blank_test};

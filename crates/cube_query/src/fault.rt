@@ -1,5 +1,5 @@
 // The request that a text names, and the reply where it names none.
-ghost use Rattle.std.specs.Prelude.{◌≡◌, true, IfOk, codes};
+ghost use Rattle.std.specs.Prelude.{◌≡◌, true, IfOk};
 ghost use Rattle.cube_query.specs.Canonical.{is_request};
 ghost use Rattle.cube_model.specs.Answers.{Answers};
 ghost use Rattle.cube_query.specs.Faults.{of_query, of_resolve, request_of, fault_status, fault_body, at_byte};
@@ -83,7 +83,7 @@ fn at_byte(alloc: Global, what: &[u8], at: u64) -> Result<Text, NoMemory>
 {
     let mut text = Text::from_bytes(alloc, what)?;
     text.extend(b" at byte ")?;
-    text.extend(at.to_string(alloc)?.as_bytes())?;
+    text.push_number(at)?;
     text.push(b'\n')?;
     Ok(text)
 }

@@ -1,8 +1,8 @@
 // From a text to what it says: one pass over the bytes, with no step back.
-ghost use Rattle.std.specs.Prelude.{◌≡◌, ◌-◌, length, suc, zero, []};
+ghost use Rattle.std.specs.Prelude.{◌≡◌, ◌-◌, []};
 ghost use Rattle.cube_model.specs.Answers.{Answers};
 ghost use Rattle.cube_query.specs.Grammar.{query_of};
-ghost use Rattle.cube_query.specs.Reading.{Takes, byte_in, level_in, last_in, pick_in, levels_in, picks_in, measure_in, cell_picks_in, cell_in, where_in, slice_in, range_in, form_in, read_in, behind_blanks, has_blank};
+ghost use Rattle.cube_query.specs.Reading.{Takes, level_in, last_in, pick_in, levels_in, picks_in, measure_in, cell_picks_in, cell_in, where_in, slice_in, range_in, form_in, read_in};
 ghost use Rattle.cube_query.specs.declared.query.QueryFault.TheVariants as fault;
 
 use crate::cursor::{Cursor, Next};

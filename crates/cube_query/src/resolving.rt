@@ -1,8 +1,8 @@
 // From a query to the request that it names.
-ghost use Rattle.std.specs.Prelude.{unwrap_or, ◌≡◌, ◌<◌, ◌≤◌, ◌+◌, ◌⊎◌, Option, length, map, Some, None, Ok, Err, is_some, slice_index_or, slice_set, replicate, false, MatchResult, OnOk, IfOk, if◌then◌else◌};
+ghost use Rattle.std.specs.Prelude.{unwrap_or, ◌≡◌, ◌<◌, ◌⊎◌, Option, length, map, Some, None, Ok, Err, is_some, replicate, false, MatchResult, IfOk, if◌then◌else◌};
 ghost use Rattle.cube_model.specs.Answers.{Answers};
 ghost use Rattle.cube_model.specs.Checks.{unless};
-ghost use Rattle.cube_model.specs.Dims.{dimension_at, dimension_names, measure_names, members};
+ghost use Rattle.cube_model.specs.Dims.{dimension_at, dimension_names, members};
 ghost use Rattle.cube_query.specs.Requests.{number, is_unknown, named, what_faults, what_of, by_faults, picks_faults, said_of, pick_faults, level_in_dimension, pick_in_dimension, resolved};
 ghost use Rattle.cube_query.specs.Placing.{level_placed, pick_placed, all_placed, or_all};
 ghost use Rattle.cube_query.specs.declared.resolving.ResolveFault.TheVariants as fault;

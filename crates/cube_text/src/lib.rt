@@ -8,4 +8,4 @@ pub use names::{
     is_bare, is_bare_name, names_read_back, print_name, push_field, push_name, push_quoted,
     quote_field, quote_name, read_quoted, unquote_name,
 };
-pub use units::{UnitFault, read_units, units_read_back, write_units};
+pub use units::{UnitFault, read_digits, read_units, units_read_back, write_units};

@@ -1,5 +1,5 @@
 // Names as they are written: bare or in quotes, and as fields of CSV.
-ghost use Rattle.std.specs.Prelude.{◌≡◌, ◌≤◌, length, ◌++◌, ◌∷◌, [], IfOk, OnOk, false, option_map};
+ghost use Rattle.std.specs.Prelude.{◌≡◌, ◌≤◌, length, ◌++◌, ◌∷◌, [], IfOk, OnOk, false};
 ghost use Rattle.std.specs.List.{list_all, list_any, flat_map};
 ghost use Rattle.cube_model.specs.Names.{is_control as control_test};
 ghost use Rattle.cube_text.specs.Quoting.{is_bare as bare_test, is_marked as marked_test, is_bare_name as bare_name_test, spelled, quoted, printed, is_quoted, inside, unquoted, closing, whole_name as whole_test, needs_quotes as quotes_test, doubled, field, NameTexts, NamesRead};

@@ -1,10 +1,10 @@
 // Whole numbers of units: a sign, digits, and a point with digits behind it.
-ghost use Rattle.std.specs.Prelude.{◌≡◌, ◌≤◌, ◌<◌, ◌+◌, ◌*◌, ◌-◌, ◌^◌, nat_lt, length, min, take, drop, position, pos, ◌≤ℤ◌, ◌-ℤ◌, IfOk, OnOk, IsTrue, ◌++◌};
+ghost use Rattle.std.specs.Prelude.{◌≡◌, ◌≤◌, ◌<◌, ◌+◌, ◌*◌, ◌-◌, ◌^◌, length, min, position, pos, IfOk, OnOk, IsTrue, ◌++◌, if◌then◌else◌, Some, None};
 ghost use Rattle.std.specs.List.{list_all};
 ghost use Rattle.std.specs.Char.{is_ascii_digit};
 ghost use Rattle.std.specs.Str.Parse.{digits_value};
 ghost use Rattle.cube_text.specs.UnitLaws.{UnitsRead};
-ghost use Rattle.cube_text.specs.Units.{is_minus, unsigned, is_zero, is_point, is_digits as digits_test, is_number as number_test, whole_part, fraction_part, max_units, size_of_parts, units_of, last_digits, units_text};
+ghost use Rattle.cube_text.specs.Units.{is_minus, unsigned, is_zero, is_point, is_digits as digits_test, whole_part, fraction_part, max_units, size_of_parts, units_of, last_digits, units_text};
 
 use cube_model::{NoMemory, Text};
 use std::alloc::Global;
@@ -82,6 +82,17 @@ fn capped_value(digits: &[u8]) -> u64
         value = (value * 10 + u64::from(*digit - b'0')).min(OVER);
     }
     value
+}
+
+/// The number that decimal digits write, and no sign: 10^12 + 1 stands for every number above 10^12.
+pub fn read_digits(text: &[u8]) -> Option<u64>
+    ensures { result ≡ (if digits_test text.now then Some (min OVER (digits_value 10 text.now)) else None) }
+{
+    if is_digits(text) {
+        Some(capped_value(text))
+    } else {
+        None
+    }
 }
 
 // The number that at most six digits write.

@@ -1,6 +1,7 @@
 // The laws of the definitions, each the contract of a function with an empty body: that it is
 // proved is all that it does.
 pub mod compaction;
+pub mod cores;
 pub mod even_boxes;
 pub mod finest;
 pub mod firsts;

@@ -1,7 +1,7 @@
 // The worked examples: each clause holds by evaluating the definitions on a small cube.
 #![tactic(auto, unfolding(crate::specs::Cubes::up, crate::specs::Cubes::key_at, crate::specs::Requests::is_picked, crate::specs::Requests::grain, crate::specs::Protection::protected, crate::specs::Protection::cutting_pairs, crate::specs::Links::links, crate::specs::Links::suiting, crate::specs::Verdicts::source, crate::specs::Verdicts::links_of, crate::specs::Verdicts::verdict, crate::specs::Requests::is_valid, crate::specs::Entries::is_allowed, crate::specs::Verdicts::taken, crate::specs::Twins::changes))]
 
-ghost use Rattle.std.specs.Prelude.{◌≡◌, ◌++◌, true, false, [], ◌∷◌, map, pos, negsuc, None, Some};
+ghost use Rattle.std.specs.Prelude.{◌≡◌, ◌++◌, true, false, [], ◌∷◌, pos, negsuc, None, Some};
 ghost use Rattle.cube_model.specs.declared.request.What.TheVariants.{Count, Measure};
 ghost use Rattle.cube_model.specs.declared.verdict.Verdict.TheVariants.{Full, SourceWould, Pair as PairFixes, Single as SingleFixes};
 ghost use Rattle.cube_model.specs.declared.link.Link.TheVariants.{Pair, Single};

@@ -3,7 +3,7 @@ use Rattle.std.proofs.lemmas.List.{get_or_read}
 use Rattle.cube_model.specs.Names.{is_level_name}
 use Rattle.cube_dims.specs.DimsFile.{bad_level}
 use Rattle.cube_dims.specs.declared.fault.DimsFault.TheVariants.{NoMemory, BadName}
-use Rattle.cube_dims.proofs.Turns.{turn_fault, turn_next, check_fault, check_none, item_number}
+use Rattle.cube_tables.proofs.Turns.{turn_fault, turn_next, check_fault, check_none, item_number}
 use Rattle.cube_dims.proofs.dimension.check_level_names.Goals as goal
 
 tested : (levels : List (List ℕ)) (i : ℕ) (level read : List ℕ) (b : Bool) → i < length levels → level ≡ get_or levels i level → read ≡ level → b ≡ is_level_name read → not (is_level_name (get_or levels i [])) ≡ not b

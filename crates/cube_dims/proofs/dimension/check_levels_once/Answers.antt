@@ -2,7 +2,7 @@ use Rattle.std.proofs.Common.{◌≡◌, ◌≤◌, ◌<◌, ℕ, List, [], Bool
 use Rattle.std.proofs.lemmas.List.{get_or_read}
 use Rattle.cube_dims.specs.DimsFile.{level_twice, stands_in}
 use Rattle.cube_dims.specs.declared.fault.DimsFault.TheVariants.{NoMemory, NameTwice}
-use Rattle.cube_dims.proofs.Turns.{turn_fault, turn_next, check_fault, check_none, item_number}
+use Rattle.cube_tables.proofs.Turns.{turn_fault, turn_next, check_fault, check_none, item_number}
 use Rattle.cube_dims.proofs.dimension.check_levels_once.Goals as goal
 
 tested : (levels : List (List ℕ)) (i : ℕ) (level read : List ℕ) (b : Bool) → i < length levels → level ≡ get_or levels i level → read ≡ level → b ≡ stands_in read (take i levels) → stands_in (get_or levels i []) (take i levels) ≡ b

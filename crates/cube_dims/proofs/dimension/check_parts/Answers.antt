@@ -1,6 +1,6 @@
 use Rattle.std.proofs.Common.{sym}
 use Rattle.cube_dims.specs.DimsFile.{named_faults}
-use Rattle.cube_dims.proofs.Turns.{first, next, both_nothing, nothing, refused, handed_on, accepted}
+use Rattle.cube_tables.proofs.Turns.{first, next, both_nothing, nothing, refused, handed_on, accepted}
 use Rattle.cube_dims.proofs.dimension.check_parts.Goals as goal
 
 pub returns-in_err-check_names : goal.returns-in_err-check_names

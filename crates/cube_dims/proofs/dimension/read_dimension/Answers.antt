@@ -1,5 +1,5 @@
 use Rattle.toml.specs.View.{table_view}
-use Rattle.cube_dims.proofs.Turns.{handed_on}
+use Rattle.cube_tables.proofs.Turns.{handed_on}
 use Rattle.cube_dims.proofs.Dimensions.{parts_refused, are_parts, members_refused, keeps_rules, dimension_said}
 use Rattle.cube_dims.proofs.dimension.read_dimension.Goals as goal
 

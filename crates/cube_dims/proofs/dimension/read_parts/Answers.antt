@@ -1,4 +1,4 @@
-use Rattle.cube_dims.proofs.Turns.{refused, next, both_nothing, nothing, handed_on}
+use Rattle.cube_tables.proofs.Turns.{refused, next, both_nothing, nothing, handed_on}
 use Rattle.cube_dims.proofs.dimension.read_parts.Goals as goal
 
 pub returns-in_err-paths : goal.returns-in_err-paths

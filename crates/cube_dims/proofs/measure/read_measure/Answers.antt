@@ -1,5 +1,5 @@
 use Rattle.toml.specs.View.{table_view}
-use Rattle.cube_dims.proofs.Turns.{handed_on}
+use Rattle.cube_tables.proofs.Turns.{handed_on}
 use Rattle.cube_dims.proofs.Measures.{parts_refused, are_parts, naming_refused, decimals_refused, measure_said}
 use Rattle.cube_dims.proofs.measure.read_measure.Goals as goal
 

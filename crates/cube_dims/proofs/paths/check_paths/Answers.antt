@@ -1,6 +1,6 @@
 use Rattle.std.proofs.Common.{◌<◌, [], length, ap, arith}
 use Rattle.cube_dims.specs.DimsFile.{path_faults}
-use Rattle.cube_dims.proofs.Turns.{turn_fault, turn_next, nothing, refused, handed_on}
+use Rattle.cube_tables.proofs.Turns.{turn_fault, turn_next, nothing, refused, handed_on}
 use Rattle.cube_dims.proofs.paths.check_paths.Goals as goal
 
 pub returns-in_err-check_path : goal.returns-in_err-check_path

@@ -6,7 +6,7 @@ use Rattle.cube_model.specs.Cubes.{Dimension, cuboid_count}
 use Rattle.cube_model.specs.Dims.{NamedDimension, plain, no_dimension}
 use Rattle.cube_dims.specs.declared.fault.DimsFault.TheVariants.{NoMemory, Limit}
 use Rattle.cube_model.specs.declared.limit.LimitKind.TheVariants.{Cuboids}
-use Rattle.cube_dims.proofs.Turns.{check_fault, check_none, accepted}
+use Rattle.cube_tables.proofs.Turns.{check_fault, check_none, accepted}
 use Rattle.cube_dims.proofs.read.check_cuboids.Goals as goal
 
 some_cuboids : (ds : List Dimension) → 1 ≤ cuboid_count ds

@@ -2,11 +2,11 @@ use Rattle.std.proofs.Common.{◌≡◌, ◌<◌, [], ◌∷◌, ◌++◌, lengt
 use Rattle.std.proofs.lemmas.List.{map_more}
 use Rattle.toml.specs.Data.{no_members}
 use Rattle.toml.specs.View.{view, table_view}
-use Rattle.cube_dims.specs.Tables.{table_in}
+use Rattle.cube_tables.specs.Tables.{table_in}
 use Rattle.cube_dims.specs.DimsFile.{measure_of, measure_faults}
 use Rattle.cube_dims.specs.declared.fault.DimsFault.TheVariants.{NoMemory}
-use Rattle.cube_dims.proofs.Turns.{Refused, turn_fault, turn_next, nothing, value, refused, handed_on}
-use Rattle.cube_dims.proofs.Tabled.{table_read, length-tables}
+use Rattle.cube_tables.proofs.Turns.{Refused, turn_fault, turn_next, nothing, value, refused, handed_on}
+use Rattle.cube_tables.proofs.Tabled.{table_read, length-tables}
 use Rattle.cube_dims.proofs.read.read_measures.Goals as goal
 
 pub returns-in_err-measure : goal.returns-in_err-measure

@@ -1,7 +1,7 @@
 use Rattle.std.proofs.Common.{◌≡◌, [], map, take}
 use Rattle.toml.specs.View.{view}
 use Rattle.cube_model.specs.Checks.{in_turn}
-use Rattle.cube_dims.specs.Tables.{table_in}
+use Rattle.cube_tables.specs.Tables.{table_in}
 use Rattle.cube_dims.specs.DimsFile.{measure_of, measure_faults}
 use Rattle.cube_dims.proofs.read.read_measures.Given as goal
 

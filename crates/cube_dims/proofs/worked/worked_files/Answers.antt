@@ -2,7 +2,7 @@ use Rattle.std.proofs.Common.{refl}
 use Rattle.std.specs.Fmt.{digits}
 use Rattle.std.specs.Str.{is_utf8, chars}
 use Rattle.cube_model.specs.Names.{is_name, is_level_name, is_measure_name}
-use Rattle.cube_dims.specs.Tables.{toml_of}
+use Rattle.cube_tables.specs.Tables.{toml_of}
 use Rattle.cube_dims.specs.DimsFile.{dims_of, dimension_of, measure_of, named_faults, dimension_faults, measure_faults}
 use Rattle.toml.specs.Parse.{after_element, key_equals, items as toml_items, members as toml_members, atom, val, header_key, expression, line, lines, skip_bom, parse_document}
 use Rattle.toml.specs.Tables.{along_header, along_dots, at_key, define}

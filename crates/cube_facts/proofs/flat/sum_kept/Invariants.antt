@@ -1,5 +1,6 @@
 use Rattle.std.proofs.Common.{◌≡◌, take}
-use Rattle.cube_facts.specs.Table.{kept_sum, IsSumOf}
+use Rattle.cube_model.specs.Cores.{IsSumOf}
+use Rattle.cube_facts.specs.Table.{kept_sum}
 use Rattle.cube_facts.proofs.flat.sum_kept.Given as goal
 
 abbrev pub invariant-loop-row : goal.invariant-loop-row

@@ -1,6 +1,7 @@
 use Rattle.std.proofs.Common.{◌≡◌, ◌≤◌, ◌-◌, length, take}
 use Rattle.cube_facts.specs.Flat.{parts, sum_of}
-use Rattle.cube_facts.specs.Table.{rows_in, IsSumOf}
+use Rattle.cube_model.specs.Cores.{IsSumOf}
+use Rattle.cube_facts.specs.Table.{rows_in}
 use Rattle.cube_facts.proofs.flat.sum_rows.Given as goal
 
 abbrev pub invariant-blocks-2 : goal.invariant-blocks-2

@@ -1,0 +1,6 @@
+pub mod Points
+pub mod Fitting
+pub mod Keys
+pub mod Grouped
+pub mod Totals
+pub mod Worked

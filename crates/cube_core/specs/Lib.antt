@@ -1,0 +1,4 @@
+pub mod Full
+pub mod Keys
+pub mod Rows
+pub mod Worked

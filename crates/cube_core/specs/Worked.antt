@@ -1,0 +1,47 @@
+-- The pay cube and the full two-row cube of the tests.
+use Rattle.std.specs.Prelude.{ℕ, List, [], ◌∷◌, codes, pos}
+use Rattle.cube_model.specs.Cores.{Core}
+use Rattle.cube_model.specs.Dims.{NamedDimension, NamedMeasure}
+
+abbrev pub path : List ℕ → List ℕ → List (List ℕ)
+path below above = below ∷ above ∷ []
+
+-- the cities Lyon and Nice in the area South, Paris in the North
+abbrev pub region : NamedDimension
+region = record {
+  name = codes "region";
+  column = codes "city";
+  levels = path (codes "city") (codes "area");
+  paths = path (codes "Lyon") (codes "South") ∷ path (codes "Nice") (codes "South") ∷ path (codes "Paris") (codes "North") ∷ [];
+}
+
+-- two months of one quarter
+abbrev pub time : NamedDimension
+time = record {
+  name = codes "time";
+  column = codes "month";
+  levels = path (codes "month") (codes "quarter");
+  paths = path (codes "Jan") (codes "Q1") ∷ path (codes "Feb") (codes "Q1") ∷ [];
+}
+
+abbrev pub measure : List ℕ → NamedMeasure
+measure name = record { name = name; column = name; decimals = 0 }
+
+abbrev pub two : ℕ → ℕ → List ℕ
+two a b = a ∷ b ∷ []
+
+-- pay and hours; nobody works in Nice in February, and two people in Paris in February
+abbrev pub pay_core : Core
+pay_core = record {
+  dims = record { dimensions = region ∷ time ∷ []; measures = measure (codes "pay") ∷ measure (codes "hours") ∷ [] };
+  shape = record { points = two 0 0 ∷ two 0 1 ∷ two 1 0 ∷ two 2 0 ∷ two 2 1 ∷ []; facts = 1 ∷ 1 ∷ 1 ∷ 1 ∷ 2 ∷ [] };
+  cube = (pos 10 ∷ pos 20 ∷ pos 30 ∷ pos 40 ∷ pos 50 ∷ []) ∷ (pos 1 ∷ pos 2 ∷ pos 3 ∷ pos 4 ∷ pos 5 ∷ []) ∷ [];
+}
+
+-- the same dimensions with a fact at each city in each month
+abbrev pub full_core : Core
+full_core = record {
+  dims = pay_core.dims;
+  shape = record { points = two 0 0 ∷ two 0 1 ∷ two 1 0 ∷ two 1 1 ∷ two 2 0 ∷ two 2 1 ∷ []; facts = 1 ∷ 1 ∷ 1 ∷ 1 ∷ 1 ∷ 1 ∷ [] };
+  cube = (pos 1 ∷ pos 2 ∷ pos 3 ∷ pos 4 ∷ pos 5 ∷ pos 6 ∷ []) ∷ (pos 0 ∷ pos 0 ∷ pos 0 ∷ pos 0 ∷ pos 0 ∷ pos 0 ∷ []) ∷ [];
+}

@@ -1,0 +1,13 @@
+//! A core: where a cube has facts, how many, and its values; with the rows of requests and plain
+//! sums over them.
+#![tactic(auto)]
+
+mod core_cube;
+mod rows;
+mod steps;
+mod sums;
+#[cfg(test)]
+mod tests;
+
+pub use core_cube::Core;
+pub use steps::Steps;

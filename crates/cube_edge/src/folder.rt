@@ -1,0 +1,83 @@
+// The files of the machine.
+ghost use Rattle.std.specs.Prelude.{◌≡◌, ◌<◌, ◌≤◌, None, length, IfOk, IfSome, Err};
+ghost use Rattle.std.specs.Io.KnownBytes.{Consumes, IsAtEnd};
+ghost use Rattle.cube_io.specs.Files.{max_file};
+ghost use Rattle.cube_io.specs.declared.folder.FileFault.TheVariants as faults;
+
+use cube_io::{FileFault, Folder, MAX_FILE};
+use cube_model::Text;
+use std::alloc::Global;
+use std::io::Read;
+use std::rt::Files;
+use std::{fs, str};
+
+/// The files of the machine.
+#[derive(Drop)]
+pub struct FileFolder<'a, R: Files> {
+    rt: &'a R,
+    faults: u64,
+}
+
+impl<'a, R: Files> FileFolder<'a, R> {
+    pub fn new(rt: &'a R) -> Self {
+        FileFolder { rt, faults: 0 }
+    }
+}
+
+// So many bytes of a file are read at once.
+const PIECE: usize = 65_536;
+
+// All bytes that a file still gives, where they are no more than a file may have.
+fn read_rest<R: Read>(file: &mut R, alloc: Global) -> Result<Text, FileFault>
+    ensures short { IfOk result (λ text. length text ≤ max_file) }
+    ensures bytes { IfOk result (λ text. Consumes (R.remaining file.old) (R.remaining file.new) text × IsAtEnd (R.remaining file.new)) }
+    ensures long { result ≡ Err faults.TooLong → IfSome (R.remaining file.old) (λ bytes. max_file < length bytes) }
+{
+    let mut text = Text::new(alloc);
+    let mut buf = [0u8; PIECE];
+    'pieces: for _ in 0..u64::MAX {
+        let count = match file.read(&mut buf) {
+            Ok(count) => count,
+            Err(_) => return Err(FileFault::Failed),
+        };
+        if count == 0 {
+            return Ok(text);
+        }
+        if text.len() > MAX_FILE - count {
+            return Err(FileFault::TooLong);
+        }
+        text.extend(&buf[..count])?;
+    }
+    Err(FileFault::Failed)
+}
+
+fn read_whole<R: Files>(rt: &R, alloc: Global, name: &str) -> Result<Text, FileFault>
+    ensures short { IfOk result (λ text. length text ≤ max_file) }
+{
+    match fs::open(rt, name) {
+        Ok(mut file) => read_rest(&mut file, alloc),
+        Err(_) => Err(FileFault::Failed),
+    }
+}
+
+impl<R: Files> Folder for FileFolder<'_, R> {
+    ghost files = { λ _. None };
+
+    ghost asked = { λ _. None };
+
+    ghost faults = { λ s. s.faults };
+
+    fn read_file(&mut self, alloc: Global, name: &Text) -> Result<Text, FileFault> {
+        let read = match str::from_utf8(name.as_slice()) {
+            Ok(path) => read_whole(self.rt, alloc, path),
+            Err(_) => Err(FileFault::Failed),
+        };
+        match read {
+            Err(FileFault::Failed) => {
+                self.faults = self.faults.saturating_add(1);
+                Err(FileFault::Failed)
+            }
+            other => other,
+        }
+    }
+}

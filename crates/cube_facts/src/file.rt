@@ -1,0 +1,75 @@
+// Fact files: facts in the columns that dimensions and measures name, added up at their points.
+ghost use Rattle.std.specs.Prelude.{◌≡◌, ◌⊎◌, List, Ok, Err, IfOk, IfErr};
+ghost use Rattle.cube_model.specs.Answers.{Answers};
+ghost use Rattle.cube_model.specs.Cores.{IsCore};
+ghost use Rattle.cube_facts.specs.FactFile.{Fact, facts_of, filled_of};
+ghost use Rattle.cube_facts.specs.Filling.{IsFilled};
+ghost use Rattle.cube_facts.specs.declared.fault.FactsFault.TheVariants as fault;
+
+use crate::FactsFault;
+use crate::layout::Layout;
+use crate::records::{has_second_mark, open_records};
+use crate::totals::{Points, add_fact, cube_of, shape_of};
+use csv::ByteRecord;
+use cube_model::{Cube, Dims, LimitKind, Shape};
+use std::alloc::Global;
+
+// The most points.
+const MAX_POINTS: usize = 65_536;
+
+// The points of a file, with what their facts add up to.
+fn read_points(alloc: Global, dims: &Dims, bytes: &[u8]) -> Result<Points, FactsFault>
+    ensures ok { IfOk result (λ points. (facts : List Fact) × (facts_of dims.now bytes.now ≡ Ok facts) × IsFilled dims.now facts points) }
+    ensures err { IfErr result (λ e. (e ≡ fault.NoMemory) ⊎ (facts_of dims.now bytes.now ≡ Err e)) }
+{
+    if has_second_mark(bytes) {
+        return Err(FactsFault::NoHeader);
+    }
+    let mut reader = open_records(alloc, bytes);
+    let mut row = ByteRecord::new(alloc);
+    match reader.read_byte_record(&mut row) {
+        Ok(true) => {}
+        Ok(false) => return Err(FactsFault::NoHeader),
+        Err(_) => return Err(FactsFault::NoMemory),
+    }
+    let layout = match Layout::read(alloc, dims, &row) {
+        Ok(layout) => layout,
+        Err(fault) => return Err(fault),
+    };
+    let mut points = Points::new(alloc);
+    'records: for earlier in 0..u64::MAX {
+        match reader.read_byte_record(&mut row) {
+            Ok(true) => {}
+            Ok(false) => return Ok(points),
+            Err(_) => return Err(FactsFault::NoMemory),
+        }
+        let (leaves, units) = match layout.read_fact(alloc, &row, earlier) {
+            Ok(fact) => fact,
+            Err(fault) => return Err(fault),
+        };
+        add_fact(alloc, &mut points, leaves, units)?;
+        if points.len() > MAX_POINTS {
+            return Err(FactsFault::Limit {
+                which: LimitKind::Points,
+                number: MAX_POINTS as u64,
+            });
+        }
+    }
+    Err(FactsFault::NoMemory)
+}
+
+/// Reads a fact file by the columns that the dimensions and the measures name: the points at which
+/// there are facts, and the plain sum of each measure at each of them.
+///
+/// Columns that nothing names are ignored. The time is that of the records, each with a look-up in
+/// an ordered map of the points.
+pub fn read_facts(alloc: Global, dims: &Dims, bytes: &[u8]) -> Result<(Shape, Cube), FactsFault>
+    ensures said { Answers fault.NoMemory result (filled_of dims.now bytes.now) }
+    ensures rules { IfOk result (λ filled. IsCore (record { dims = dims.now; shape = filled.0; cube = filled.1 })) }
+{
+    let measures = dims.measures().len();
+    let points = read_points(alloc, dims, bytes)?;
+    let shape = shape_of(alloc, &points)?;
+    let cube = cube_of(alloc, &points, measures)?;
+    Ok((shape, cube))
+}

@@ -1,0 +1,31 @@
+-- Desks: what a server answers for, and what it does with an ask.
+use Rattle.std.specs.Prelude.{◌≡◌, ◌≢◌, ℕ, ◌≤◌, List, [], ◌∷◌, ◌++◌}
+use Rattle.cube_model.specs.declared.ask.Ask.{Ask}
+use Rattle.cube_model.specs.declared.outcome.Outcome.{Outcome}
+use Rattle.cube_model.specs.declared.outcome.Outcome.TheVariants.{Given, JournalFault, NoMemory}
+use Rattle.cube_model.specs.declared.reply.Fixed.TheVariants as constant
+use Rattle.cube_model.specs.declared.reply.Reply.{Reply}
+use Rattle.cube_model.specs.declared.reply.Reply.TheVariants.{Fixed}
+use Rattle.cube_model.specs.Rooms.{Room}
+use Rattle.cube_io.specs.Causes.{Rose}
+
+-- what is replied to an ask over some rooms, and the rooms behind it, by what became of it
+pub record Manner : Type 0 where
+  pub reply : List Room → Ask → Outcome → Reply
+  pub next : List Room → Ask → Outcome → List Room
+
+-- what failed gets its constant reply and leaves the rooms
+pub record IsConstant (m : Manner) : Type 0 where
+  pub fault : (rooms : List Room) (ask : Ask) → (m.reply rooms ask JournalFault ≡ Fixed constant.JournalFault) × (m.next rooms ask JournalFault ≡ rooms)
+  pub memory : (rooms : List Room) (ask : Ask) → (m.reply rooms ask NoMemory ≡ Fixed constant.NoMemory) × (m.next rooms ask NoMemory ≡ rooms)
+
+-- An ask got one outcome, and the reply and the rooms of it. The journal failed only where the ask was to be kept, and where the
+-- store's count of faults rose.
+pub record Answered (m : Manner) (ask : Ask) (rooms rooms' : List Room) (outcomes outcomes' : List Outcome) (faults faults' : ℕ) (reply : Reply) : Type 0 where
+  pub outcome : Outcome
+  pub added : outcomes' ≡ outcomes ++ outcome ∷ []
+  pub replied : reply ≡ m.reply rooms ask outcome
+  pub moved : rooms' ≡ m.next rooms ask outcome
+  pub later : faults ≤ faults'
+  pub steady : outcome ≢ JournalFault → faults' ≡ faults
+  pub failed : outcome ≡ JournalFault → Rose faults faults' × (m.next rooms ask Given ≢ rooms)

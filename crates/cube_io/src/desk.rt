@@ -1,0 +1,77 @@
+// What a server asks: one or more rooms, each a cube with a policy and a history.
+ghost use Rattle.std.specs.Prelude.{◌≡◌, ◌≢◌, ◌⊎◌, ◌↔◌, ◌≤◌, ◌+◌, ◌++◌, ◌∷◌, [], ℕ, List, IsTrue};
+ghost use Rattle.cube_model.specs.Rooms.{Room};
+ghost use Rattle.cube_model.specs.declared.outcome.Outcome.{Outcome};
+ghost use Rattle.cube_model.specs.declared.outcome.Outcome.TheVariants as outcome;
+ghost use Rattle.cube_model.specs.declared.reply.Fixed.TheVariants as constant;
+ghost use Rattle.cube_model.specs.declared.reply.Reply.TheVariants as reply;
+ghost use Rattle.cube_io.specs.Desks.{Manner, IsConstant, Answered};
+ghost use Rattle.cube_io.specs.States.{State, Gained};
+
+use crate::Store;
+use cube_model::{Ask, Reply};
+use std::alloc::Global;
+
+/// What answers asks: a list of rooms, whose histories may be kept on a store, and the outcomes of the asks so far.
+pub trait Desk<S: Store> {
+    /// What it does with an ask. No call changes it.
+    ghost manner: { Self → Manner };
+
+    /// The rooms that it answers for.
+    ghost rooms: { Self → List Room };
+
+    /// What became of the asks so far, in turn.
+    ghost outcomes: { Self → List Outcome };
+
+    /// How many asks it has room for.
+    ghost room: { Self → ℕ };
+
+    /// The desk belongs to the store.
+    ghost fits: { Self → S → Type 0 };
+
+    /// Whatever a crash leaves of this log at this state, it recovers just the history of its room.
+    ghost exact: { Self → List Room → ℕ → State → Type 0 };
+
+    /// Whatever a crash leaves of this log at this state, it recovers the history of its room, alone or with one more request.
+    ghost within: { Self → List Room → ℕ → State → Type 0 };
+
+    /// Answers an ask, and keeps it first where it adds to a history.
+    fn answer(&mut self, alloc: Global, store: &mut S, ask: &Ask) -> Reply
+        requires fits { fits self.old store.old }
+        requires room { 1 ≤ room self.old }
+        ensures answered { Answered (manner self.old) ask.now (rooms self.old) (rooms self.new) (outcomes self.old) (outcomes self.new) (S.faults store.old) (S.faults store.new) result }
+        ensures manner { manner self.new ≡ manner self.old }
+        ensures room { room self.new + 1 ≡ room self.old }
+        ensures fits { fits self.new store.new }
+
+        // An ask that adds to no history leaves the store alone.
+        ensures untouched { (manner self.old).next (rooms self.old) ask.now outcome.Given ≡ rooms self.old → store.new ≡ store.old }
+
+        // What a crash leaves at each state that is passed, and at the end.
+        ensures exact_stays { (rooms : List Room) (log : ℕ) (state : State) → exact self.new rooms log state ↔ exact self.old rooms log state }
+        ensures within_stays { (rooms : List Room) (log : ℕ) (state : State) → within self.new rooms log state ↔ within self.old rooms log state }
+        ensures passed { IsTrue (S.told store.old) → (log : ℕ) → within self.old (rooms self.old) log (S.logs store.old log).state
+            → Gained (λ state. within self.old (rooms self.old) log state ⊎ within self.old (rooms self.new) log state) (S.logs store.old log) (S.logs store.new log) }
+        ensures within { IsTrue (S.told store.old) → (log : ℕ) → within self.old (rooms self.old) log (S.logs store.old log).state → within self.new (rooms self.new) log (S.logs store.new log).state }
+        ensures exact { outcomes self.new ≢ outcomes self.old ++ outcome.JournalFault ∷ [] → IsTrue (S.told store.old) → (log : ℕ) → exact self.old (rooms self.old) log (S.logs store.old log).state
+            → exact self.new (rooms self.new) log (S.logs store.new log).state };
+
+    /// Replies to an ask that found no memory before it reached the desk. It takes none.
+    fn miss(&mut self) -> Reply
+        requires { 1 ≤ room self.old }
+        ensures reply { result ≡ reply.Fixed constant.NoMemory }
+        ensures outcomes { outcomes self.new ≡ outcomes self.old ++ outcome.NoMemory ∷ [] }
+        ensures rooms { rooms self.new ≡ rooms self.old }
+        ensures manner { manner self.new ≡ manner self.old }
+        ensures room { room self.new + 1 ≡ room self.old }
+        ensures fits { (store : S) → fits self.old store → fits self.new store }
+        ensures exact_stays { (rooms : List Room) (log : ℕ) (state : State) → exact self.new rooms log state ↔ exact self.old rooms log state }
+        ensures within_stays { (rooms : List Room) (log : ℕ) (state : State) → within self.new rooms log state ↔ within self.old rooms log state };
+
+    /// How many more asks it has room for.
+    fn left(&self) -> u64
+        ensures { result ≡ room self.now };
+
+    /// What failed gets its constant reply and leaves the rooms.
+    ghost failures: { (desk : Self) → IsConstant (manner desk) };
+}

@@ -1,0 +1,43 @@
+// The order of cuboids, and their meet.
+ghost use Rattle.std.specs.Prelude.{◌≡◌, ℕ, length, nat_le};
+ghost use Rattle.std.specs.List.{list_all, zip};
+ghost use Rattle.cube_model.specs.Cubes as cubes;
+ghost use Rattle.cube_model.specs.Cubes.{is_finer};
+
+use cube_model::Levels;
+
+// Whether each level is at most the one beside it.
+fn all_at_most(a: &[u32], b: &[u32]) -> bool
+    ensures { result ≡ list_all (λ p. nat_le p.0 p.1) (zip a.now b.now) }
+{
+    a.iter().zip(b).all(|(a, b)| *a <= *b)
+}
+
+/// Whether the cuboid `a` is finer than or equal to `b`: each level of `a` is at most that of `b`.
+pub fn finer_or_equal(a: &Levels, b: &Levels) -> bool
+    ensures { result ≡ is_finer a.now b.now }
+{
+    a.len() == b.len() && all_at_most(a.as_slice(), b.as_slice())
+}
+
+// Lowers each level to the one beside it, where that is less.
+#[tactic(auto, using(crate::proofs::Steps::lower_more, crate::proofs::Steps::lower_end))]
+fn lower(a: &mut [u32], b: &[u32])
+    requires { length a.old ≡ length b.now }
+    ensures { a.new ≡ cubes.meet a.old b.now }
+{
+    for (place, level) in a.iter_mut().enumerate() {
+        *level = (*level).min(b[place]);
+    }
+}
+
+/// The meet of two cuboids: the lesser level in each dimension. It stands in the room of the first, so
+/// this takes no memory.
+pub fn meet(a: Levels, b: &Levels) -> Levels
+    requires { length a ≡ length b.now }
+    ensures { result ≡ cubes.meet a b.now }
+{
+    let mut levels = a.into_vec();
+    lower(&mut levels, b.as_slice());
+    Levels::from_vec(levels)
+}

@@ -1,0 +1,12 @@
+use Rattle.std.proofs.Common.{◌≡◌, [], map, take}
+use Rattle.toml.specs.View.{view}
+use Rattle.cube_model.specs.Checks.{in_turn}
+use Rattle.cube_tables.specs.Tables.{table_in}
+use Rattle.cube_policy.specs.PolicyFile.{declared_of, measure_faults}
+use Rattle.cube_policy.proofs.read.read_measures.Given as goal
+
+abbrev pub invariant-loop-item : goal.invariant-loop-item
+invariant-loop-item l = record {
+  none : in_turn (λ before table. measure_faults l.dims (map declared_of before) table) [] (take l.item-index (map table_in (map view l.items))) ≡ [];
+  read : l.declared ≡ map declared_of (take l.item-index (map table_in (map view l.items)));
+}

@@ -1,0 +1,4 @@
+pub mod PolicyFile
+pub mod Words
+pub mod Examples
+pub mod KnownKeys

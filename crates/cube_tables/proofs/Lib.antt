@@ -1,0 +1,5 @@
+pub mod Items
+pub mod Turns
+pub mod Tabled
+pub mod Loops
+pub mod Nonempty
