@@ -3,7 +3,7 @@ use Rattle.std.proofs.Common.{◌≡◌, ◌≤◌, ℕ, suc, ◌+◌, ◌-◌, 
 use Rattle.std.proofs.Math.Seq.{take-suc}
 use Rattle.std.proofs.lemmas.List.{take_all}
 use Rattle.cube_app.specs.declared.words.Command.{Command}
-use Rattle.cube_app.specs.Words.{is_option, stands_in, options_in, first_wrong}
+use Rattle.cube_app.specs.Words.{is_option, is_wrong_value, stands_in, options_in, first_wrong}
 
 -- the words from a place on begin with two words, and those up to it end with them one pair further
 pair_behind : (words : List (List ℕ)) (at : ℕ) → at + 2 ≤ length words → drop at words ≡ get_or words at [] ∷ get_or words (suc at) [] ∷ drop (at + 2) words
@@ -20,9 +20,9 @@ pair_before words at some =
     let there = take-suc words (suc at) [] (omega (arith, some)) in
     ap (λ (n : ℕ). take n words) two ∙ there ∙ ap (λ (l : List (List ℕ)). l ++ get_or words (suc at) [] ∷ []) here ∙ append_assoc (take at words) (get_or words at [] ∷ []) (get_or words (suc at) [] ∷ [])
 
-good_pair : (c : Command) (before more : List (List ℕ)) (option value : List ℕ) → is_option c option ≡ true → stands_in option (options_in before) ≡ false
+good_pair : (c : Command) (before more : List (List ℕ)) (option value : List ℕ) → is_option c option ≡ true → stands_in option (options_in before) ≡ false → is_wrong_value option value ≡ false
     → first_wrong c before (option ∷ value ∷ more) ≡ first_wrong c (before ++ option ∷ value ∷ []) more
-good_pair c before more option value known once = rw (known, once) refl
+good_pair c before more option value known once good = rw (known, once, good) refl
 
 -- the first of the words from a place on
 first_behind : (words : List (List ℕ)) (at : ℕ) (option : List ℕ) → at + 2 ≤ length words → option ≡ get_or (take (length words - at) (drop at words)) 0 option → option ≡ get_or words at []
@@ -31,14 +31,22 @@ first_behind words at option some is =
     let first = ap (λ (l : List (List ℕ)). get_or l 0 option) (all ∙ pair_behind words at some) in
     is ∙ first
 
+-- the second of them
+second_behind : (words : List (List ℕ)) (at : ℕ) (value : List ℕ) → at + 2 ≤ length words → value ≡ get_or (take (length words - at) (drop at words)) 1 value → value ≡ get_or words (suc at) []
+second_behind words at value some is =
+    let all = take_all (length words - at) (drop at words) (omega (arith, length-drop at words)) in
+    let second = ap (λ (l : List (List ℕ)). get_or l 1 value) (all ∙ pair_behind words at some) in
+    is ∙ second
+
 -- a good pair leaves the first wrong word to those behind it
-pub wrong_step : (c : Command) (words : List (List ℕ)) (at : ℕ) (option : List ℕ) → 2 ≤ length (take (length words - at) (drop at words)) → option ≡ get_or (take (length words - at) (drop at words)) 0 option
-    → is_option c option ≡ true → stands_in option (options_in (take at words)) ≡ false
+pub wrong_step : (c : Command) (words : List (List ℕ)) (at : ℕ) (option value : List ℕ) → 2 ≤ length (take (length words - at) (drop at words)) → option ≡ get_or (take (length words - at) (drop at words)) 0 option
+    → value ≡ get_or (take (length words - at) (drop at words)) 1 value → is_option c option ≡ true → stands_in option (options_in (take at words)) ≡ false → is_wrong_value option value ≡ false
     → first_wrong c (take (at + 2) words) (drop (at + 2) words) ≡ first_wrong c (take at words) (drop at words)
-wrong_step c words at option long is known once =
+wrong_step c words at option value long is that known once right =
     let all = take_all (length words - at) (drop at words) (omega (arith, length-drop at words)) in
     let two = rw (all, length-drop) at long in
     let some : at + 2 ≤ length words = omega (arith, two) in
     let first = first_behind words at option some is in
-    let good = good_pair c (take at words) (drop (at + 2) words) (get_or words at []) (get_or words (suc at) []) (rw first at known) (rw first at once) in
+    let second = second_behind words at value some that in
+    let good = good_pair c (take at words) (drop (at + 2) words) (get_or words at []) (get_or words (suc at) []) (rw first at known) (rw first at once) (rw (first, second) at right) in
     rw (pair_before words at some, pair_behind words at some) (sym good)

@@ -1,11 +1,11 @@
 -- What is kept of a line decides its answer.
-use Rattle.std.proofs.Common.{◌≡◌, ◌<◌, ◌≤◌, ℕ, zero, suc, ◌+◌, ◌-◌, List, [], ◌∷◌, ◌++◌, length, take, Bool, true, false, refl, sym, ap, ◌∙◌, append-nil, length-append, arith, nat_lt, codes, ◌==◌}
+use Rattle.std.proofs.Common.{◌≡◌, ◌<◌, ◌≤◌, ℕ, zero, suc, ◌+◌, ◌-◌, List, [], ◌∷◌, ◌++◌, length, take, Bool, true, false, refl, sym, ap, ◌∙◌, append-nil, length-append, arith, nat_lt, ◌==◌, subst}
 use Rattle.std.specs.Prelude.{slice_index}
 use Rattle.std.specs.Str.Lines.{strip_carriage_return}
 use Rattle.std.proofs.lemmas.List.{length-take-le, length-take, take_all, take-append-le}
 use Rattle.std.proofs.lemmas.Bool.Decides.{nat_tests}
-use Rattle.cube_facts.specs.Flat.{Flat}
-use Rattle.cube_app.specs.Talk.{up_to, answer, max_line}
+use Rattle.cube_app.specs.Talk.{up_to}
+use Rattle.cube_app.proofs.Speech.{Speech}
 
 pub take_past : {X : Type 0} (xs ys : List X) (n : ℕ) → length xs ≤ n → take n (xs ++ ys) ≡ xs ++ take (n - length xs) ys
 take_past [] ys n h = let e : n - 0 ≡ n = omega arith in rw e refl
@@ -48,22 +48,17 @@ strip_by false line e = rw e (omega arith)
 strip_length : (line : List ℕ) → length line ≤ length (strip_carriage_return line) + 1
 strip_length line = strip_by (slice_index line (length line - 1) == 13) line refl
 
-too_long : (flat : Flat) (line : List ℕ) → max_line < length line → answer flat line ≡ codes "bad line: too long\n"
-too_long flat line h =
-    let t : nat_lt 65536 (length line) ≡ true = grind (arith, nat_tests) in rw t refl
-
 -- the answer to what is kept is the answer to the line
-pub answer_kept : (flat : Flat) (line : List ℕ) → answer flat (strip_carriage_return (up_to 65538 line)) ≡ answer flat (strip_carriage_return line)
-answer_kept flat line = below 65538 (length line)
+pub answered_kept : {A B : Type 0} (sp : Speech A B) (a a' : A) (b b' : B) (line text : List ℕ) → sp.says a b (strip_carriage_return (up_to 65538 line) ∷ []) a' b' text → sp.says a b (strip_carriage_return line ∷ []) a' b' text
+answered_kept sp a a' b b' line text h = below 65538 (length line)
     (λ long. let e = up_to_long 65538 line long in let l = length-take-le 65538 line (omega (arith, long)) in
     let front : length (up_to 65538 line) ≡ 65538 = rw e l in
-    too_long flat (strip_carriage_return (up_to 65538 line)) (omega (arith, strip_length (up_to 65538 line), front))
-    ∙ sym (too_long flat (strip_carriage_return line) (omega (arith, strip_length line, long))))
-    (λ short. rw (up_to_all 65538 line short) refl)
+    sp.alike a a' b b' (strip_carriage_return (up_to 65538 line)) (strip_carriage_return line) text (omega (arith, strip_length (up_to 65538 line), front)) (omega (arith, strip_length line, long)) h)
+    (λ short. let e = up_to_all 65538 line short in subst (λ (l : List ℕ). sp.says a b (strip_carriage_return l ∷ []) a' b' text) e h)
 
-pub answer_front : (flat : Flat) (line : List ℕ) → answer flat (up_to 65538 line) ≡ answer flat line
-answer_front flat line = below 65538 (length line)
+pub answered_front : {A B : Type 0} (sp : Speech A B) (a a' : A) (b b' : B) (line text : List ℕ) → sp.says a b (up_to 65538 line ∷ []) a' b' text → sp.says a b (line ∷ []) a' b' text
+answered_front sp a a' b b' line text h = below 65538 (length line)
     (λ long. let e = up_to_long 65538 line long in let l = length-take-le 65538 line (omega (arith, long)) in
     let front : length (up_to 65538 line) ≡ 65538 = rw e l in
-    too_long flat (up_to 65538 line) (omega (arith, front)) ∙ sym (too_long flat line (omega (arith, long))))
-    (λ short. rw (up_to_all 65538 line short) refl)
+    sp.alike a a' b b' (up_to 65538 line) line text (omega (arith, front)) (omega (arith, long)) h)
+    (λ short. let e = up_to_all 65538 line short in subst (λ (l : List ℕ). sp.says a b (l ∷ []) a' b' text) e h)

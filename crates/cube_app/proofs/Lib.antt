@@ -1,6 +1,11 @@
+pub mod AskTalk
 pub mod Commands
 pub mod Cuts
 pub mod Kept
 pub mod Pieces
-pub mod Stands
-mod Files
+pub mod Settled
+pub mod Speech
+pub mod Spoken
+pub mod SumTalk
+pub mod Talks
+pub mod Given

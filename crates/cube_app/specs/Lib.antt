@@ -2,4 +2,12 @@ pub mod Words
 pub mod Lines
 pub mod Talk
 pub mod Piece
+pub mod Replies
+pub mod Sums
+pub mod SumLaws
+pub mod Asks
+pub mod AskLaws
+pub mod Reports
+pub mod Opening
+pub mod Summary
 pub mod Run

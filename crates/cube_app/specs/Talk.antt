@@ -1,25 +1,16 @@
--- What is said to the lines of an input, and how a talk ends.
-use Rattle.std.specs.Prelude.{◌≡◌, ◌⊎◌, ℕ, ◌^◌, ◌≤◌, ◌<◌, nat_lt, List, [], ◌∷◌, ◌++◌, length, take, codes, if◌then◌else◌}
+-- A talk over the lines of an input: which lines were answered, what was written of the answers, and how it ended.
+use Rattle.std.specs.Prelude.{◌≡◌, ◌⊎◌, ⊤, ℕ, ◌^◌, ◌<◌, Bool, true, false, nat_lt, List, [], ◌++◌, length, take, if◌then◌else◌, All}
 use Rattle.std.specs.declared.option.Option.{Option}
-use Rattle.std.specs.List.{flat_map}
 use Rattle.std.specs.Str.Lines.{lines}
 use Rattle.std.specs.Io.KnownBytes.{Appends, Consumes}
-use Rattle.cube_text.specs.Units.{units_text}
 use Rattle.cube_io.specs.Content.{AppendsPrefix}
-use Rattle.cube_facts.specs.Flat.{Flat, reply_of}
-use Rattle.cube_facts.specs.declared.flat.FlatReply.{FlatReply}
-use Rattle.cube_facts.specs.declared.flat.FlatReply.TheVariants as reply
-use Rattle.cube_app.specs.Lines.{ended_lines}
+use Rattle.cube_app.specs.Lines.{is_feed, ended_lines}
 use Rattle.cube_app.specs.declared.talk.Ending.{Ending}
 use Rattle.cube_app.specs.declared.talk.Ending.TheVariants.{Ended, InputFailed, OutputFailed, NoMemory, Spent}
 
 -- the most bytes of a line that is looked into
 abbrev pub max_line : ℕ
 max_line = 65536
-
--- the most lines that are answered
-abbrev pub max_lines : ℕ
-max_lines = 16777216
 
 -- the most bytes that are taken of an input
 abbrev pub max_input : ℕ
@@ -29,42 +20,47 @@ max_input = 2 ^ 40
 unfoldable pub up_to : {X : Type 0} → ℕ → List X → List X
 up_to n xs = if nat_lt n (length xs) then take n xs else xs
 
-abbrev pub shown : FlatReply → List ℕ
-shown (reply.Sum value) = units_text 0 value ++ 10 ∷ []
-shown reply.Fields = codes "bad line: fields\n"
-shown reply.Quote = codes "bad line: quote\n"
+-- so many bytes of a line decide its answer, with a carriage return at its end
+abbrev pub kept_bytes : ℕ
+kept_bytes = 65538
 
--- the answer to a line
-abbrev pub answer : Flat → List ℕ → List ℕ
-answer flat line = if nat_lt max_line (length line) then codes "bad line: too long\n" else shown (reply_of flat line)
+-- what is kept of a line that no line feed has ended
+pub record IsKept (carry open_part : List ℕ) : Type 0 where
+  pub clean : All (λ b. is_feed b ≡ false) open_part
+  pub kept : carry ≡ up_to kept_bytes open_part
 
--- the answers to some lines in turn
-abbrev pub answers : Flat → List (List ℕ) → List ℕ
-answers flat ls = flat_map (answer flat) ls
+-- a text was said: it went behind what waits to be written, of which the front was written
+pub record Spoke (text waiting waiting' : List ℕ) (written written' : Option (List ℕ)) : Type 0 where
+  pub front : List ℕ
+  pub whole : waiting ++ text ≡ front ++ waiting'
+  pub put : Appends written written' front
 
--- what is said to an input: the answers to its lines, as far as they are answered
-abbrev pub talk : Flat → List ℕ → List ℕ
-talk flat text = answers flat (up_to max_lines (lines text))
+-- a text was written, or a beginning of it where a put failed
+abbrev pub Puts : Ending → Option (List ℕ) → Option (List ℕ) → List ℕ → Type 0
+Puts Ended written written' text = Appends written written' text
+Puts InputFailed written written' text = Appends written written' text
+Puts OutputFailed written written' text = AppendsPrefix written written' text
+Puts NoMemory written written' text = Appends written written' text
+Puts Spent written written' text = Appends written written' text
 
--- so many lines, or so many bytes, that no more are taken
-abbrev pub IsSpent : Flat → List ℕ → ℕ → Option (List ℕ) → Option (List ℕ) → Type 0
-IsSpent flat text count old new =
-    ((count ≡ max_lines) × (max_lines ≤ length (lines text)) × Appends old new (talk flat text))
-    ⊎ ((count ≡ length (ended_lines text)) × (count < max_lines) × (length text ≡ max_input) × Appends old new (answers flat (ended_lines text)))
+-- Which lines were answered, by how the talk ended: where the input came to its end, all of them; where a read failed, the ended
+-- ones; and no more are where who answers is done, or where so many bytes were taken.
+abbrev pub Goes : Ending → List ℕ → List (List ℕ) → List (List ℕ) → Bool → Type 0
+Goes Ended text first more done = (more ≡ []) × (done ≡ false) × (length text < max_input)
+Goes InputFailed text first more done = (first ≡ ended_lines text) × (done ≡ false) × (length text < max_input)
+Goes OutputFailed text first more done = ⊤
+Goes NoMemory text first more done = ⊤
+Goes Spent text first more done = (done ≡ true) ⊎ ((first ≡ ended_lines text) × (done ≡ false) × (length text ≡ max_input))
 
--- What was written of the talk over the bytes of an input, by how it ended and how many lines were counted: all of it
--- where the input came to its end; the answers to the ended lines where a read failed; a beginning of it where a put failed;
--- the answers to the first lines where memory ran out.
-abbrev pub Says : Flat → Ending → List ℕ → ℕ → Option (List ℕ) → Option (List ℕ) → Type 0
-Says flat Ended text count old new = (count ≡ length (lines text)) × (count < max_lines) × (length text < max_input) × Appends old new (talk flat text)
-Says flat InputFailed text count old new = (length (ended_lines text) < max_lines) × (length text < max_input) × Appends old new (answers flat (ended_lines text))
-Says flat OutputFailed text count old new = AppendsPrefix old new (talk flat text)
-Says flat NoMemory text count old new = (first : List (List ℕ)) × (more : List (List ℕ)) × (up_to max_lines (lines text) ≡ first ++ more) × Appends old new (answers flat first)
-Says flat Spent text count old new = IsSpent flat text count old new
-
--- Of the bytes that were taken of an input, the talk was written.
-pub record Talked (flat : Flat) (ending : Ending) (count bytes : ℕ) (left left' written written' : Option (List ℕ)) : Type 0 where
+-- Of the bytes that were taken of an input, the first lines were answered. Who answers, and a store, went from one state to another.
+pub record Conversed {A B : Type 0} (says : A → B → List (List ℕ) → A → B → List ℕ → Type 0) (a a' : A) (b b' : B) (done : Bool) (ending : Ending) (bytes : ℕ) (left left' written written' : Option (List ℕ)) : Type 0 where
   pub text : List ℕ
   pub taken : Consumes left left' text
   pub counted : bytes ≡ length text
-  pub said : Says flat ending text count written written'
+  pub first : List (List ℕ)
+  pub more : List (List ℕ)
+  pub split : lines text ≡ first ++ more
+  pub said : List ℕ
+  pub answered : says a b first a' b' said
+  pub puts : Puts ending written written' said
+  pub goes : Goes ending text first more done

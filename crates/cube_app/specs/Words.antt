@@ -1,11 +1,13 @@
 -- The words of a command line: a command, and pairs of an option and its value in any order, each option once.
-use Rattle.std.specs.Prelude.{ℕ, ◌+◌, Bool, not, ◌||◌, length, List, [], ◌∷◌, ◌++◌, find, codes, if◌then◌else◌, Option, Some, None, Result, Ok, Err}
+use Rattle.std.specs.Prelude.{ℕ, ◌+◌, Bool, not, ◌||◌, ◌&&◌, nat_le, length, List, [], ◌∷◌, ◌++◌, find, codes, if◌then◌else◌, Option, Some, None, Result, Ok, Err}
 use Rattle.std.specs.List.{list_any}
 use Rattle.std.specs.Str.{bytes_eq}
+use Rattle.std.specs.Str.Parse.{digits_value}
+use Rattle.cube_text.specs.Units.{is_digits}
 use Rattle.cube_app.specs.declared.words.Command.{Command}
-use Rattle.cube_app.specs.declared.words.Command.TheVariants.{Help, Version, Sum}
+use Rattle.cube_app.specs.declared.words.Command.TheVariants.{Help, Version, Sum, Check, Ask}
 use Rattle.cube_app.specs.declared.words.Setting.{Setting}
-use Rattle.cube_app.specs.declared.words.Setting.TheVariants.{Facts}
+use Rattle.cube_app.specs.declared.words.Setting.TheVariants.{Dims, Facts, Requests}
 use Rattle.cube_app.specs.declared.words.Usage.{Usage}
 use Rattle.cube_app.specs.declared.words.Usage.TheVariants.{NoCommand, Wrong, Missing}
 
@@ -13,18 +15,32 @@ abbrev pub command_word : Command → List ℕ
 command_word Help = codes "--help"
 command_word Version = codes "--version"
 command_word Sum = codes "sum"
+command_word Check = codes "check"
+command_word Ask = codes "ask"
 
 abbrev pub option_word : Setting → List ℕ
+option_word Dims = codes "--dims"
 option_word Facts = codes "--facts"
+option_word Requests = codes "--requests"
 
 abbrev pub commands : List Command
-commands = Help ∷ Version ∷ Sum ∷ []
+commands = Help ∷ Version ∷ Sum ∷ Check ∷ Ask ∷ []
 
 -- the options that a command needs, in the order in which a missing one is named
 abbrev pub needed : Command → List Setting
 needed Help = []
 needed Version = []
 needed Sum = Facts ∷ []
+needed Check = Dims ∷ Facts ∷ []
+needed Ask = Dims ∷ Facts ∷ []
+
+-- the options that it may have
+abbrev pub allowed : Command → List Setting
+allowed Help = []
+allowed Version = []
+allowed Sum = Facts ∷ []
+allowed Check = Dims ∷ Facts ∷ []
+allowed Ask = Dims ∷ Facts ∷ Requests ∷ []
 
 -- the command of a word
 abbrev pub command_of : List ℕ → Option Command
@@ -32,7 +48,7 @@ command_of word = find (λ c. bytes_eq word (command_word c)) commands
 
 -- the word is an option of the command
 abbrev pub is_option : Command → List ℕ → Bool
-is_option c word = list_any (λ s. bytes_eq word (option_word s)) (needed c)
+is_option c word = list_any (λ s. bytes_eq word (option_word s)) (allowed c)
 
 -- the word is one of these
 abbrev pub stands_in : List ℕ → List (List ℕ) → Bool
@@ -44,13 +60,29 @@ options_in [] = []
 options_in (option ∷ []) = option ∷ []
 options_in (option ∷ value ∷ more) = option ∷ options_in more
 
+-- the most asks that may be stated, and how many there are where none are
+abbrev pub max_requests : ℕ
+max_requests = 16777216
+
+abbrev pub usual_requests : ℕ
+usual_requests = 1000000
+
+-- decimal digits that write a number of asks
+abbrev pub is_requests : List ℕ → Bool
+is_requests text = is_digits text && nat_le 1 (digits_value 10 text) && nat_le (digits_value 10 text) max_requests
+
+-- the value is none that the option may have
+abbrev pub is_wrong_value : List ℕ → List ℕ → Bool
+is_wrong_value option value = bytes_eq option (codes "--requests") && not (is_requests value)
+
 -- The number of the first wrong word behind these pairs, the command being word 0: no option of the command, one that
--- stood before, or one without a value.
+-- stood before, one without a value, or a wrong value.
 abbrev pub first_wrong : Command → List (List ℕ) → List (List ℕ) → Option ℕ
 first_wrong c before [] = None
 first_wrong c before (option ∷ []) = Some (length before + 1)
 first_wrong c before (option ∷ value ∷ more) =
     if not (is_option c option) || stands_in option (options_in before) then Some (length before + 1)
+    else if is_wrong_value option value then Some (length before + 2)
     else first_wrong c (before ++ option ∷ value ∷ []) more
 
 -- the first option that is needed and not there
@@ -85,3 +117,11 @@ value_behind word (option ∷ value ∷ more) = if bytes_eq option word then Som
 abbrev pub value_of : Setting → List (List ℕ) → Option (List ℕ)
 value_of s [] = None
 value_of s (command ∷ words) = value_behind (option_word s) words
+
+-- the stated number of asks
+abbrev pub stated_by : Option (List ℕ) → ℕ
+stated_by None = usual_requests
+stated_by (Some text) = digits_value 10 text
+
+abbrev pub stated : List (List ℕ) → ℕ
+stated words = stated_by (value_of Requests words)

@@ -1,18 +1,23 @@
 //! The program: it makes the real objects, runs, prints the text on standard error and ends with the status.
 #![tactic(auto)]
 
+mod asks;
 mod carry;
-mod edge;
+mod opening;
+mod replies;
 mod report;
+mod responder;
 mod run;
+mod summary;
+mod sums;
 mod talk;
 #[cfg(test)]
 mod tests;
 mod words;
 
+use cube_edge::{FileFolder, ReaderSource, WriterSink};
 use cube_io::{NullStore, NullWire};
 use cube_model::{Items, Text, Texts};
-use edge::{FileFolder, ReaderSource, WriterSink};
 use run::run;
 use std::env::{Env, FillError};
 use std::io;

@@ -1,6 +1,6 @@
 // How a run ended, and the room for the text that says so.
 ghost use Rattle.std.specs.Prelude.{◌≡◌, ◌≤◌, ◌+◌, ◌++◌, [], length, decimal, IfOk};
-ghost use Rattle.cube_app.specs.Run.{IsReport, NoRoom};
+ghost use Rattle.cube_app.specs.Reports.{IsReport, NoRoom};
 
 use cube_model::{Items, NoMemory, Outcomes, Text};
 use itoa::Buffer;
@@ -85,6 +85,19 @@ impl Room {
         ensures few { length result ≤ length self + 20 }
     {
         self.with(Buffer::new().format(number).as_bytes())
+    }
+
+    /// The report of this text, with what became of the asks.
+    pub fn close_with(self, status: u8, outcomes: Outcomes) -> Report
+        ensures status { result.status ≡ status }
+        ensures outcomes { result.outcomes ≡ outcomes }
+        ensures text { result.text ≡ self }
+    {
+        Report {
+            status,
+            outcomes,
+            text: Text::from_vec(self.bytes),
+        }
     }
 
     /// The report of this text.

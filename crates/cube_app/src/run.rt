@@ -1,22 +1,32 @@
 // The top call: all that the program does.
-ghost use Rattle.std.specs.Prelude.{◌≡◌, ◌≢◌, ◌⊎◌, ◌++◌, [], true, decimal, codes, Some, IfErr, IsErr, IfOk, IsTrue, Ok};
+ghost use Rattle.std.specs.Prelude.{◌≡◌, ◌≢◌, ◌⊎◌, ◌≤◌, ◌++◌, [], true, length, decimal, codes, Some, IfErr, IsErr, IfOk, IsTrue, Ok};
 ghost use Rattle.cube_io.specs.Causes.{Rose};
-ghost use Rattle.cube_facts.specs.Words.{facts_words};
-ghost use Rattle.cube_facts.specs.declared.fault.FactsFault.TheVariants as faults;
-ghost use Rattle.cube_app.specs.Words.{orders_of as orders_in};
-ghost use Rattle.cube_app.specs.Run.{IsReport, NoRoom, usage_text as usage_words, help_text, version_text, Prints, facts_name, EndsEarly, status_of as status_in, ending_text, Answered, AsksOnce, HasFile};
+ghost use Rattle.cube_app.specs.Words.{orders_of as orders_in, stated as stated_in};
+ghost use Rattle.cube_engine.specs.Engines.{rooms_of};
+ghost use Rattle.cube_engine.specs.Open.{open_policy};
+ghost use Rattle.cube_engine.specs.Steps.{manner};
+ghost use Rattle.cube_app.specs.Asks.{IsStill};
+ghost use Rattle.cube_app.specs.Reports.{IsReport, NoRoom, Prints};
+ghost use Rattle.cube_app.specs.Opening.{flat_said, Unopened, AsksOnce, EndsUnopened, AsksBoth, HasBoth};
+ghost use Rattle.cube_app.specs.Run.{usage_text as usage_words, help_text, version_text, dims_name, facts_name, status_of as status_in, ending_text, Answered, HasFlat, Checked, Asked};
 ghost use Rattle.cube_app.specs.declared.words.Command.TheVariants as orders;
 
+use crate::asks::converse_by_asks;
+use crate::carry::Carry;
+use crate::opening::{open_core, open_flat};
 use crate::report::{Report, Room, no_room, with_text};
-use crate::talk::{Ending, TalkEnd, converse};
-use crate::words::{Command, Setting, Usage, orders_of, value_of};
-use cube_facts::{FactsFault, fault_words, read_flat};
-use cube_io::{FileFault, Folder, Sink, Source, Store, Wire};
+use crate::summary::check_text;
+use crate::sums::converse_by_sums;
+use crate::talk::{Ending, TalkEnd};
+use crate::words::{Command, Setting, Usage, needed_value, orders_of, stated};
+use cube_core::Core;
+use cube_engine::{Engine, open_policy as make_open};
+use cube_io::{Folder, Sink, Source, Store, Wire};
 use cube_model::{NoMemory, Text};
 use std::alloc::Global;
 
 const HELP: &[u8] =
-    b"cube sum --facts FILE   answers each line of the input by a sum over the file\ncube --help             prints this text\ncube --version          prints the version\n";
+    b"cube sum --facts FILE                               answers each line of the input by a sum over the file\ncube check --dims FILE --facts FILE                 says what the files hold\ncube ask --dims FILE --facts FILE [--requests N]    answers each line of the input as a query\ncube --help                                         prints this text\ncube --version                                      prints the version\n";
 
 const VERSION: &[u8] = b"cube 0.1.0\n";
 
@@ -64,37 +74,6 @@ fn print<O: Sink>(alloc: Global, room: Room, text: &[u8], out: &mut O) -> Report
     }
 }
 
-fn unreadable_text(alloc: Global, name: &Text) -> Result<Text, NoMemory>
-    ensures { IfOk result (λ text. text ≡ codes "cannot read " ++ name.now ++ codes "\n") }
-{
-    let mut text = Text::from_bytes(alloc, b"cannot read ")?;
-    text.extend(name.as_slice())?;
-    text.extend(b"\n")?;
-    Ok(text)
-}
-
-fn refused_text(alloc: Global, fault: &FactsFault) -> Result<Text, NoMemory>
-    ensures { IfOk result (λ text. text ≡ codes "facts: " ++ facts_words fault.now ++ codes "\n") }
-{
-    let mut text = Text::from_bytes(alloc, b"facts: ")?;
-    text.extend(fault_words(alloc, fault)?.as_slice())?;
-    text.extend(b"\n")?;
-    Ok(text)
-}
-
-fn refuse_facts(alloc: Global, room: Room, fault: FactsFault) -> Report
-    requires { room ≡ [] }
-    ensures { NoRoom result ⊎ IsReport 7 (codes "no memory\n") result ⊎ ((fault ≢ faults.NoMemory) × IsReport 3 (codes "facts: " ++ facts_words fault ++ codes "\n") result) }
-{
-    match fault {
-        FactsFault::NoMemory => room.with(b"no memory\n").close(alloc, 7),
-        other => match refused_text(alloc, &other) {
-            Ok(text) => with_text(alloc, 3, text),
-            Err(_) => no_room(alloc),
-        },
-    }
-}
-
 fn status_of(ending: Ending) -> u8
     ensures { result ≡ status_in ending }
 {
@@ -118,37 +97,38 @@ fn spent_room(room: Room, lines: u64, bytes: u64) -> Room
         .with(b" events\n")
 }
 
-fn ending_room(room: Room, end: TalkEnd) -> Room
+fn ending_room(room: Room, end: TalkEnd, requests: u64) -> Room
     requires { room ≡ [] }
-    ensures { result ≡ ending_text end.ending end.lines end.bytes }
+    ensures { result ≡ ending_text end.ending requests end.bytes }
 {
     match end.ending {
         Ending::Ended => room,
         Ending::InputFailed => room.with(b"input failed\n"),
         Ending::OutputFailed => room.with(b"output failed\n"),
         Ending::NoMemory => room.with(b"no memory\n"),
-        Ending::Spent => spent_room(room, end.lines, end.bytes),
+        Ending::Spent => spent_room(room, requests, end.bytes),
     }
 }
 
-fn report_talk(alloc: Global, room: Room, end: TalkEnd) -> Report
+fn report_talk(alloc: Global, room: Room, end: TalkEnd, requests: u64) -> Report
     requires { room ≡ [] }
-    ensures { IsReport (status_in end.ending) (ending_text end.ending end.lines end.bytes) result }
+    ensures { IsReport (status_in end.ending) (ending_text end.ending requests end.bytes) result }
 {
-    ending_room(room, end).close(alloc, status_of(end.ending))
+    ending_room(room, end, requests).close(alloc, status_of(end.ending))
 }
 
 // The sums over a file for the lines of the input.
-fn sum<F: Folder, I: Source, O: Sink>(
+fn sum<F: Folder, S: Store, I: Source, O: Sink>(
     alloc: Global,
     room: Room,
     name: &Text,
     files: &mut F,
+    store: &mut S,
     input: &mut I,
     out: &mut O,
 ) -> Report
     requires { room ≡ [] }
-    ensures answers { (EndsEarly name.now (F.files files.old) (F.faults files.old) (F.faults files.new) result × (input.new ≡ input.old) × (out.new ≡ out.old))
+    ensures answers { (Unopened flat_said name.now (F.files files.old) (F.faults files.old) (F.faults files.new) result × (input.new ≡ input.old) × (out.new ≡ out.old))
         ⊎ (Answered name.now (F.files files.old) (I.left input.old) (I.left input.new) (O.written out.old) (O.written out.new) result × (F.faults files.new ≡ F.faults files.old)) }
     ensures asks { AsksOnce name.now (F.asked files.old) (F.asked files.new) (F.faults files.old) (F.faults files.new) result }
     ensures ended { result.status ≡ 0 → I.ended input.new ≡ true }
@@ -156,23 +136,199 @@ fn sum<F: Folder, I: Source, O: Sink>(
     ensures output { result.status ≡ 6 → Rose (O.faults out.old) (O.faults out.new) }
     ensures steady { result.status ≢ 5 → (F.faults files.new ≡ F.faults files.old) × (I.faults input.new ≡ I.faults input.old) }
     ensures output_steady { result.status ≢ 6 → O.faults out.new ≡ O.faults out.old }
+    ensures complete { HasFlat name.now (F.files files.old) → result.status ≢ 10 → ¬ Rose (F.faults files.old) (F.faults files.new) → ¬ Rose (I.faults input.old) (I.faults input.new) → ¬ Rose (O.faults out.old) (O.faults out.new) → (result.status ≡ 0) ⊎ (result.status ≡ 7) }
+    ensures words { result.status ≢ 2 }
+    ensures outcomes { result.outcomes ≡ [] }
+    ensures store { store.new ≡ store.old }
 {
-    let Ok(unreadable) = unreadable_text(alloc, name) else {
-        return no_room(alloc);
+    let opened = match open_flat(alloc, room, name, files) {
+        Ok(opened) => opened,
+        Err(report) => return report,
     };
-    let bytes = match files.read_file(alloc, name) {
-        Ok(bytes) => bytes,
-        Err(FileFault::Failed) => return with_text(alloc, 5, unreadable),
-        Err(FileFault::TooLong) => return room
-            .with(b"facts: limit file 67108864\n")
-            .close(alloc, 3),
-        Err(FileFault::NoMemory) => return room.with(b"no memory\n").close(alloc, 7),
+    let Ok(carry) = Carry::new(alloc) else {
+        return opened.room.with(b"no memory\n").close(alloc, 7);
     };
-    let flat = match read_flat(alloc, bytes.as_slice()) {
-        Ok(flat) => flat,
-        Err(fault) => return refuse_facts(alloc, room, fault),
+    let (end, lines) = converse_by_sums(alloc, carry, opened.value, store, input, out);
+    report_talk(alloc, opened.room, end, lines)
+}
+
+// The summary of what a dimension file and a fact file hold.
+fn check<F: Folder, O: Sink>(
+    alloc: Global,
+    room: Room,
+    dims_name: &Text,
+    facts_name: &Text,
+    files: &mut F,
+    out: &mut O,
+) -> Report
+    requires { room ≡ [] }
+    ensures checks { (EndsUnopened dims_name.now facts_name.now (F.files files.old) (F.faults files.old) (F.faults files.new) result × (out.new ≡ out.old))
+        ⊎ (Checked dims_name.now facts_name.now (F.files files.old) (O.written out.old) (O.written out.new) result × (F.faults files.new ≡ F.faults files.old)) }
+    ensures asks { AsksBoth dims_name.now facts_name.now (F.files files.old) (F.asked files.old) (F.asked files.new) (F.faults files.old) (F.faults files.new) result }
+    ensures unreadable { result.status ≡ 5 → Rose (F.faults files.old) (F.faults files.new) }
+    ensures output { result.status ≡ 6 → Rose (O.faults out.old) (O.faults out.new) }
+    ensures steady { result.status ≢ 5 → F.faults files.new ≡ F.faults files.old }
+    ensures output_steady { result.status ≢ 6 → O.faults out.new ≡ O.faults out.old }
+    ensures complete { HasBoth dims_name.now facts_name.now (F.files files.old) → ¬ Rose (F.faults files.old) (F.faults files.new) → ¬ Rose (O.faults out.old) (O.faults out.new) → (result.status ≡ 0) ⊎ (result.status ≡ 7) }
+    ensures words { result.status ≢ 2 }
+    ensures outcomes { result.outcomes ≡ [] }
+{
+    let opened = match open_core(alloc, room, dims_name, facts_name, files) {
+        Ok(opened) => opened,
+        Err(report) => return report,
     };
-    report_talk(alloc, room, converse(alloc, &flat, input, out))
+    match check_text(alloc, &opened.value) {
+        Ok(text) => print(alloc, opened.room, text.as_slice(), out),
+        Err(_) => opened.room.with(b"no memory\n").close(alloc, 7),
+    }
+}
+
+// An engine over a core, under the policy that leaves each measure open.
+fn start_engine(alloc: Global, core: Core, stated: u64) -> Result<Engine, NoMemory>
+    ensures engine { IfOk result (λ engine. engine ≡ record { core = core; policy = open_policy core.dims; history = []; outcomes = []; left = stated }) }
+    ensures still { IfOk result (λ engine. IsStill (manner core.dims) (rooms_of engine)) }
+{
+    let policy = make_open(alloc, core.dims())?;
+    Engine::start(alloc, core, policy, stated)
+}
+
+fn report_asks(room: Room, end: TalkEnd, engine: Engine) -> Report
+    requires { room ≡ [] }
+    ensures status { result.status ≡ status_in end.ending }
+    ensures text { result.text ≡ ending_text end.ending (length engine.outcomes) end.bytes }
+    ensures outcomes { result.outcomes ≡ engine.outcomes }
+{
+    let room = ending_room(room, end, engine.outcomes().len() as u64);
+    room.close_with(status_of(end.ending), engine.finish())
+}
+
+// The answers of a cube to the lines of the input.
+fn ask<F: Folder, S: Store, I: Source, O: Sink>(
+    alloc: Global,
+    room: Room,
+    dims_name: &Text,
+    facts_name: &Text,
+    stated: u64,
+    files: &mut F,
+    store: &mut S,
+    input: &mut I,
+    out: &mut O,
+) -> Report
+    requires room { room ≡ [] }
+    requires stated { 1 ≤ stated }
+    ensures answers { (EndsUnopened dims_name.now facts_name.now (F.files files.old) (F.faults files.old) (F.faults files.new) result × (input.new ≡ input.old) × (out.new ≡ out.old))
+        ⊎ (Asked dims_name.now facts_name.now stated (F.files files.old) (I.left input.old) (I.left input.new) (O.written out.old) (O.written out.new) result × (F.faults files.new ≡ F.faults files.old)) }
+    ensures asks { AsksBoth dims_name.now facts_name.now (F.files files.old) (F.asked files.old) (F.asked files.new) (F.faults files.old) (F.faults files.new) result }
+    ensures ended { result.status ≡ 0 → I.ended input.new ≡ true }
+    ensures unreadable { result.status ≡ 5 → (Rose (F.faults files.old) (F.faults files.new) × (I.faults input.new ≡ I.faults input.old)) ⊎ (Rose (I.faults input.old) (I.faults input.new) × (F.faults files.new ≡ F.faults files.old)) }
+    ensures output { result.status ≡ 6 → Rose (O.faults out.old) (O.faults out.new) }
+    ensures memory { result.status ≡ 7 → (input.new ≡ input.old) × (out.new ≡ out.old) × (result.outcomes ≡ []) }
+    ensures steady { result.status ≢ 5 → (F.faults files.new ≡ F.faults files.old) × (I.faults input.new ≡ I.faults input.old) }
+    ensures output_steady { result.status ≢ 6 → O.faults out.new ≡ O.faults out.old }
+    ensures complete { HasBoth dims_name.now facts_name.now (F.files files.old) → result.status ≢ 10 → ¬ Rose (F.faults files.old) (F.faults files.new) → ¬ Rose (I.faults input.old) (I.faults input.new) → ¬ Rose (O.faults out.old) (O.faults out.new) → (result.status ≡ 0) ⊎ (result.status ≡ 7) }
+    ensures words { result.status ≢ 2 }
+    ensures store { store.new ≡ store.old }
+{
+    let opened = match open_core(alloc, room, dims_name, facts_name, files) {
+        Ok(opened) => opened,
+        Err(report) => return report,
+    };
+    let Ok(engine) = start_engine(alloc, opened.value, stated) else {
+        return opened.room.with(b"no memory\n").close(alloc, 7);
+    };
+    let Ok(carry) = Carry::new(alloc) else {
+        return opened.room.with(b"no memory\n").close(alloc, 7);
+    };
+    let (end, engine) = converse_by_asks(alloc, carry, engine, store, input, out);
+    report_asks(opened.room, end, engine)
+}
+
+// Does what a command asks for.
+fn obey<F: Folder, S: Store, I: Source, O: Sink>(
+    alloc: Global,
+    room: Room,
+    command: Command,
+    words: &[Text],
+    files: &mut F,
+    store: &mut S,
+    input: &mut I,
+    out: &mut O,
+) -> Report
+    requires room { room ≡ [] }
+    requires orders { orders_in words.now ≡ Ok command }
+    // The texts about the program go to the sink.
+    ensures help { command ≡ orders.Help → Prints help_text (O.written out.old) (O.written out.new) result }
+    ensures version { command ≡ orders.Version → Prints version_text (O.written out.old) (O.written out.new) result }
+
+    // The lines of the input are answered by the sums over the file, unless the run ended before.
+    ensures sum { command ≡ orders.Sum → (Unopened flat_said (facts_name words.now) (F.files files.old) (F.faults files.old) (F.faults files.new) result × (input.new ≡ input.old) × (out.new ≡ out.old))
+        ⊎ (Answered (facts_name words.now) (F.files files.old) (I.left input.old) (I.left input.new) (O.written out.old) (O.written out.new) result × (F.faults files.new ≡ F.faults files.old)) }
+    ensures asks { command ≡ orders.Sum → AsksOnce (facts_name words.now) (F.asked files.old) (F.asked files.new) (F.faults files.old) (F.faults files.new) result }
+    ensures ended { command ≡ orders.Sum → result.status ≡ 0 → I.ended input.new ≡ true }
+
+    // The summary of the two files is put on the sink, unless the run ended before.
+    ensures check { command ≡ orders.Check → (EndsUnopened (dims_name words.now) (facts_name words.now) (F.files files.old) (F.faults files.old) (F.faults files.new) result × (out.new ≡ out.old))
+        ⊎ (Checked (dims_name words.now) (facts_name words.now) (F.files files.old) (O.written out.old) (O.written out.new) result × (F.faults files.new ≡ F.faults files.old)) }
+    ensures asks_both { command ≡ orders.Check → AsksBoth (dims_name words.now) (facts_name words.now) (F.files files.old) (F.asked files.old) (F.asked files.new) (F.faults files.old) (F.faults files.new) result }
+
+    // The asks of the input are answered by the cube of the two files, unless the run ended before.
+    ensures ask { command ≡ orders.Ask → (EndsUnopened (dims_name words.now) (facts_name words.now) (F.files files.old) (F.faults files.old) (F.faults files.new) result × (input.new ≡ input.old) × (out.new ≡ out.old))
+        ⊎ (Asked (dims_name words.now) (facts_name words.now) (stated_in words.now) (F.files files.old) (I.left input.old) (I.left input.new) (O.written out.old) (O.written out.new) result × (F.faults files.new ≡ F.faults files.old)) }
+    ensures ask_asks { command ≡ orders.Ask → AsksBoth (dims_name words.now) (facts_name words.now) (F.files files.old) (F.asked files.old) (F.asked files.new) (F.faults files.old) (F.faults files.new) result }
+    ensures ask_ended { command ≡ orders.Ask → result.status ≡ 0 → I.ended input.new ≡ true }
+    ensures ask_memory { command ≡ orders.Ask → result.status ≡ 7 → (input.new ≡ input.old) × (out.new ≡ out.old) × (result.outcomes ≡ []) }
+
+    // A fault is answered only where it was counted in this call, and at most one count rises.
+    ensures unreadable { result.status ≡ 5 → (Rose (F.faults files.old) (F.faults files.new) × (I.faults input.new ≡ I.faults input.old)) ⊎ (Rose (I.faults input.old) (I.faults input.new) × (F.faults files.new ≡ F.faults files.old)) }
+    ensures output { result.status ≡ 6 → Rose (O.faults out.old) (O.faults out.new) }
+    ensures steady { result.status ≢ 5 → (F.faults files.new ≡ F.faults files.old) × (I.faults input.new ≡ I.faults input.old) }
+    ensures output_steady { result.status ≢ 6 → O.faults out.new ≡ O.faults out.old }
+
+    // Where the file is accepted, no count rose and less was taken than is taken at most, all was done, or memory ran out.
+    ensures complete { command ≡ orders.Sum → HasFlat (facts_name words.now) (F.files files.old) → result.status ≢ 10
+        → ¬ Rose (F.faults files.old) (F.faults files.new) → ¬ Rose (I.faults input.old) (I.faults input.new) → ¬ Rose (O.faults out.old) (O.faults out.new) → (result.status ≡ 0) ⊎ (result.status ≡ 7) }
+
+    ensures check_complete { command ≡ orders.Check → HasBoth (dims_name words.now) (facts_name words.now) (F.files files.old)
+        → ¬ Rose (F.faults files.old) (F.faults files.new) → ¬ Rose (O.faults out.old) (O.faults out.new) → (result.status ≡ 0) ⊎ (result.status ≡ 7) }
+
+    ensures ask_complete { command ≡ orders.Ask → HasBoth (dims_name words.now) (facts_name words.now) (F.files files.old) → result.status ≢ 10
+        → ¬ Rose (F.faults files.old) (F.faults files.new) → ¬ Rose (I.faults input.old) (I.faults input.new) → ¬ Rose (O.faults out.old) (O.faults out.new) → (result.status ≡ 0) ⊎ (result.status ≡ 7) }
+
+    // What a command doesn't use is as at entry.
+    ensures unread { command ≢ orders.Sum → command ≢ orders.Ask → input.new ≡ input.old }
+    ensures unused { command ≢ orders.Sum → command ≢ orders.Check → command ≢ orders.Ask → files.new ≡ files.old }
+    ensures words { result.status ≢ 2 }
+    ensures store { store.new ≡ store.old }
+    ensures outcomes { command ≢ orders.Ask → result.outcomes ≡ [] }
+{
+    match command {
+        Command::Help => print(alloc, room, HELP, out),
+        Command::Version => print(alloc, room, VERSION, out),
+        Command::Sum => {
+            let facts = needed_value(words, command, Setting::Facts);
+            sum(alloc, room, facts, files, store, input, out)
+        }
+        Command::Check => {
+            let dims = needed_value(words, command, Setting::Dims);
+            let facts = needed_value(words, command, Setting::Facts);
+            check(alloc, room, dims, facts, files, out)
+        }
+        Command::Ask => {
+            let dims = needed_value(words, command, Setting::Dims);
+            let facts = needed_value(words, command, Setting::Facts);
+            ask(
+                alloc,
+                room,
+                dims,
+                facts,
+                stated(words),
+                files,
+                store,
+                input,
+                out,
+            )
+        }
+    }
 }
 
 /// All that the program does. It takes the words of the command line and the objects outside, and answers how the run ended.
@@ -196,10 +352,22 @@ pub fn run<F: Folder, S: Store, I: Source, O: Sink, W: Wire>(
     ensures version { orders_in words.now ≡ Ok orders.Version → Prints version_text (O.written out.old) (O.written out.new) result }
 
     // The lines of the input are answered by the sums over the file, unless the run ended before.
-    ensures sum { orders_in words.now ≡ Ok orders.Sum → (EndsEarly (facts_name words.now) (F.files files.old) (F.faults files.old) (F.faults files.new) result × (input.new ≡ input.old) × (out.new ≡ out.old))
+    ensures sum { orders_in words.now ≡ Ok orders.Sum → (Unopened flat_said (facts_name words.now) (F.files files.old) (F.faults files.old) (F.faults files.new) result × (input.new ≡ input.old) × (out.new ≡ out.old))
         ⊎ (Answered (facts_name words.now) (F.files files.old) (I.left input.old) (I.left input.new) (O.written out.old) (O.written out.new) result × (F.faults files.new ≡ F.faults files.old)) }
     ensures asks { orders_in words.now ≡ Ok orders.Sum → AsksOnce (facts_name words.now) (F.asked files.old) (F.asked files.new) (F.faults files.old) (F.faults files.new) result }
     ensures ended { orders_in words.now ≡ Ok orders.Sum → result.status ≡ 0 → I.ended input.new ≡ true }
+
+    // The summary of the two files is put on the sink, unless the run ended before.
+    ensures check { orders_in words.now ≡ Ok orders.Check → (EndsUnopened (dims_name words.now) (facts_name words.now) (F.files files.old) (F.faults files.old) (F.faults files.new) result × (out.new ≡ out.old))
+        ⊎ (Checked (dims_name words.now) (facts_name words.now) (F.files files.old) (O.written out.old) (O.written out.new) result × (F.faults files.new ≡ F.faults files.old)) }
+    ensures asks_both { orders_in words.now ≡ Ok orders.Check → AsksBoth (dims_name words.now) (facts_name words.now) (F.files files.old) (F.asked files.old) (F.asked files.new) (F.faults files.old) (F.faults files.new) result }
+
+    // The asks of the input are answered by the cube of the two files, unless the run ended before.
+    ensures ask { orders_in words.now ≡ Ok orders.Ask → (EndsUnopened (dims_name words.now) (facts_name words.now) (F.files files.old) (F.faults files.old) (F.faults files.new) result × (input.new ≡ input.old) × (out.new ≡ out.old))
+        ⊎ (Asked (dims_name words.now) (facts_name words.now) (stated_in words.now) (F.files files.old) (I.left input.old) (I.left input.new) (O.written out.old) (O.written out.new) result × (F.faults files.new ≡ F.faults files.old)) }
+    ensures ask_asks { orders_in words.now ≡ Ok orders.Ask → AsksBoth (dims_name words.now) (facts_name words.now) (F.files files.old) (F.asked files.old) (F.asked files.new) (F.faults files.old) (F.faults files.new) result }
+    ensures ask_ended { orders_in words.now ≡ Ok orders.Ask → result.status ≡ 0 → I.ended input.new ≡ true }
+    ensures ask_memory { orders_in words.now ≡ Ok orders.Ask → result.status ≡ 7 → (input.new ≡ input.old) × (out.new ≡ out.old) × (result.outcomes ≡ []) }
 
     // A fault is answered only where it was counted in this call, and at most one count rises.
     ensures unreadable { result.status ≡ 5 → (Rose (F.faults files.old) (F.faults files.new) × (I.faults input.new ≡ I.faults input.old)) ⊎ (Rose (I.faults input.old) (I.faults input.new) × (F.faults files.new ≡ F.faults files.old)) }
@@ -208,27 +376,28 @@ pub fn run<F: Folder, S: Store, I: Source, O: Sink, W: Wire>(
     ensures output_steady { result.status ≢ 6 → O.faults out.new ≡ O.faults out.old }
 
     // Where the file is accepted, no count rose and less was taken than is taken at most, all was done, or memory ran out.
-    ensures complete { orders_in words.now ≡ Ok orders.Sum → HasFile (facts_name words.now) (F.files files.old) → result.status ≢ 10
+    ensures complete { orders_in words.now ≡ Ok orders.Sum → HasFlat (facts_name words.now) (F.files files.old) → result.status ≢ 10
+        → ¬ Rose (F.faults files.old) (F.faults files.new) → ¬ Rose (I.faults input.old) (I.faults input.new) → ¬ Rose (O.faults out.old) (O.faults out.new) → (result.status ≡ 0) ⊎ (result.status ≡ 7) }
+
+    ensures check_complete { orders_in words.now ≡ Ok orders.Check → HasBoth (dims_name words.now) (facts_name words.now) (F.files files.old)
+        → ¬ Rose (F.faults files.old) (F.faults files.new) → ¬ Rose (O.faults out.old) (O.faults out.new) → (result.status ≡ 0) ⊎ (result.status ≡ 7) }
+
+    ensures ask_complete { orders_in words.now ≡ Ok orders.Ask → HasBoth (dims_name words.now) (facts_name words.now) (F.files files.old) → result.status ≢ 10
         → ¬ Rose (F.faults files.old) (F.faults files.new) → ¬ Rose (I.faults input.old) (I.faults input.new) → ¬ Rose (O.faults out.old) (O.faults out.new) → (result.status ≡ 0) ⊎ (result.status ≡ 7) }
 
     // What a command doesn't use is as at entry.
-    ensures unused { orders_in words.now ≢ Ok orders.Sum → (files.new ≡ files.old) × (input.new ≡ input.old) }
+    ensures unread { orders_in words.now ≢ Ok orders.Sum → orders_in words.now ≢ Ok orders.Ask → input.new ≡ input.old }
+    ensures unused { orders_in words.now ≢ Ok orders.Sum → orders_in words.now ≢ Ok orders.Check → orders_in words.now ≢ Ok orders.Ask → files.new ≡ files.old }
     ensures store { store.new ≡ store.old }
     ensures wire { wire.new ≡ wire.old }
-    ensures outcomes { result.outcomes ≡ [] }
+    ensures outcomes { orders_in words.now ≢ Ok orders.Ask → result.outcomes ≡ [] }
 {
-    let _store = store;
     let _wire = wire;
     let Ok(room) = Room::new(alloc) else {
         return no_room(alloc);
     };
     match orders_of(words) {
         Err(usage) => refuse_words(alloc, words, usage),
-        Ok(Command::Help) => print(alloc, room, HELP, out),
-        Ok(Command::Version) => print(alloc, room, VERSION, out),
-        Ok(Command::Sum) => match value_of(words, Setting::Facts) {
-            Some(name) => sum(alloc, room, name, files, input, out),
-            None => unreachable!(),
-        },
+        Ok(command) => obey(alloc, room, command, words, files, store, input, out),
     }
 }

@@ -1,18 +1,17 @@
 // The answers to the lines of an input.
-ghost use Rattle.std.specs.Prelude.{position, ◌≡◌, ◌≢◌, ◌<◌, ◌≤◌, ◌+◌, ◌-◌, ◌++◌, ◌∷◌, [], ℕ, List, length, take, false, true, All, IfOk, OnOk, OnErr, IfSome, IfNone, if◌then◌else◌, ◌==◌};
+ghost use Rattle.std.specs.Prelude.{position, ◌≡◌, ◌≢◌, ◌⊎◌, ◌<◌, ◌≤◌, ◌+◌, ◌-◌, ◌++◌, ◌∷◌, [], ℕ, List, length, take, false, true, All, IfOk, OnOk, OnErr, IfSome, IfNone, Ok, Some, None, Option};
 ghost use Rattle.std.specs.Str.Lines.{strip_carriage_return};
 ghost use Rattle.std.specs.Io.KnownBytes.{Appends, Consumes};
 ghost use Rattle.cube_io.specs.Causes.{Rose, HasCause};
 ghost use Rattle.cube_io.specs.Content.{AppendsPrefix};
 ghost use Rattle.cube_app.specs.Lines.{is_feed};
-ghost use Rattle.cube_app.specs.Talk.{answer, shown, up_to, max_lines, Talked};
-ghost use Rattle.cube_app.specs.Piece.{kept_bytes, IsKept, HeardAll, HeardSome};
+ghost use Rattle.cube_app.specs.Talk.{IsKept, Spoke, Puts, Conversed};
+ghost use Rattle.cube_app.specs.Piece.{Says, HeardLine, HeardAll, HeardSome, PutsBy, Follows, Stops};
 
 use crate::carry::Carry;
-use cube_facts::{Flat, FlatReply, sum_flat};
-use cube_io::{Failed, Sink, Source};
-use cube_model::{NoMemory, Text};
-use cube_text::write_units;
+use crate::replies::Replies;
+use crate::responder::Responder;
+use cube_io::{Failed, Sink, Source, Store};
 use std::alloc::Global;
 
 /// How the talk over an input ended.
@@ -30,36 +29,9 @@ pub enum Ending {
     Spent,
 }
 
-const MAX_LINE: usize = 65_536;
-
-const MAX_LINES: u64 = 16_777_216;
-
 const MAX_INPUT: u64 = 1 << 40;
 
 const PIECE: usize = 65_536;
-
-fn shown_text(alloc: Global, reply: FlatReply) -> Result<Text, NoMemory>
-    ensures { IfOk result (λ text. text ≡ shown reply) }
-{
-    match reply {
-        FlatReply::Sum(sum) => {
-            let mut text = write_units(alloc, sum, 0)?;
-            text.extend(b"\n")?;
-            Ok(text)
-        }
-        FlatReply::Fields => Text::from_bytes(alloc, b"bad line: fields\n"),
-        FlatReply::Quote => Text::from_bytes(alloc, b"bad line: quote\n"),
-    }
-}
-
-fn answer_line(alloc: Global, flat: &Flat, line: &[u8]) -> Result<Text, NoMemory>
-    ensures { IfOk result (λ text. text ≡ answer flat.now line.now) }
-{
-    if line.len() > MAX_LINE {
-        return Text::from_bytes(alloc, b"bad line: too long\n");
-    }
-    shown_text(alloc, sum_flat(flat, line))
-}
 
 fn without_return(line: &[u8]) -> &[u8]
     ensures { result.now ≡ strip_carriage_return line.now }
@@ -87,71 +59,143 @@ fn find_feed(bytes: &[u8]) -> Option<usize>
     bytes.iter().position(|byte| *byte == b'\n')
 }
 
-// Answers the line that these bytes end.
-fn end_line(
-    alloc: Global,
-    flat: &Flat,
-    bytes: &[u8],
-    carry: &mut Carry,
-    replies: &mut Text,
-) -> Result<(), NoMemory>
-    ensures ok { (open_part : List ℕ) → carry.old ≡ up_to kept_bytes open_part → OnOk result ((carry.new ≡ []) × (replies.new ≡ replies.old ++ answer flat.now (strip_carriage_return (open_part ++ bytes.now)))) }
-    ensures err { OnErr result (replies.new ≡ replies.old) }
-{
-    carry.extend(bytes)?;
-    let text = answer_line(alloc, flat, without_return(carry.as_slice()))?;
-    replies.extend(text.as_slice())?;
-    carry.clear();
-    Ok(())
-}
-
-/// How far a piece was answered.
+/// How far some lines were answered.
 #[derive(Clone, Copy, Debug, PartialEq, Eq)]
 enum Heard {
     All,
     Spent,
     NoMemory,
+    OutputFailed,
+}
+
+// Answers a line.
+fn answer_line<S: Store, R: Responder<S>, O: Sink>(
+    alloc: Global,
+    responder: &mut R,
+    store: &mut S,
+    line: &[u8],
+    replies: &mut Replies,
+    out: &mut O,
+) -> Heard
+    requires stands { R.stands responder.old store.old }
+    requires going { R.done responder.old ≡ false }
+    ensures said { result ≢ Heard.NoMemory → HeardLine R.says (Says result replies.old replies.new (O.written out.old) (O.written out.new)) responder.old responder.new store.old store.new line.now }
+    ensures memory { result ≡ Heard.NoMemory → (responder.new ≡ responder.old) × (store.new ≡ store.old) × (replies.new ≡ replies.old) × (out.new ≡ out.old) × (R.lacks ≡ true) }
+    ensures going { result ≡ Heard.All → R.done responder.new ≡ false }
+    ensures spent { result ≡ Heard.Spent → R.done responder.new ≡ true }
+    ensures failed { result ≡ Heard.OutputFailed → Rose (O.faults out.old) (O.faults out.new) }
+    ensures steady { result ≢ Heard.OutputFailed → O.faults out.new ≡ O.faults out.old }
+    ensures stands { R.stands responder.new store.new }
+{
+    let said = match responder.answer(alloc, store, line) {
+        Ok(said) => said,
+        Err(_) => return Heard::NoMemory,
+    };
+    match replies.say(out, &said) {
+        Ok(()) => {}
+        Err(_) => return Heard::OutputFailed,
+    }
+    if responder.is_done() {
+        return Heard::Spent;
+    }
+    Heard::All
 }
 
 // Answers the lines that end in a piece.
-fn answer_piece(
+fn answer_piece<S: Store, R: Responder<S>, O: Sink>(
     alloc: Global,
-    flat: &Flat,
+    responder: &mut R,
+    store: &mut S,
     piece: &[u8],
     carry: &mut Carry,
-    lines: &mut u64,
-    replies: &mut Text,
+    replies: &mut Replies,
+    out: &mut O,
 ) -> Heard
-    requires { lines.old < max_lines }
-    ensures all { result ≡ Heard.All → (open_part : List ℕ) → IsKept carry.old open_part → HeardAll flat.now open_part piece.now lines.old lines.new replies.old replies.new carry.new }
-    ensures some { result ≢ Heard.All → (open_part : List ℕ) → IsKept carry.old open_part → HeardSome flat.now open_part piece.now lines.old lines.new replies.old replies.new }
-    ensures spent { result ≡ Heard.Spent → lines.new ≡ max_lines }
+    requires stands { R.stands responder.old store.old }
+    requires going { R.done responder.old ≡ false }
+    ensures all { result ≡ Heard.All → (open_part : List ℕ) → IsKept carry.old open_part
+        → HeardAll R.says (Says result replies.old replies.new (O.written out.old) (O.written out.new)) responder.old responder.new store.old store.new open_part piece.now carry.new }
+    ensures some { result ≢ Heard.All → (open_part : List ℕ) → IsKept carry.old open_part
+        → HeardSome R.says (Says result replies.old replies.new (O.written out.old) (O.written out.new)) responder.old responder.new store.old store.new open_part piece.now }
+    ensures going { result ≡ Heard.All → R.done responder.new ≡ false }
+    ensures spent { result ≡ Heard.Spent → R.done responder.new ≡ true }
+    ensures memory { result ≡ Heard.NoMemory → R.lacks ≡ true }
+    ensures failed { result ≡ Heard.OutputFailed → Rose (O.faults out.old) (O.faults out.new) }
+    ensures steady { result ≢ Heard.OutputFailed → O.faults out.new ≡ O.faults out.old }
+    ensures stands { R.stands responder.new store.new }
 {
     let mut rest = piece;
     'lines: loop {
         let Some((line, behind)) = cut_line(rest) else {
-            return match carry.extend(rest) {
-                Ok(()) => Heard::All,
-                Err(_) => Heard::NoMemory,
-            };
+            carry.extend(rest);
+            return Heard::All;
         };
-        match end_line(alloc, flat, line, carry, replies) {
-            Ok(()) => {}
-            Err(_) => return Heard::NoMemory,
+        carry.extend(line);
+        let line = without_return(carry.as_slice());
+        match answer_line(alloc, responder, store, line, replies, out) {
+            Heard::All => {}
+            heard => return heard,
         }
-        *lines += 1;
-        if *lines >= MAX_LINES {
-            return Heard::Spent;
-        }
+        carry.clear();
         rest = behind;
     }
 }
 
-/// How a talk ended, how many lines it counted, and how many bytes of the input were taken.
+// Writes what waits behind lines that were answered so far. Says how the talk ends, if it does.
+#[tactic(auto, using(crate::proofs::Spoken::spoke_flushed, crate::proofs::Spoken::spoke_half))]
+fn settle<O: Sink>(heard: Heard, replies: &mut Replies, out: &mut O) -> Option<Ending>
+    ensures puts { (start : Option (List ℕ)) (text : List ℕ) → Says heard [] replies.old start (O.written out.old) text → PutsBy result start (O.written out.new) text }
+    ensures follows { Follows heard result }
+    ensures empty { result ≡ None → replies.new ≡ [] }
+    ensures quiet { replies.old ≡ [] → heard ≢ Heard.OutputFailed → result ≢ Some Ending.OutputFailed }
+    ensures failed { result ≡ Some Ending.OutputFailed → ((heard ≡ Heard.OutputFailed) × (out.new ≡ out.old)) ⊎ ((heard ≢ Heard.OutputFailed) × Rose (O.faults out.old) (O.faults out.new)) }
+    ensures steady { result ≢ Some Ending.OutputFailed → (heard ≢ Heard.OutputFailed) × (O.faults out.new ≡ O.faults out.old) }
+{
+    if heard == Heard::OutputFailed {
+        return Some(Ending::OutputFailed);
+    }
+    match replies.flush(out) {
+        Ok(()) => {}
+        Err(_) => return Some(Ending::OutputFailed),
+    }
+    match heard {
+        Heard::Spent => Some(Ending::Spent),
+        Heard::NoMemory => Some(Ending::NoMemory),
+        _ => None,
+    }
+}
+
+// Answers the lines that end in a piece, and writes the answers together. Says how the talk ends, if it does.
+fn hear_piece<S: Store, R: Responder<S>, O: Sink>(
+    alloc: Global,
+    responder: &mut R,
+    store: &mut S,
+    piece: &[u8],
+    carry: &mut Carry,
+    replies: &mut Replies,
+    out: &mut O,
+) -> Option<Ending>
+    requires stands { R.stands responder.old store.old }
+    requires going { R.done responder.old ≡ false }
+    requires empty { replies.old ≡ [] }
+    ensures all { result ≡ None → (open_part : List ℕ) → IsKept carry.old open_part
+        → HeardAll R.says (Appends (O.written out.old) (O.written out.new)) responder.old responder.new store.old store.new open_part piece.now carry.new }
+    ensures some { IfSome result (λ ending. (open_part : List ℕ) → IsKept carry.old open_part
+        → HeardSome R.says (Puts ending (O.written out.old) (O.written out.new)) responder.old responder.new store.old store.new open_part piece.now) }
+    ensures stops { IfSome result (λ ending. Stops ending (R.done responder.new) R.lacks) }
+    ensures going { result ≡ None → (R.done responder.new ≡ false) × (replies.new ≡ []) }
+    ensures failed { result ≡ Some Ending.OutputFailed → Rose (O.faults out.old) (O.faults out.new) }
+    ensures steady { result ≢ Some Ending.OutputFailed → O.faults out.new ≡ O.faults out.old }
+    ensures stands { R.stands responder.new store.new }
+{
+    let heard = answer_piece(alloc, responder, store, piece, carry, replies, out);
+    settle(heard, replies, out)
+}
+
+/// How a talk ended, and how many bytes of the input were taken.
 #[derive(Clone, Copy, Debug, PartialEq, Eq)]
 pub struct TalkEnd {
     pub ending: Ending,
-    pub lines: u64,
     pub bytes: u64,
 }
 
@@ -174,130 +218,93 @@ fn read_piece<I: Source>(input: &mut I, buf: &mut [u8], most: u64) -> Result<usi
 }
 
 // The end of the input: a last line without a line feed counts where it isn't empty.
-fn finish<O: Sink>(
+fn finish<S: Store, R: Responder<S>, O: Sink>(
     alloc: Global,
-    flat: &Flat,
+    responder: &mut R,
+    store: &mut S,
     carry: &Carry,
-    lines: u64,
-    bytes: u64,
+    replies: &mut Replies,
     out: &mut O,
-) -> TalkEnd
-    requires { lines < max_lines }
-    ensures bytes { result.bytes ≡ bytes }
-    ensures ended { result.ending ≡ Ending.Ended → (result.lines < max_lines) × (result.lines ≡ lines + (if length carry.now == 0 then 0 else 1)) × Appends (O.written out.old) (O.written out.new) (if length carry.now == 0 then [] else answer flat.now carry.now) }
-    ensures spent { result.ending ≡ Ending.Spent → (0 < length carry.now) × (result.lines ≡ max_lines) × (lines + 1 ≡ max_lines) × Appends (O.written out.old) (O.written out.new) (answer flat.now carry.now) }
-    ensures failed { result.ending ≡ Ending.OutputFailed → (0 < length carry.now) × AppendsPrefix (O.written out.old) (O.written out.new) (answer flat.now carry.now) × Rose (O.faults out.old) (O.faults out.new) }
-    ensures memory { result.ending ≡ Ending.NoMemory → out.new ≡ out.old }
-    ensures others { result.ending ≢ Ending.InputFailed }
-    ensures steady { result.ending ≢ Ending.OutputFailed → O.faults out.new ≡ O.faults out.old }
+) -> Ending
+    requires stands { R.stands responder.old store.old }
+    requires going { R.done responder.old ≡ false }
+    requires empty { replies.old ≡ [] }
+    ensures none { carry.now ≡ [] → (result ≡ Ending.Ended) × (responder.new ≡ responder.old) × (store.new ≡ store.old) × (out.new ≡ out.old) }
+    ensures said { carry.now ≢ [] → result ≢ Ending.NoMemory → HeardLine R.says (Puts result (O.written out.old) (O.written out.new)) responder.old responder.new store.old store.new carry.now }
+    ensures memory { result ≡ Ending.NoMemory → (responder.new ≡ responder.old) × (store.new ≡ store.old) × Appends (O.written out.old) (O.written out.new) [] × (R.lacks ≡ true) }
+    ensures ended { result ≡ Ending.Ended → R.done responder.new ≡ false }
+    ensures spent { result ≡ Ending.Spent → R.done responder.new ≡ true }
+    ensures others { result ≢ Ending.InputFailed }
+    ensures failed { result ≡ Ending.OutputFailed → Rose (O.faults out.old) (O.faults out.new) }
+    ensures steady { result ≢ Ending.OutputFailed → O.faults out.new ≡ O.faults out.old }
+    ensures stands { R.stands responder.new store.new }
 {
     if carry.as_slice().is_empty() {
-        return TalkEnd {
-            ending: say_nothing(out),
-            lines,
-            bytes,
-        };
+        return Ending::Ended;
     }
-    let Ok(text) = answer_line(alloc, flat, carry.as_slice()) else {
-        return TalkEnd {
-            ending: Ending::NoMemory,
-            lines,
-            bytes,
-        };
-    };
-    let ending = match out.put(text.as_slice()) {
-        Ok(()) if lines + 1 >= MAX_LINES => Ending::Spent,
-        Ok(()) => Ending::Ended,
-        Err(_) => Ending::OutputFailed,
-    };
-    TalkEnd {
-        ending,
-        lines: lines + 1,
-        bytes,
+    let heard = answer_line(alloc, responder, store, carry.as_slice(), replies, out);
+    match settle(heard, replies, out) {
+        Some(ending) => ending,
+        None => Ending::Ended,
     }
-}
-
-// Behind a last line feed nothing is left to answer, and nothing is put.
-fn say_nothing<O: Sink>(out: &mut O) -> Ending
-    ensures result { result ≡ Ending.Ended }
-    ensures same { out.new ≡ out.old }
-    ensures none { Appends (O.written out.old) (O.written out.new) [] }
-{
-    let _sink = out;
-    Ending::Ended
 }
 
 /// Answers the lines of the input in turn. The answers to the lines that end in one piece of the input are put together.
-pub fn converse<I: Source, O: Sink>(
+pub fn converse<S: Store, R: Responder<S>, I: Source, O: Sink>(
     alloc: Global,
-    flat: &Flat,
+    carry: Carry,
+    responder: &mut R,
+    store: &mut S,
     input: &mut I,
     out: &mut O,
 ) -> TalkEnd
-    ensures talked { Talked flat.now result.ending result.lines result.bytes (I.left input.old) (I.left input.new) (O.written out.old) (O.written out.new) }
+    requires carry { carry ≡ [] }
+    requires stands { R.stands responder.old store.old }
+    requires going { R.done responder.old ≡ false }
+    ensures conversed { Conversed R.says responder.old responder.new store.old store.new (R.done responder.new) result.ending result.bytes (I.left input.old) (I.left input.new) (O.written out.old) (O.written out.new) }
     ensures ended { result.ending ≡ Ending.Ended → I.ended input.new ≡ true }
+    ensures memory { result.ending ≡ Ending.NoMemory → R.lacks ≡ true }
     ensures input { result.ending ≡ Ending.InputFailed → Rose (I.faults input.old) (I.faults input.new) }
     ensures output { result.ending ≡ Ending.OutputFailed → Rose (O.faults out.old) (O.faults out.new) }
     ensures input_steady { result.ending ≢ Ending.InputFailed → I.faults input.new ≡ I.faults input.old }
     ensures output_steady { result.ending ≢ Ending.OutputFailed → O.faults out.new ≡ O.faults out.old }
+    ensures stands { R.stands responder.new store.new }
 {
     let mut buf = [0u8; PIECE];
-    let mut carry = Carry::new(alloc);
-    let mut lines = 0u64;
+    let mut carry = carry;
+    let mut replies = Replies::new(alloc);
     let mut bytes = 0u64;
     'reads: while bytes < MAX_INPUT {
         let count = match read_piece(input, &mut buf, MAX_INPUT - bytes) {
-            Ok(0) => return finish(alloc, flat, &carry, lines, bytes, out),
+            Ok(0) => {
+                let ending = finish(alloc, responder, store, &carry, &mut replies, out);
+                return TalkEnd { ending, bytes };
+            }
             Ok(count) => count,
             Err(_) => {
                 return TalkEnd {
                     ending: Ending::InputFailed,
-                    lines,
                     bytes,
                 };
             }
         };
         bytes += count as u64;
-        let mut replies = Text::new(alloc);
-        let heard = answer_piece(
+        let piece = &buf[..count];
+        match hear_piece(
             alloc,
-            flat,
-            &buf[..count],
+            responder,
+            store,
+            piece,
             &mut carry,
-            &mut lines,
             &mut replies,
-        );
-        match out.put(replies.as_slice()) {
-            Ok(()) => {}
-            Err(_) => {
-                return TalkEnd {
-                    ending: Ending::OutputFailed,
-                    lines,
-                    bytes,
-                };
-            }
-        }
-        match heard {
-            Heard::All => {}
-            Heard::Spent => {
-                return TalkEnd {
-                    ending: Ending::Spent,
-                    lines,
-                    bytes,
-                };
-            }
-            Heard::NoMemory => {
-                return TalkEnd {
-                    ending: Ending::NoMemory,
-                    lines,
-                    bytes,
-                };
-            }
+            out,
+        ) {
+            None => {}
+            Some(ending) => return TalkEnd { ending, bytes },
         }
     }
     TalkEnd {
         ending: Ending::Spent,
-        lines,
         bytes,
     }
 }

@@ -1,4 +1,7 @@
 // Runs over objects in memory, some of whose calls fail.
+mod ask;
+mod check;
+
 use crate::run::run;
 use cube_io::{MemFolder, MemSink, MemSource, NullStore, NullWire};
 use cube_model::{Items, Text, Texts};
@@ -9,10 +12,13 @@ const FACTS: &[u8] = b"city,month,pay\na,x,10\na,y,20\nb,x,30\n";
 
 const FILE: &[u8] = b"f";
 
-// What a run is given: the content of the file `f`, the input in pieces of at most so many bytes, and the numbers of
+const DIMS: &[u8] = b"d";
+
+// What a run is given: the contents of the files `d` and `f`, the input in pieces of at most so many bytes, and the numbers of
 // the calls that fail.
 #[derive(Clone, Copy)]
 struct Given<'a> {
+    dims: &'a [u8],
     facts: &'a [u8],
     input: &'a [u8],
     piece: usize,
@@ -26,11 +32,13 @@ struct Given<'a> {
 struct Got {
     status: u8,
     text: Text,
+    asks: usize,
     written: Vec<u8>,
 }
 
 fn world<'a>(facts: &'a [u8], input: &'a [u8]) -> Given<'a> {
     Given {
+        dims: b"",
         facts,
         input,
         piece: 3,
@@ -51,6 +59,10 @@ fn texts(alloc: Global, words: &[&[u8]]) -> Result<Texts, Fail> {
 fn ran(alloc: Global, words: &[&[u8]], given: &Given<'_>) -> Result<Got, Fail> {
     let words = texts(alloc, words)?;
     let mut named = Vec::new(alloc);
+    named.push((
+        Text::from_bytes(alloc, DIMS)?,
+        Text::from_bytes(alloc, given.dims)?,
+    ))?;
     named.push((
         Text::from_bytes(alloc, FILE)?,
         Text::from_bytes(alloc, given.facts)?,
@@ -74,6 +86,7 @@ fn ran(alloc: Global, words: &[&[u8]], given: &Given<'_>) -> Result<Got, Fail> {
     Ok(Got {
         status: report.status,
         text: report.text,
+        asks: report.outcomes.len(),
         written: sink.bytes().to_vec(alloc)?,
     })
 }
@@ -132,8 +145,16 @@ fn a_refused_file_is_named_with_its_fault(rt: HostRuntime) -> Result<(), Fail> {
 
 #[test]
 fn wrong_words_are_named(rt: HostRuntime) -> Result<(), Fail> {
-    let cases: [(&[&[u8]], &[u8]); 7] = [
+    let cases: [(&[&[u8]], &[u8]); 15] = [
         (&[], b"usage: no command\n"),
+        (&[b"ask", b"--dims"], b"usage: --dims\n"),
+        (&[b"ask", b"--facts", b"f"], b"usage: missing --dims\n"),
+        (&[b"ask", b"--requests", b"0"], b"usage: 0\n"),
+        (&[b"ask", b"--requests", b"16777217"], b"usage: 16777217\n"),
+        (&[b"ask", b"--requests", b"+1"], b"usage: +1\n"),
+        (&[b"check", b"--requests", b"1"], b"usage: --requests\n"),
+        (&[b"check"], b"usage: missing --dims\n"),
+        (&[b"check", b"--dims", b"d"], b"usage: missing --facts\n"),
         (&[b"sum"], b"usage: missing --facts\n"),
         (
             &[b"sum", b"--facts", b"a", b"--facts", b"b"],

@@ -1,8 +1,13 @@
 // The words of the command line.
-ghost use Rattle.std.specs.Prelude.{◌≡◌, ◌≤◌, not, length, take, drop, find, option_copied, []};
-ghost use Rattle.cube_app.specs.Words.{command_word, option_word, needed as needed_by, command_of as command_in, is_option as is_option_of, stands_in, options_in, first_wrong as first_wrong_behind, orders_of as orders_in, value_behind as value_in, value_of as value_given};
+ghost use Rattle.std.specs.Prelude.{◌≡◌, ◌≤◌, not, length, take, drop, find, option_copied, if◌then◌else◌, [], Some, None, IfSome, Ok};
+ghost use Rattle.std.specs.Str.{bytes_eq};
+ghost use Rattle.std.specs.Str.Parse.{digits_value};
+ghost use Rattle.cube_model.specs.Cubes.{IsIn};
+ghost use Rattle.cube_app.specs.declared.words.Command.TheVariants as orders;
+ghost use Rattle.cube_app.specs.Words.{command_word, option_word, needed as needed_by, allowed as allowed_by, is_requests, is_wrong_value as is_wrong, stated as stated_in, command_of as command_in, is_option as is_option_of, stands_in, options_in, first_wrong as first_wrong_behind, orders_of as orders_in, value_behind as value_in, value_of as value_given};
 
 use cube_model::Text;
+use cube_text::read_digits;
 
 /// What the program is asked to do.
 #[derive(Clone, Copy, Debug, PartialEq, Eq)]
@@ -13,13 +18,21 @@ pub enum Command {
     Version,
     /// Answer lines over a flat fact file.
     Sum,
+    /// Say what a dimension file and a fact file hold.
+    Check,
+    /// Answer lines as asks of a cube.
+    Ask,
 }
 
 /// An option of a command.
 #[derive(Clone, Copy, Debug, PartialEq, Eq)]
 pub enum Setting {
+    /// The dimension file.
+    Dims,
     /// The fact file.
     Facts,
+    /// The most asks that are answered.
+    Requests,
 }
 
 /// What is wrong with the words.
@@ -33,7 +46,17 @@ pub enum Usage {
     Missing(Setting),
 }
 
-const COMMANDS: [Command; 3] = [Command::Help, Command::Version, Command::Sum];
+const COMMANDS: [Command; 5] = [
+    Command::Help,
+    Command::Version,
+    Command::Sum,
+    Command::Check,
+    Command::Ask,
+];
+
+const MAX_REQUESTS: u64 = 16_777_216;
+
+const USUAL_REQUESTS: u64 = 1_000_000;
 
 impl Command {
     fn word(self) -> &'static [u8]
@@ -43,6 +66,8 @@ impl Command {
             Command::Help => b"--help",
             Command::Version => b"--version",
             Command::Sum => b"sum",
+            Command::Check => b"check",
+            Command::Ask => b"ask",
         }
     }
 
@@ -53,6 +78,20 @@ impl Command {
             Command::Help => &[],
             Command::Version => &[],
             Command::Sum => &[Setting::Facts],
+            Command::Check => &[Setting::Dims, Setting::Facts],
+            Command::Ask => &[Setting::Dims, Setting::Facts],
+        }
+    }
+
+    fn allowed(self) -> &'static [Setting]
+        ensures { result.now ≡ allowed_by self }
+    {
+        match self {
+            Command::Help => &[],
+            Command::Version => &[],
+            Command::Sum => &[Setting::Facts],
+            Command::Check => &[Setting::Dims, Setting::Facts],
+            Command::Ask => &[Setting::Dims, Setting::Facts, Setting::Requests],
         }
     }
 }
@@ -63,25 +102,35 @@ impl Setting {
         ensures { result.now ≡ option_word self }
     {
         match self {
+            Setting::Dims => b"--dims",
             Setting::Facts => b"--facts",
+            Setting::Requests => b"--requests",
         }
+    }
+}
+
+// The first of some commands that has the word.
+fn find_command(commands: &[Command], word: &[u8]) -> Option<Command>
+    ensures { result ≡ find (λ c. bytes_eq word.now (command_word c)) commands.now }
+{
+    match commands {
+        [] => None,
+        [command, ..] if word == command.word() => Some(*command),
+        [_, more @ ..] => find_command(more, word),
     }
 }
 
 fn command_of(word: &[u8]) -> Option<Command>
     ensures { result ≡ command_in word.now }
 {
-    COMMANDS
-        .iter()
-        .find(|command| word == command.word())
-        .copied()
+    find_command(&COMMANDS, word)
 }
 
 fn is_option(command: Command, word: &[u8]) -> bool
     ensures { result ≡ is_option_of command word.now }
 {
     command
-        .needed()
+        .allowed()
         .iter()
         .any(|setting| word == setting.word())
 }
@@ -97,6 +146,23 @@ fn is_given(word: &[u8], words: &[Text]) -> bool
     }
 }
 
+// The number of asks that a text states.
+fn requests_in(text: &[u8]) -> Option<u64>
+    ensures number { result ≡ (if is_requests text.now then Some (digits_value 10 text.now) else None) }
+    ensures some { IfSome result (λ number. 1 ≤ number) }
+{
+    match read_digits(text) {
+        Some(number) if number >= 1 && number <= MAX_REQUESTS => Some(number),
+        _ => None,
+    }
+}
+
+fn is_wrong_value(option: &[u8], value: &[u8]) -> bool
+    ensures { result ≡ is_wrong option.now value.now }
+{
+    option == Setting::Requests.word() && requests_in(value).is_none()
+}
+
 // The first wrong word from a place on, before which there are pairs.
 fn first_wrong(command: Command, words: &[Text], at: usize) -> Option<usize>
     requires { at ≤ length words.now }
@@ -105,10 +171,13 @@ fn first_wrong(command: Command, words: &[Text], at: usize) -> Option<usize>
     match &words[at..] {
         [] => None,
         [_] => Some(at + 1),
-        [option, _, ..] => {
+        [option, value, ..] => {
             let word = option.as_slice();
             if !is_option(command, word) || is_given(word, &words[..at]) {
                 return Some(at + 1);
+            }
+            if is_wrong_value(word, value.as_slice()) {
+                return Some(at + 2);
             }
             first_wrong(command, words, at + 2)
         }
@@ -172,5 +241,33 @@ pub fn value_of(words: &[Text], setting: Setting) -> Option<&Text>
     match words {
         [_, more @ ..] => value_behind(setting.word(), more),
         [] => None,
+    }
+}
+
+/// The value of an option that the command needs.
+pub fn needed_value(words: &[Text], command: Command, setting: Setting) -> &Text
+    requires orders { orders_in words.now ≡ Ok command }
+    requires needed { IsIn setting (needed_by command) }
+    ensures { Some result.now ≡ value_given setting words.now }
+{
+    let _command = command;
+    match value_of(words, setting) {
+        Some(value) => value,
+        None => unreachable!(),
+    }
+}
+
+/// The stated number of asks: 1,000,000 where none is.
+pub fn stated(words: &[Text]) -> u64
+    requires { orders_in words.now ≡ Ok orders.Ask }
+    ensures number { result ≡ stated_in words.now }
+    ensures some { 1 ≤ result }
+{
+    match value_of(words, Setting::Requests) {
+        None => USUAL_REQUESTS,
+        Some(text) => match requests_in(text.as_slice()) {
+            Some(number) => number,
+            None => unreachable!(),
+        },
     }
 }

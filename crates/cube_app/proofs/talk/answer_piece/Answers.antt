@@ -1,48 +1,60 @@
-use Rattle.std.proofs.Common.{◌∙◌, ◌+◌, refl, rules, arith}
-use Rattle.cube_app.proofs.Kept.{up_to_more}
-use Rattle.cube_app.proofs.Pieces.{progress_start, progress_line, progress_some, progress_all, answered_some, go_on}
+use Rattle.std.proofs.Common.{◌∙◌, ap, refl}
+use Rattle.cube_app.proofs.Pieces.{progress_start, one_more, go_on, line_some, progress_all}
+use Rattle.cube_app.proofs.Speech.{Speech}
+use Rattle.cube_app.specs.declared.talk.Heard.TheVariants as heard
+use Rattle.cube_app.proofs.talk.answer_piece.Given.{Over}
 use Rattle.cube_app.proofs.talk.answer_piece.Goals as goal
 
+-- how the responder answers lines
+abbrev speech : (g : Over) → Speech g.row.R.Denot g.row.S.Denot
+speech g = record { says = g.R.Responder.says; silent = g.met.R.Responder.silent; onward = g.met.R.Responder.onward; alike = g.met.R.Responder.alike }
+
 pub lines-init : goal.lines-init
-lines-init c = record {
-  few = c.requires;
-  progress = λ o k. progress_start c.args.flat.now o c.args.piece.now c.args.lines.now c.args.replies.now c.args.carry.now k c.requires;
-}
+lines-init g c =
+    record {
+      stands = c.requires.stands;
+      going = c.requires.going;
+      steady = refl;
+      progress = λ o k. progress_start (speech g) c.args.responder.now c.args.store.now o c.args.piece.now c.args.carry.now c.args.replies.now (g.O.Sink.written c.args.out.now) k;
+    }
 
-pub returns-in-Ok-clause-all : goal.returns-in-Ok-clause-all
-returns-in-Ok-clause-all c = λ _ o k.
-    progress_all c.args.flat.now o c.args.piece.now c.lines.rest.now c.args.lines.now c.lines.lines c.args.replies.now c.lines.replies c.lines.carry c.extend.new.self (c.lines.invariant.progress o k)
-    (search rules) (λ p is. rw is at c.in-Ok.ensures.ok ∙ up_to_more 65538 p c.lines.rest.now)
+pub returns-in_default-clause-all : goal.returns-in_default-clause-all
+returns-in_default-clause-all g c = λ _ o k.
+    progress_all (speech g) c.args.responder.now c.lines.responder c.args.store.now c.lines.store o c.args.piece.now c.lines.rest.now c.lines.carry c.extend.new.self c.args.replies.now c.lines.replies
+    (g.O.Sink.written c.args.out.now) (g.O.Sink.written c.lines.out) (c.lines.invariant.progress o k) c.in_default.ensures.none c.extend.ensures
 
-pub returns-in-Err-clause-some : goal.returns-in-Err-clause-some
-returns-in-Err-clause-some c = λ _ o k.
-    progress_some c.args.flat.now o c.args.piece.now c.lines.rest.now c.args.lines.now c.lines.lines c.args.replies.now c.lines.replies c.lines.replies c.lines.carry (c.lines.invariant.progress o k) refl
-
-pub returns-in-Err-end_line-clause-some : goal.returns-in-Err-end_line-clause-some
-returns-in-Err-end_line-clause-some c = λ _ o k.
-    progress_some c.args.flat.now o c.args.piece.now c.lines.rest.now c.args.lines.now c.lines.lines c.args.replies.now c.lines.replies c.end_line.new.replies c.lines.carry (c.lines.invariant.progress o k) c.in-Err-end_line.ensures.err
-
-pub overflow_add-lines : goal.overflow_add-lines
-overflow_add-lines c = omega (arith, c.lines.invariant.few)
-
-pub returns-then-lines-ge-MAX_LINES-clause-some : goal.returns-then-lines-ge-MAX_LINES-clause-some
-returns-then-lines-ge-MAX_LINES-clause-some c = λ _ o k.
-    let cut = rw c.in-Some.is at c.cut_line.ensures.some in
-    let more = progress_line c.args.flat.now o c.args.piece.now c.lines.rest.now c.in-Some.line.now c.in-Some.behind.now c.args.lines.now c.lines.lines c.args.replies.now c.lines.replies c.end_line.new.replies c.lines.carry
-    (c.lines.invariant.progress o k) cut.0 cut.1 (λ p is. (c.in-Ok-end_line.ensures.ok p is).1) in
-    answered_some c.args.flat.now o c.args.piece.now c.in-Some.behind.now c.args.lines.now (c.lines.lines + 1) c.args.replies.now c.end_line.new.replies more
-
-pub returns-then-lines-ge-MAX_LINES-clause-spent :
-    goal.returns-then-lines-ge-MAX_LINES-clause-spent
-returns-then-lines-ge-MAX_LINES-clause-spent c = λ _. omega (arith, c.lines.invariant.few, c.if-lines-ge-MAX_LINES.true)
+pub returns-in_default-answer_line : goal.returns-in_default-answer_line
+returns-in_default-answer_line g c =
+    let (is, fed) = c.in-Some.ensures.some in
+    let kept = c.as_slice.ensures ∙ c.extend-in-lines.ensures in
+    record {
+      all = λ e. absurd (c.in_default-answer_line.not-All e);
+      some = λ n o k. line_some (speech g) c.answer_line.result c.args.responder.now c.lines.responder c.answer_line.new.responder c.args.store.now c.lines.store c.answer_line.new.store o c.args.piece.now c.lines.rest.now c.in-Some.line.now
+          c.in-Some.behind.now c.lines.carry c.as_slice.result.now c.args.replies.now c.lines.replies c.answer_line.new.replies (g.O.Sink.written c.args.out.now) (g.O.Sink.written c.lines.out) (g.O.Sink.written c.answer_line.new.out)
+          (c.lines.invariant.progress o k) is fed kept (λ m. rw c.without_return-line.ensures at c.answer_line.ensures.said m)
+          (λ m. ((c.answer_line.ensures.memory m).0, (c.answer_line.ensures.memory m).1, (c.answer_line.ensures.memory m).2, ap g.O.Sink.written (c.answer_line.ensures.memory m).3));
+      going = λ e. absurd (c.in_default-answer_line.not-All e);
+      spent = c.answer_line.ensures.spent;
+      memory = λ e. (c.answer_line.ensures.memory e).4;
+      failed = λ e. rw c.lines.invariant.steady at c.answer_line.ensures.failed e;
+      steady = λ n. c.answer_line.ensures.steady n ∙ c.lines.invariant.steady;
+      stands = c.answer_line.ensures.stands;
+    }
 
 pub lines-preserved : goal.lines-preserved
-lines-preserved c = record {
-  few = c.if-lines-ge-MAX_LINES.false;
-  progress = λ o k.
-      let cut = rw c.in-Some.is at c.cut_line.ensures.some in
-      let before = c.lines.invariant.progress o k in
-      let more = progress_line c.args.flat.now o c.args.piece.now c.lines.rest.now c.in-Some.line.now c.in-Some.behind.now c.args.lines.now c.lines.lines c.args.replies.now c.lines.replies c.end_line.new.replies c.lines.carry
-      before cut.0 cut.1 (λ p is. (c.in-Ok-end_line.ensures.ok p is).1) in
-      go_on c.args.flat.now o c.args.piece.now c.in-Some.behind.now c.args.lines.now (c.lines.lines + 1) c.args.replies.now c.end_line.new.replies c.end_line.new.carry more c.if-lines-ge-MAX_LINES.false (c.in-Ok-end_line.ensures.ok before.now before.kept.kept).0;
-}
+lines-preserved g c =
+    let (is, fed) = c.in-Some.ensures.some in
+    let kept = c.as_slice.ensures ∙ c.extend-in-lines.ensures in
+    record {
+      stands = c.in-All.ensures.stands;
+      going = c.in-All.ensures.going refl;
+      steady = c.in-All.ensures.steady (λ e. cc) ∙ c.lines.invariant.steady;
+      progress = λ o k.
+          let line = rw c.without_return-line.ensures at c.in-All.ensures.said (λ e. cc) in
+          go_on (speech g) c.args.responder.now c.answer_line.new.responder c.args.store.now c.answer_line.new.store o c.args.piece.now c.in-Some.behind.now c.clear.new.self c.args.replies.now c.answer_line.new.replies (g.O.Sink.written c.args.out.now)
+          (g.O.Sink.written c.answer_line.new.out)
+          (one_more (speech g) heard.All c.args.responder.now c.lines.responder c.answer_line.new.responder c.args.store.now c.lines.store c.answer_line.new.store o c.args.piece.now c.lines.rest.now c.in-Some.line.now c.in-Some.behind.now
+          c.lines.carry c.as_slice.result.now c.args.replies.now c.lines.replies c.answer_line.new.replies (g.O.Sink.written c.args.out.now) (g.O.Sink.written c.lines.out) (g.O.Sink.written c.answer_line.new.out)
+          (c.lines.invariant.progress o k) is fed kept line)
+          c.clear.ensures;
+    }

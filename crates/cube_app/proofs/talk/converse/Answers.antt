@@ -1,66 +1,71 @@
-use Rattle.std.proofs.Common.{◌+◌, [], rules, refl, sym, ap, ◌∙◌, arith, length-take-le, take}
-use Rattle.cube_app.proofs.Stands.{stands_start, stands_more, Finished, finished, piece_of, heard_some, put_failed, piece_spent, piece_memory}
+use Rattle.std.proofs.Common.{◌∙◌, refl, rules, sym, arith, take, length-take-le, ap}
+use Rattle.cube_app.proofs.Speech.{Speech}
+use Rattle.cube_app.proofs.Talks.{stands_start, stands_more, piece_ends, input_failed, input_spent, Finished, finished}
+use Rattle.cube_app.proofs.talk.converse.Given.{Over}
 use Rattle.cube_app.proofs.talk.converse.Goals as goal
 
+-- how the responder answers lines
+abbrev speech : (g : Over) → Speech g.row.R.Denot g.row.S.Denot
+speech g = record { says = g.R.Responder.says; silent = g.met.R.Responder.silent; onward = g.met.R.Responder.onward; alike = g.met.R.Responder.alike }
+
 pub reads-init : goal.reads-init
-reads-init g c = record {
-  stands = stands_start c.args.flat.now (g.I.Source.left c.args.input.now) (g.O.Sink.written c.args.out.now) c.new-carry.result c.new-carry.ensures;
-  few_bytes = search rules;
-  input_steady = search rules;
-  output_steady = search rules;
-}
+reads-init g c =
+    record {
+      talks = stands_start (speech g) c.args.responder.now c.args.store.now (g.I.Source.left c.args.input.now) (g.O.Sink.written c.args.out.now) c.args.carry c.requires.carry;
+      few_bytes = search rules;
+      stands = c.requires.stands;
+      going = c.requires.going;
+      empty = c.new-replies.ensures;
+      input_steady = refl;
+      output_steady = refl;
+    }
 
-pub returns-in-Ok-eq0-clause-talked : goal.returns-in-Ok-eq0-clause-talked
-returns-in-Ok-eq0-clause-talked g c =
+pub returns-in-Ok-eq0-clause-conversed : goal.returns-in-Ok-eq0-clause-conversed
+returns-in-Ok-eq0-clause-conversed g c =
     let none = rw c.in-Ok-eq0.field-0-test at c.in-Ok-eq0.ensures.bytes in
-    let how : Finished c.args.flat.now c.finish.result.ending c.reads.carry c.reads.lines c.finish.result.lines (g.O.Sink.written c.reads.out) (g.O.Sink.written c.finish.new.out) = record {
-      ended = c.finish.ensures.ended;
-      spent = c.finish.ensures.spent;
-      failed = λ e. ((c.finish.ensures.failed e).0, (c.finish.ensures.failed e).1);
-      memory = λ e. ap g.O.Sink.written (c.finish.ensures.memory e);
-      input = c.finish.ensures.others;
+    let f : Finished g.R.Responder.says c.finish-ending.result (g.R.Responder.done c.finish-ending.new.responder) c.reads.responder c.finish-ending.new.responder c.reads.store c.finish-ending.new.store c.reads.carry
+    (g.O.Sink.written c.reads.out) (g.O.Sink.written c.finish-ending.new.out) = record {
+      none = λ e. ((c.finish-ending.ensures.none e).0, (c.finish-ending.ensures.none e).1, (c.finish-ending.ensures.none e).2, ap g.O.Sink.written (c.finish-ending.ensures.none e).3);
+      said = c.finish-ending.ensures.said;
+      memory = λ e. ((c.finish-ending.ensures.memory e).0, (c.finish-ending.ensures.memory e).1, (c.finish-ending.ensures.memory e).2);
+      ended = c.finish-ending.ensures.ended;
+      spent = c.finish-ending.ensures.spent;
+      others = c.finish-ending.ensures.others;
     } in
-    rw c.finish.ensures.bytes (finished c.finish.result.ending c.args.flat.now (g.I.Source.left c.args.input.now) (g.I.Source.left c.reads.input) (g.I.Source.left c.read_piece.new.input)
-    (g.O.Sink.written c.args.out.now) (g.O.Sink.written c.reads.out) (g.O.Sink.written c.finish.new.out) c.reads.carry c.reads.lines c.finish.result.lines c.reads.bytes c.reads.invariant.stands none c.reads-test.true how)
+    finished (speech g) c.finish-ending.result (g.R.Responder.done c.finish-ending.new.responder) c.args.responder.now c.reads.responder c.finish-ending.new.responder c.args.store.now c.reads.store c.finish-ending.new.store
+    (g.I.Source.left c.args.input.now) (g.I.Source.left c.reads.input) (g.I.Source.left c.read_piece.new.input) (g.O.Sink.written c.args.out.now) (g.O.Sink.written c.reads.out) (g.O.Sink.written c.finish-ending.new.out)
+    c.reads.carry c.reads.bytes c.reads.invariant.talks none c.reads-test.true f
 
-pub returns-in-Err-put-clause-talked : goal.returns-in-Err-put-clause-talked
-returns-in-Err-put-clause-talked g c =
-    let s = c.reads.invariant.stands in
-    let long = sym (length-take-le c.in-Ok.count c.read_piece.new.buf (c.in-Ok.ensures.bound).0) in
-    let heard = heard_some c.answer_piece-heard.result c.args.flat.now _ (take c.in-Ok.count c.read_piece.new.buf) c.reads.lines c.answer_piece-heard.new.lines [] c.answer_piece-heard.new.replies c.answer_piece-heard.new.carry
-    (λ e. rw c.new-replies.ensures at c.answer_piece-heard.ensures.all e _ s.kept) (λ e. rw c.new-replies.ensures at c.answer_piece-heard.ensures.some e _ s.kept) in
-    let p = piece_of c.args.flat.now (g.I.Source.left c.args.input.now) (g.I.Source.left c.reads.input) (g.I.Source.left c.read_piece.new.input) (g.O.Sink.written c.args.out.now) (g.O.Sink.written c.reads.out)
-    c.reads.carry (take c.in-Ok.count c.read_piece.new.buf) c.answer_piece-heard.new.replies c.reads.lines c.answer_piece-heard.new.lines c.reads.bytes c.in-Ok.count s c.in-Ok.ensures.bytes long heard in
-    put_failed c.args.flat.now _ _ _ _ (g.O.Sink.written c.put.new.self) c.answer_piece-heard.new.lines (c.reads.bytes + c.in-Ok.count) c.answer_piece-heard.new.replies p (rw c.as_slice.ensures at c.in-Err-put.ensures.bytes)
-
-pub returns-in-Spent-clause-talked : goal.returns-in-Spent-clause-talked
-returns-in-Spent-clause-talked g c =
-    let s = c.reads.invariant.stands in
-    let long = sym (length-take-le c.in-Ok.count c.read_piece.new.buf (c.in-Ok.ensures.bound).0) in
-    let heard = rw c.new-replies.ensures at c.in-Spent.ensures.some (λ e. cc) _ s.kept in
-    let p = piece_of c.args.flat.now (g.I.Source.left c.args.input.now) (g.I.Source.left c.reads.input) (g.I.Source.left c.read_piece.new.input) (g.O.Sink.written c.args.out.now) (g.O.Sink.written c.reads.out)
-    c.reads.carry (take c.in-Ok.count c.read_piece.new.buf) c.answer_piece-heard.new.replies c.reads.lines c.answer_piece-heard.new.lines c.reads.bytes c.in-Ok.count s c.in-Ok.ensures.bytes long heard in
-    piece_spent c.args.flat.now _ _ _ _ (g.O.Sink.written c.put.new.self) c.answer_piece-heard.new.lines (c.reads.bytes + c.in-Ok.count) c.answer_piece-heard.new.replies p (c.in-Spent.ensures.spent refl) (rw c.as_slice.ensures at c.in-Ok-put.ensures.bytes)
-
-pub returns-in-NoMemory-clause-talked : goal.returns-in-NoMemory-clause-talked
-returns-in-NoMemory-clause-talked g c =
-    let s = c.reads.invariant.stands in
-    let long = sym (length-take-le c.in-Ok.count c.read_piece.new.buf (c.in-Ok.ensures.bound).0) in
-    let heard = rw c.new-replies.ensures at c.in-NoMemory.ensures.some (λ e. cc) _ s.kept in
-    let p = piece_of c.args.flat.now (g.I.Source.left c.args.input.now) (g.I.Source.left c.reads.input) (g.I.Source.left c.read_piece.new.input) (g.O.Sink.written c.args.out.now) (g.O.Sink.written c.reads.out)
-    c.reads.carry (take c.in-Ok.count c.read_piece.new.buf) c.answer_piece-heard.new.replies c.reads.lines c.answer_piece-heard.new.lines c.reads.bytes c.in-Ok.count s c.in-Ok.ensures.bytes long heard in
-    piece_memory c.args.flat.now _ _ _ _ (g.O.Sink.written c.put.new.self) c.answer_piece-heard.new.lines (c.reads.bytes + c.in-Ok.count) c.answer_piece-heard.new.replies p (rw c.as_slice.ensures at c.in-Ok-put.ensures.bytes)
+pub returns-in-Err-clause-conversed : goal.returns-in-Err-clause-conversed
+returns-in-Err-clause-conversed g c =
+    input_failed (speech g) (g.R.Responder.done c.reads.responder) c.args.responder.now c.reads.responder c.args.store.now c.reads.store (g.I.Source.left c.args.input.now) (g.I.Source.left c.reads.input) (g.I.Source.left c.read_piece.new.input)
+    (g.O.Sink.written c.args.out.now) (g.O.Sink.written c.reads.out) c.reads.carry c.reads.bytes c.reads.invariant.talks c.in-Err.ensures.err c.reads.invariant.going c.reads-test.true
 
 pub reads-preserved : goal.reads-preserved
 reads-preserved g c =
-    let s = c.reads.invariant.stands in
+    let s = c.reads.invariant.talks in
     let long = sym (length-take-le c.in-Ok.count c.read_piece.new.buf (c.in-Ok.ensures.bound).0) in
-    let heard = rw c.new-replies.ensures at c.in-All.ensures.all refl _ s.kept in
     record {
-      stands = stands_more c.args.flat.now (g.I.Source.left c.args.input.now) (g.I.Source.left c.reads.input) (g.I.Source.left c.read_piece.new.input) (g.O.Sink.written c.args.out.now) (g.O.Sink.written c.reads.out)
-          (g.O.Sink.written c.put.new.self) c.reads.carry c.answer_piece-heard.new.carry (take c.in-Ok.count c.read_piece.new.buf) c.answer_piece-heard.new.replies c.reads.lines c.answer_piece-heard.new.lines c.reads.bytes
-          c.in-Ok.count s c.in-Ok.ensures.bytes long heard (rw c.as_slice.ensures at c.in-Ok-put.ensures.bytes);
+      talks = stands_more (speech g) c.args.responder.now c.reads.responder c.hear_piece.new.responder c.args.store.now c.reads.store c.hear_piece.new.store (g.I.Source.left c.args.input.now) (g.I.Source.left c.reads.input)
+          (g.I.Source.left c.read_piece.new.input) (g.O.Sink.written c.args.out.now) (g.O.Sink.written c.reads.out) (g.O.Sink.written c.hear_piece.new.out) c.reads.carry c.hear_piece.new.carry
+          (take c.in-Ok.count c.read_piece.new.buf) c.reads.bytes c.in-Ok.count s c.in-Ok.ensures.bytes long (c.hear_piece.ensures.all c.in-None.is _ s.kept);
       few_bytes = omega (arith, (c.in-Ok.ensures.bound).1, c.reads-test.true);
+      stands = c.hear_piece.ensures.stands;
+      going = (c.hear_piece.ensures.going c.in-None.is).0;
+      empty = (c.hear_piece.ensures.going c.in-None.is).1;
       input_steady = c.in-Ok.ensures.cause.steady ∙ c.reads.invariant.input_steady;
-      output_steady = c.in-Ok-put.ensures.cause.steady ∙ c.reads.invariant.output_steady;
+      output_steady = c.in-None.ensures.steady (λ e. cc) ∙ c.reads.invariant.output_steady;
     }
+
+pub returns-in-Some-clause-conversed : goal.returns-in-Some-clause-conversed
+returns-in-Some-clause-conversed g c =
+    let s = c.reads.invariant.talks in
+    let long = sym (length-take-le c.in-Ok.count c.read_piece.new.buf (c.in-Ok.ensures.bound).0) in
+    piece_ends (speech g) c.in-Some.ending (g.R.Responder.done c.hear_piece.new.responder) g.R.Responder.lacks c.args.responder.now c.reads.responder c.hear_piece.new.responder c.args.store.now c.reads.store c.hear_piece.new.store
+    (g.I.Source.left c.args.input.now) (g.I.Source.left c.reads.input) (g.I.Source.left c.read_piece.new.input) (g.O.Sink.written c.args.out.now) (g.O.Sink.written c.reads.out) (g.O.Sink.written c.hear_piece.new.out) c.reads.carry
+    (take c.in-Ok.count c.read_piece.new.buf) c.reads.bytes c.in-Ok.count s c.in-Ok.ensures.bytes long (c.in-Some.ensures.some _ s.kept) c.in-Some.ensures.stops
+
+pub returns-clause-conversed : goal.returns-clause-conversed
+returns-clause-conversed g c =
+    input_spent (speech g) (g.R.Responder.done c.reads.responder) c.args.responder.now c.reads.responder c.args.store.now c.reads.store (g.I.Source.left c.args.input.now) (g.I.Source.left c.reads.input)
+    (g.O.Sink.written c.args.out.now) (g.O.Sink.written c.reads.out) c.reads.carry c.reads.bytes c.reads.invariant.talks c.reads.invariant.going (omega (arith, c.reads.invariant.few_bytes, c.reads-test.false))

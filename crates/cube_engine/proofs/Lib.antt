@@ -1,0 +1,5 @@
+pub mod Alone
+pub mod Keys
+pub mod Lines
+pub mod Opened
+pub mod Valid

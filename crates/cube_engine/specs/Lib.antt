@@ -1,0 +1,9 @@
+pub mod AnswerText
+pub mod Books
+pub mod Constant
+pub mod Engines
+pub mod Examples
+pub mod Open
+pub mod Steps
+pub mod Sums
+pub mod VerdictText
