@@ -7,6 +7,7 @@ pub mod Sums
 pub mod SumLaws
 pub mod Asks
 pub mod AskLaws
+pub mod Examples
 pub mod Reports
 pub mod Opening
 pub mod Summary

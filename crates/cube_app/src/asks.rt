@@ -7,13 +7,11 @@ ghost use Rattle.cube_app.specs.AskLaws.{none, onward, alike};
 
 use crate::carry::Carry;
 use crate::replies::Said;
-use crate::responder::Responder;
+use crate::responder::{MAX_LINE, Responder};
 use crate::talk::{Ending, TalkEnd, converse};
 use cube_io::{Desk, Sink, Source, Store};
 use cube_model::{Ask, Fixed, NoMemory, Reply, Text};
 use std::alloc::Global;
-
-const MAX_LINE: usize = 65_536;
 
 /// Answers lines as asks of a desk. A line that is too long is no ask.
 #[derive(Drop)]

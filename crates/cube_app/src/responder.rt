@@ -7,6 +7,9 @@ use cube_io::Store;
 use cube_model::NoMemory;
 use std::alloc::Global;
 
+/// The most bytes of a line that is looked into.
+pub const MAX_LINE: usize = 65_536;
+
 /// Answers lines one after another, over a store. How its state goes on with the lines is its own; the talk tells it the lines.
 pub trait Responder<S: Store> {
     /// From one state to another, with that of the store, these lines were answered by this text.

@@ -7,15 +7,13 @@ ghost use Rattle.cube_app.specs.SumLaws.{none, onward, alike};
 
 use crate::carry::Carry;
 use crate::replies::Said;
-use crate::responder::Responder;
+use crate::responder::{MAX_LINE, Responder};
 use crate::talk::{Ending, TalkEnd, converse};
 use cube_facts::{Flat, FlatReply, sum_flat};
 use cube_io::{Sink, Source, Store};
 use cube_model::{NoMemory, Text};
 use cube_text::write_units;
 use std::alloc::Global;
-
-const MAX_LINE: usize = 65_536;
 
 const MAX_LINES: u64 = 16_777_216;
 

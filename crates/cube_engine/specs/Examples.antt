@@ -1,10 +1,15 @@
 -- Answers over the pay cube, and cells of it.
-use Rattle.std.specs.Prelude.{ℕ, [], ◌∷◌, codes, None, ℤ}
+use Rattle.std.specs.Prelude.{ℕ, List, [], ◌∷◌, codes, None, ℤ}
 use Rattle.cube_model.specs.declared.answer.AnswerRow.{AnswerRow}
 use Rattle.cube_model.specs.declared.cell.Cell.{Cell}
 use Rattle.cube_model.specs.declared.request.Request.{Request}
 use Rattle.cube_model.specs.declared.request.What.{What}
+use Rattle.cube_model.specs.Cores.{world}
 use Rattle.cube_model.specs.Dims.{Dims, NamedDimension}
+use Rattle.cube_model.specs.Rooms.{Room, alone}
+use Rattle.cube_core.specs.Worked.{pay_core}
+use Rattle.cube_dims.specs.Examples.{pay_dims}
+use Rattle.cube_engine.specs.Open.{open_policy}
 
 -- what is asked, grouped by these levels of the two dimensions
 abbrev pub grouped : What → ℕ → ℕ → Request
@@ -38,3 +43,7 @@ odd_request what = record { what = what; group = 0 ∷ []; picks = None ∷ [] }
 
 abbrev pub odd_row : ℕ → ℤ → AnswerRow
 odd_row a sum = record { key = a ∷ []; sum = sum }
+
+-- the pay cube with each measure open, as the one room of a desk
+abbrev pub pay_rooms : List Room
+pay_rooms = alone (world pay_core (open_policy pay_dims)) []

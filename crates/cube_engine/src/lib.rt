@@ -19,4 +19,4 @@ pub use engine::Engine;
 pub use open::open_policy;
 pub use refusals::verdict_text;
 pub use sums::answer;
-pub use worked::{worked_answers, worked_refusals};
+pub use worked::{worked_answers, worked_asks, worked_refusals};

@@ -1,12 +1,19 @@
-// Answers and refusals written by the definitions alone.
+// Answers, refusals and replies written by the definitions alone.
 ghost use Rattle.std.specs.Prelude.{◌≡◌, ◌++◌, [], ◌∷◌, codes, pos, neg_ℤ};
+ghost use Rattle.cube_model.specs.declared.ask.Ask.TheVariants.{Query, Group};
+ghost use Rattle.cube_model.specs.declared.ask.Inner.TheVariants.{Shape};
+ghost use Rattle.cube_model.specs.declared.outcome.Outcome.TheVariants.{Given, NoMemory};
+ghost use Rattle.cube_model.specs.declared.reply.Fixed.TheVariants as constant;
+ghost use Rattle.cube_model.specs.declared.reply.Kind.TheVariants.{Csv, Plain};
+ghost use Rattle.cube_model.specs.declared.reply.Reply.TheVariants.{Made, Fixed};
 ghost use Rattle.cube_model.specs.declared.request.What.TheVariants.{Count, Measure};
 ghost use Rattle.cube_model.specs.declared.verdict.Verdict.TheVariants.{Full, SourceWould, Pair, Single};
 ghost use Rattle.cube_core.specs.Worked.{pay_core};
 ghost use Rattle.cube_dims.specs.Examples.{pay_dims};
 ghost use Rattle.cube_engine.specs.AnswerText.{answer_text};
 ghost use Rattle.cube_engine.specs.VerdictText.{unprotected, verdict_text};
-ghost use Rattle.cube_engine.specs.Examples.{cell, grouped, row, odd_dims, odd_request, odd_row};
+ghost use Rattle.cube_engine.specs.Examples.{cell, grouped, row, odd_dims, odd_request, odd_row, pay_rooms};
+ghost use Rattle.cube_engine.specs.Steps.{reply_in, next_in};
 
 /// What the definitions write for some answers.
 pub fn worked_answers()
@@ -27,4 +34,16 @@ pub fn worked_refusals()
     ensures all_cells { verdict_text pay_dims (unprotected pay_core) (SourceWould (1 ∷ 0 ∷ []) (cell 2 2 0 0)) ≡ codes "source: the cuboid (region.area, time.month) does not cut the cell (all)\n" }
     ensures pair { verdict_text pay_dims (unprotected pay_core) (Pair 1 2 3 2) ≡ codes "pair: link 1, (region.city=Nice, time.month=Jan) and (region.city=Paris, time.month=Jan), fixes the cell (region.city=Nice, time.month=Jan)\n" }
     ensures single { verdict_text pay_dims (unprotected pay_core) (Single 2 2 0) ≡ codes "single: link 2, (region.city=Nice, time.month=Jan), fixes the cell (region.city=Lyon, time.month=Jan)\n" }
+{}
+
+/// What the definitions reply to some asks of the pay cube where each measure is open.
+pub fn worked_asks()
+    ensures sum { reply_in pay_dims pay_rooms (Query (codes "cell pay")) Given ≡ Made 200 Csv (codes "pay\n150\n") }
+    ensures areas { reply_in pay_dims pay_rooms (Query (codes "slice pay by region.area")) Given ≡ Made 200 Csv (codes "region.area,pay\nSouth,60\nNorth,90\n") }
+    ensures word { reply_in pay_dims pay_rooms (Query (codes "cel pay")) Given ≡ Made 400 Plain (codes "syntax at byte 3\n") }
+    ensures member { reply_in pay_dims pay_rooms (Query (codes "cell pay region.city=Rome")) Given ≡ Made 404 Plain (codes "unknown member at byte 21\n") }
+    ensures backwards { reply_in pay_dims pay_rooms (Query (codes "range hours time.month=Feb..Jan")) Given ≡ Made 400 Plain (codes "backwards at byte 23\n") }
+    ensures group { reply_in pay_dims pay_rooms (Group (codes "none") Shape) Given ≡ Made 404 Plain (codes "unknown group\n") }
+    ensures memory { reply_in pay_dims pay_rooms (Query (codes "cell pay")) NoMemory ≡ Fixed constant.NoMemory }
+    ensures stays { next_in pay_dims pay_rooms (Query (codes "cell pay")) Given ≡ pay_rooms }
 {}

@@ -14,4 +14,4 @@ mod tests;
 pub use below::{cuboids, cuboids_below};
 pub use grains::grain;
 pub use number::cuboid_number;
-pub use order::{finer_or_equal, meet};
+pub use order::{finer_or_equal, meet_into};

@@ -20,24 +20,16 @@ pub fn finer_or_equal(a: &Levels, b: &Levels) -> bool
     a.len() == b.len() && all_at_most(a.as_slice(), b.as_slice())
 }
 
-// Lowers each level to the one beside it, where that is less.
+/// Lowers the levels of a cuboid to its meet with another: the lesser level in each dimension. It takes
+/// no memory.
 #[tactic(auto, using(crate::proofs::Steps::lower_more, crate::proofs::Steps::lower_end))]
-fn lower(a: &mut [u32], b: &[u32])
+pub fn meet_into(a: &mut Levels, b: &Levels)
     requires { length a.old ≡ length b.now }
     ensures { a.new ≡ cubes.meet a.old b.now }
 {
-    for (place, level) in a.iter_mut().enumerate() {
-        *level = (*level).min(b[place]);
+    let others = b.as_slice();
+    'levels: for place in 0..others.len() {
+        let lesser = a.as_slice()[place].min(others[place]);
+        a.set(place, lesser);
     }
-}
-
-/// The meet of two cuboids: the lesser level in each dimension. It stands in the room of the first, so
-/// this takes no memory.
-pub fn meet(a: Levels, b: &Levels) -> Levels
-    requires { length a ≡ length b.now }
-    ensures { result ≡ cubes.meet a b.now }
-{
-    let mut levels = a.into_vec();
-    lower(&mut levels, b.as_slice());
-    Levels::from_vec(levels)
 }

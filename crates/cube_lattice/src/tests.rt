@@ -3,7 +3,7 @@ ghost use Rattle.std.specs.Prelude.{◌≡◌, ◌≤◌, ◌∷◌, [], length,
 ghost use Rattle.cube_model.specs.Dims.{IsDimension};
 ghost use Rattle.cube_lattice.specs.Worked.{region, time, pay_dims};
 
-use crate::{cuboid_number, cuboids, cuboids_below, finer_or_equal, grain, meet};
+use crate::{cuboid_number, cuboids, cuboids_below, finer_or_equal, grain, meet_into};
 use cube_model::{
     Dimension, Dims, Items, Levels, Measure, NoMemory, NumberedNames, Pick, Picks, Request, Text,
     Texts, What,
@@ -138,9 +138,10 @@ fn cuboids_are_numbered(rt: HostRuntime) -> Result<(), Fail> {
 
 /// The meet of two cuboids of the pay cube.
 fn meet_of(alloc: Global, a: [u32; 2], b: [u32; 2]) -> Result<Levels, NoMemory> {
-    let a = make_levels(alloc, a[0], a[1])?;
+    let mut levels = make_levels(alloc, a[0], a[1])?;
     let b = make_levels(alloc, b[0], b[1])?;
-    Ok(meet(a, &b))
+    meet_into(&mut levels, &b);
+    Ok(levels)
 }
 
 #[test]

@@ -75,7 +75,7 @@ suiting_alike n ls ks same = filter_alike (λ xs. suits xs ks) (λ xs. suits xs 
         filter_in : (bs : List Link) (xs : List ℤ) → IsIn xs (small_lists n) → suits xs bs ≡ true → IsIn xs (suiting n bs)
         filter_in bs xs k e = filter_has (λ ys. suits ys bs) xs (small_lists n) e k
 
-pointwise : {X Y : Type 0} {f g : X → Y} → ((x : X) → f x ≡ g x) → f ≡ g
+pub pointwise : {X Y : Type 0} {f g : X → Y} → ((x : X) → f x ≡ g x) → f ≡ g
 pointwise h = λ i x. h x i
 
 -- one verdict, unless the first history is full

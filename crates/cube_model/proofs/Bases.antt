@@ -21,12 +21,12 @@ use Rattle.cube_model.proofs.Sums.{length-count_from}
 use Rattle.cube_model.proofs.Walks.{tally, tally_below, tally_grows, any_from, any_has}
 
 -- ---- a basis in steps
-fresh_kept : (n : ℕ) (kept ls : List Link) → Fresh n kept ls → fold (kept_more n) kept ls ≡ kept ++ ls
+pub fresh_kept : (n : ℕ) (kept ls : List Link) → Fresh n kept ls → fold (kept_more n) kept ls ≡ kept ++ ls
 unfolding kept_more
 fresh_kept n kept [] f = sym (append-nil kept)
 fresh_kept n kept (l ∷ ls) f = ap (λ b. fold (kept_more n) (cond b kept (kept ++ l ∷ [])) ls) f.0 ∙ fresh_kept n (kept ++ l ∷ []) ls f.1 ∙ append_assoc kept (l ∷ []) ls
 
-basis_again : (n : ℕ) (ls : List Link) → basis n (basis n ls) ≡ basis n ls
+pub basis_again : (n : ℕ) (ls : List Link) → basis n (basis n ls) ≡ basis n ls
 unfolding kept_more
 basis_again n ls = fresh_kept n [] (basis n ls) (basis_fresh n ls)
 
@@ -35,13 +35,13 @@ unfolding kept_more
 basis_of_more n ls ks = fold-append (kept_more n) [] (basis n ls) ks ∙ ap (λ b. fold (kept_more n) b ks) (basis_again n ls) ∙ sym (fold-append (kept_more n) [] ls ks)
 
 -- ---- one small entry less another, but for a multiple of three
-record Third (x y : ℤ) : Type 0 where
+pub record Third (x y : ℤ) : Type 0 where
   pub rest : ℤ
   pub small : IsSmall rest
   pub many : ℤ
   pub is : x ≡ (rest +ℤ y) +ℤ ((many +ℤ many) +ℤ many)
 
-third : (x y : ℤ) → IsSmall x → IsSmall y → Third x y
+pub third : (x y : ℤ) → IsSmall x → IsSmall y → Third x y
 third x y (inl p) (inl q) = record { rest = pos 0; small = inr (inl refl); many = pos 0; is = omega (arith, ints) }
 third x y (inl p) (inr (inl q)) = record { rest = negsuc 0; small = inl refl; many = pos 0; is = omega (arith, ints) }
 third x y (inl p) (inr (inr q)) = record { rest = pos 1; small = inr (inr refl); many = negsuc 0; is = omega (arith, ints) }
@@ -53,12 +53,12 @@ third x y (inr (inr p)) (inr (inl q)) = record { rest = pos 1; small = inr (inr 
 third x y (inr (inr p)) (inr (inr q)) = record { rest = pos 0; small = inr (inl refl); many = pos 0; is = omega (arith, ints) }
 
 -- a small number, or a sum of two, that is a multiple of three is 0
-one_third : (a k : ℤ) → IsSmall a → a ≡ (k +ℤ k) +ℤ k → a ≡ pos 0
+pub one_third : (a k : ℤ) → IsSmall a → a ≡ (k +ℤ k) +ℤ k → a ≡ pos 0
 one_third a k (inl p) e = omega (arith, ints)
 one_third a k (inr (inl p)) e = p
 one_third a k (inr (inr p)) e = omega (arith, ints)
 
-two_thirds : (a b k : ℤ) → IsSmall a → IsSmall b → a +ℤ b ≡ (k +ℤ k) +ℤ k → a +ℤ b ≡ pos 0
+pub two_thirds : (a b k : ℤ) → IsSmall a → IsSmall b → a +ℤ b ≡ (k +ℤ k) +ℤ k → a +ℤ b ≡ pos 0
 two_thirds a b k (inl p) (inl q) e = omega (arith, ints)
 two_thirds a b k (inl p) (inr (inl q)) e = omega (arith, ints)
 two_thirds a b k (inl p) (inr (inr q)) e = omega (arith, ints)
@@ -70,11 +70,11 @@ two_thirds a b k (inr (inr p)) (inr (inl q)) e = omega (arith, ints)
 two_thirds a b k (inr (inr p)) (inr (inr q)) e = omega (arith, ints)
 
 -- entry by entry the second list with the third makes the first, but for multiples of three
-abbrev Differ : List ℤ → List ℤ → List ℤ → Type 0
+abbrev pub Differ : List ℤ → List ℤ → List ℤ → Type 0
 Differ xs zs ys = (i : ℕ) → (k : ℤ) × (entry xs i ≡ (entry zs i +ℤ entry ys i) +ℤ ((k +ℤ k) +ℤ k))
 
 -- what the one and the other suit, the third suits
-suits_less : (xs zs ys : List ℤ) → Differ xs zs ys → Each IsSmall zs → (l : Link) → Suits xs l → Suits ys l → Suits zs l
+pub suits_less : (xs zs ys : List ℤ) → Differ xs zs ys → Each IsSmall zs → (l : Link) → Suits xs l → Suits ys l → Suits zs l
 suits_less xs zs ys d sz (Pair i j) a b =
     let p : entry xs i ≡ (entry zs i +ℤ entry ys i) +ℤ (((d i).0 +ℤ (d i).0) +ℤ (d i).0) = (d i).1 in
     let q : entry xs j ≡ (entry zs j +ℤ entry ys j) +ℤ (((d j).0 +ℤ (d j).0) +ℤ (d j).0) = (d j).1 in
@@ -87,7 +87,7 @@ suits_less xs zs ys d sz (Single i) a b = one_third (entry zs i) (neg_ℤ (d i).
     sum : (x y z k : ℤ) → x ≡ (z +ℤ y) +ℤ ((k +ℤ k) +ℤ k) → x ≡ pos 0 → y ≡ pos 0 → z ≡ (neg_ℤ k +ℤ neg_ℤ k) +ℤ neg_ℤ k
     sum x y z k p a b = omega (arith, ints)
 
-suits_sum : (xs zs ys : List ℤ) → Differ xs zs ys → Each IsSmall xs → (l : Link) → Suits zs l → Suits ys l → Suits xs l
+pub suits_sum : (xs zs ys : List ℤ) → Differ xs zs ys → Each IsSmall xs → (l : Link) → Suits zs l → Suits ys l → Suits xs l
 suits_sum xs zs ys d sx (Pair i j) a b = two_thirds (entry xs i) (entry xs j) ((d i).0 +ℤ (d j).0) (small_entry xs i sx) (small_entry xs j sx) (sum (entry xs i) (entry xs j) (entry ys i) (entry ys j) (entry zs i) (entry zs j) (d i).0 (d j).0 (d i).1 (d j).1 a b)
   where
     sum : (x1 x2 y1 y2 z1 z2 k1 k2 : ℤ) → x1 ≡ (z1 +ℤ y1) +ℤ ((k1 +ℤ k1) +ℤ k1) → x2 ≡ (z2 +ℤ y2) +ℤ ((k2 +ℤ k2) +ℤ k2) → z1 +ℤ z2 ≡ pos 0 → y1 +ℤ y2 ≡ pos 0 → x1 +ℤ x2 ≡ ((k1 +ℤ k2) +ℤ (k1 +ℤ k2)) +ℤ (k1 +ℤ k2)
@@ -98,7 +98,7 @@ suits_sum xs zs ys d sx (Single i) a b = one_third (entry xs i) (d i).0 (small_e
     sum x y z k p a b = omega (arith, ints)
 
 -- the list of the rests
-rests : (xs ys : List ℤ) → length xs ≡ length ys → Each IsSmall xs → Each IsSmall ys → (zs : List ℤ) × (length zs ≡ length xs) × (Each IsSmall zs) × Differ xs zs ys
+pub rests : (xs ys : List ℤ) → length xs ≡ length ys → Each IsSmall xs → Each IsSmall ys → (zs : List ℤ) × (length zs ≡ length xs) × (Each IsSmall zs) × Differ xs zs ys
 rests [] [] e a b = ([], refl, tt, (λ i. (pos 0, refl)))
 rests [] (y ∷ ys) e a b = absurd (omega arith)
 rests (x ∷ xs) [] e a b = absurd (omega arith)
@@ -112,53 +112,53 @@ rests (x ∷ xs) (y ∷ ys) e a b =
     with_head t zs d (suc i) = d i
 
 -- ---- where a list begins
-abbrev Begins : ℕ → List ℤ → Type 0
+abbrev pub Begins : ℕ → List ℤ → Type 0
 Begins i xs = (entry xs i ≡ pos 1) × ((j : ℕ) → j < i → entry xs j ≡ pos 0)
 
-begins : ℕ → List ℤ → Bool
+pub begins : ℕ → List ℤ → Bool
 begins i xs = int_eq (entry xs i) (pos 1) && list_all (λ j. int_eq (entry xs j) (pos 0)) (count_from 0 i)
 
-begins_is : (i : ℕ) (xs : List ℤ) → begins i xs ≡ true → Begins i xs
+pub begins_is : (i : ℕ) (xs : List ℤ) → begins i xs ≡ true → Begins i xs
 unfolding begins
 begins_is i xs e = let a = and_parts (int_eq (entry xs i) (pos 1)) (list_all (λ j. int_eq (entry xs j) (pos 0)) (count_from 0 i)) e in
     ((Decides-int_eq (entry xs i) (pos 1)).0 a.0, (λ j l. (Decides-int_eq (entry xs j) (pos 0)).0 (all_at (λ j. int_eq (entry xs j) (pos 0)) j (count_from 0 i) a.1 (count_from_has j 0 i (omega arith) (omega arith)))))
 
-is_begins : (i : ℕ) (xs : List ℤ) → Begins i xs → begins i xs ≡ true
+pub is_begins : (i : ℕ) (xs : List ℤ) → Begins i xs → begins i xs ≡ true
 unfolding begins
 is_begins i xs b = and_from (int_eq (entry xs i) (pos 1)) (list_all (λ j. int_eq (entry xs j) (pos 0)) (count_from 0 i)) ((Decides-int_eq (entry xs i) (pos 1)).1 b.0)
     (all_from (λ j. int_eq (entry xs j) (pos 0)) (count_from 0 i) (λ j k. let l : j < 0 + i = (IsIn-count_from j 0 i k).1 in (Decides-int_eq (entry xs j) (pos 0)).1 (b.1 j (omega arith))))
 
 -- some list that suits begins at the place
-is_start : ℕ → List Link → ℕ → Bool
+pub is_start : ℕ → List Link → ℕ → Bool
 is_start n ls i = list_any (begins i) (suiting n ls)
 
-start_from : (n : ℕ) (ls : List Link) (i : ℕ) → is_start n ls i ≡ true → (xs : List ℤ) × (SuitsAll n ls xs) × Begins i xs
+pub start_from : (n : ℕ) (ls : List Link) (i : ℕ) → is_start n ls i ≡ true → (xs : List ℤ) × (SuitsAll n ls xs) × Begins i xs
 unfolding is_start
 start_from n ls i e = let a = any_from (begins i) (suiting n ls) e in (a.0, (suiting_is n ls a.0).0 a.1, begins_is i a.0 a.2)
 
-start_has : (n : ℕ) (ls : List Link) (i : ℕ) (xs : List ℤ) → SuitsAll n ls xs → Begins i xs → is_start n ls i ≡ true
+pub start_has : (n : ℕ) (ls : List Link) (i : ℕ) (xs : List ℤ) → SuitsAll n ls xs → Begins i xs → is_start n ls i ≡ true
 unfolding is_start
 start_has n ls i xs s b = any_has (begins i) xs (suiting n ls) ((suiting_is n ls xs).1 s) (is_begins i xs b)
 
-fewer : (n : ℕ) (ls : List Link) (l : Link) (xs : List ℤ) → SuitsAll n (ls ++ l ∷ []) xs → SuitsAll n ls xs
+pub fewer : (n : ℕ) (ls : List Link) (l : Link) (xs : List ℤ) → SuitsAll n (ls ++ l ∷ []) xs → SuitsAll n ls xs
 fewer n ls l xs s = record { long = s.long; small = s.small; all = λ x k. s.all x (append_left x ls (l ∷ []) k) }
 
-beyond : (xs : List ℤ) (i : ℕ) → length xs ≤ i → entry xs i ≡ pos 0
+pub beyond : (xs : List ℤ) (i : ℕ) → length xs ≤ i → entry xs i ≡ pos 0
 beyond [] i l = refl
 beyond (x ∷ xs) zero l = absurd (omega arith)
 beyond (x ∷ xs) (suc i) l = beyond xs i (omega arith)
 
-zeros_suit : (xs : List ℤ) → ((i : ℕ) → entry xs i ≡ pos 0) → (l : Link) → Suits xs l
+pub zeros_suit : (xs : List ℤ) → ((i : ℕ) → entry xs i ≡ pos 0) → (l : Link) → Suits xs l
 zeros_suit xs z (Pair i j) = ap₂ (λ a b. a +ℤ b) (z i) (z j)
 zeros_suit xs z (Single i) = z i
 
-below_or : (i n : ℕ) → (i < n) ⊎ (n ≤ i)
+pub below_or : (i n : ℕ) → (i < n) ⊎ (n ≤ i)
 below_or i n = grind arith
 
-below_next : (j s : ℕ) → j < suc s → (j < s) ⊎ (j ≡ s)
+pub below_next : (j s : ℕ) → j < suc s → (j < s) ⊎ (j ≡ s)
 below_next j s l = grind arith
 
-opposite_suits : (xs : List ℤ) (l : Link) → Suits (map neg_ℤ xs) l → Suits xs l
+pub opposite_suits : (xs : List ℤ) (l : Link) → Suits (map neg_ℤ xs) l → Suits xs l
 opposite_suits xs (Pair i j) e = back (entry xs i) (entry xs j) (ap₂ (λ a b. a +ℤ b) (sym (entry_neg xs i)) (sym (entry_neg xs j)) ∙ e)
   where
     back : (a b : ℤ) → neg_ℤ a +ℤ neg_ℤ b ≡ pos 0 → a +ℤ b ≡ pos 0
@@ -206,17 +206,17 @@ module _ (n : ℕ) (ls : List Link) (l : Link) (same_starts : (i : ℕ) → i < 
   follows_last = (follows_is n ls l).1 (λ xs a. suits_last n 0 (omega arith) xs a (λ j lj. absurd (omega arith)))
 
 -- a link that doesn't follow takes a place at which lists begin
-starts : ℕ → List Link → ℕ
+pub starts : ℕ → List Link → ℕ
 starts n ls = tally (is_start n ls) (count_from 0 n)
 
-one_less : (n : ℕ) (ls : List Link) (l : Link) → follows n ls l ≡ false → suc (starts n (ls ++ l ∷ [])) ≤ starts n ls
+pub one_less : (n : ℕ) (ls : List Link) (l : Link) → follows n ls l ≡ false → suc (starts n (ls ++ l ∷ [])) ≤ starts n ls
 unfolding starts
 one_less n ls l e = ⊎_elim
     (λ a. absurd (false≢true (sym e ∙ follows_last n ls l (λ i below s. sym (a.0 i (count_from_has i 0 n (omega arith) (omega arith))) ∙ s))))
     (λ a. a)
     (tally_grows (is_start n (ls ++ l ∷ [])) (is_start n ls) (count_from 0 n) (λ i k s. let r = start_from n (ls ++ l ∷ []) i s in start_has n ls i r.0 (fewer n ls l r.0 r.1) r.2))
 
-short_from : (n : ℕ) (kept ls : List Link) → length kept + starts n kept ≤ n → length (fold (kept_more n) kept ls) ≤ n
+pub short_from : (n : ℕ) (kept ls : List Link) → length kept + starts n kept ≤ n → length (fold (kept_more n) kept ls) ≤ n
 unfolding kept_more
 short_from n kept [] h = omega arith
 short_from n kept (l ∷ ls) h = short_from n (cond (follows n kept l) kept (kept ++ l ∷ [])) ls (tested (follows n kept l)

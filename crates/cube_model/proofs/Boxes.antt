@@ -197,7 +197,7 @@ box_regular (d ∷ ds) (p ∷ ps) c =
 
 -- ---- a full core has all leaf vectors, in order
 
-all_points_has : (ds : List Dimension) (x : List ℕ) → IsPoint ds x → IsIn x (all_points ds)
+pub all_points_has : (ds : List Dimension) (x : List ℕ) → IsPoint ds x → IsIn x (all_points ds)
 unfolding all_points spread
 all_points_has [] [] h = inl refl
 all_points_has [] (x ∷ xs) h = absurd h
@@ -205,7 +205,7 @@ all_points_has (d ∷ ds) [] h = absurd h
 all_points_has (d ∷ ds) (x ∷ xs) h = flat_map_has (λ a. map (λ y. a ∷ y) (all_points ds)) x (x ∷ xs) (count_from 0 (length d.paths))
     (let l : x < length d.paths = h.0 in count_from_has x 0 (length d.paths) (omega arith) (omega arith)) (map_has (λ y. x ∷ y) xs (all_points ds) (all_points_has ds xs h.1))
 
-all_points_are : (ds : List Dimension) (x : List ℕ) → IsIn x (all_points ds) → IsPoint ds x
+pub all_points_are : (ds : List Dimension) (x : List ℕ) → IsIn x (all_points ds) → IsPoint ds x
 unfolding all_points spread
 all_points_are [] x (inl e) = subst (IsPoint []) e tt
 all_points_are [] x (inr k) = absurd k
@@ -248,19 +248,19 @@ increasing_spread a (suc k) ys h = increasing_append (map (λ y. a ∷ y) ys) (s
     let l : suc a ≤ v.0 = (IsIn-count_from v.0 (suc a) k v.1).0 in
     ap₂ before (sym u.2) (sym z.2) ∙ or_left (ltb a v.0) (eqb a v.0 && before u.0 z.0) (lt-ltb a v.0 (omega arith)))
 
-all_points_increasing : (ds : List Dimension) → IsIncreasing (all_points ds)
+pub all_points_increasing : (ds : List Dimension) → IsIncreasing (all_points ds)
 unfolding all_points
 all_points_increasing [] = (refl, tt)
 all_points_increasing (d ∷ ds) = increasing_spread 0 (length d.paths) (all_points ds) (all_points_increasing ds)
 
-before_not_itself : (x : List ℕ) → before x x ≡ true → ⊥
+pub before_not_itself : (x : List ℕ) → before x x ≡ true → ⊥
 before_not_itself [] e = false≢true e
 before_not_itself (x ∷ xs) e = ⊎_elim
     (λ a. let l : x < x = ltb-true x x a in omega arith)
     (λ a. before_not_itself xs (and_parts (eqb x x) (before xs xs) a).1)
     (or_cases (ltb x x) (eqb x x && before xs xs) e)
 
-before_one_way : (x y : List ℕ) → before x y ≡ true → before y x ≡ true → ⊥
+pub before_one_way : (x y : List ℕ) → before x y ≡ true → before y x ≡ true → ⊥
 before_one_way [] [] p q = false≢true p
 before_one_way [] (b ∷ y) p q = false≢true q
 before_one_way (a ∷ x) [] p q = false≢true p
@@ -299,7 +299,7 @@ same_increasing (x ∷ xs) (y ∷ ys) a b f g =
     heads : x ≡ y
     heads = head_cases (f x (inl refl)) (g y (inl refl))
 
-each_at : {X : Type 0} (P : X → Type 0) (x : X) (xs : List X) → Each P xs → IsIn x xs → P x
+pub each_at : {X : Type 0} (P : X → Type 0) (x : X) (xs : List X) → Each P xs → IsIn x xs → P x
 each_at P x [] e h = absurd h
 each_at P x (y ∷ ys) e (inl q) = subst P q e.0
 each_at P x (y ∷ ys) e (inr k) = each_at P x ys e.1 k
@@ -307,7 +307,7 @@ each_at P x (y ∷ ys) e (inr k) = each_at P x ys e.1 k
 pub full_if : (g : Public) → g.shape.points ≡ all_points g.dimensions → IsFull g
 full_if g e x h = subst (IsIn x) (sym e) (all_points_has g.dimensions x h)
 
-full_points : (w : World) → IsWorld w → IsFull w.shown → w.shown.shape.points ≡ all_points w.shown.dimensions
+pub full_points : (w : World) → IsWorld w → IsFull w.shown → w.shown.shape.points ≡ all_points w.shown.dimensions
 full_points w ok full = same_increasing w.shown.shape.points (all_points w.shown.dimensions) ok.increasing (all_points_increasing w.shown.dimensions)
     (λ z k. all_points_has w.shown.dimensions z (each_at (IsPoint w.shown.dimensions) z w.shown.shape.points ok.points k))
     (λ z k. full z (all_points_are w.shown.dimensions z k))

@@ -83,7 +83,7 @@ module _ (f : ℕ → List Entry) (each_on : (m : ℕ) → AllOn m (f m)) where
       later e r = ap₂ (λ x y. x ++ y) (on_other s m (f s) e (each_on s)) r
 
 -- ---- levels of a source are in range
-lesser_in_range : (ds : List Dimension) (ls : List ℕ) (ps : List (Option Pick)) → fits ds ls ps ≡ true → are_levels ds (lesser_levels ls ps) ≡ true
+pub lesser_in_range : (ds : List Dimension) (ls : List ℕ) (ps : List (Option Pick)) → fits ds ls ps ≡ true → are_levels ds (lesser_levels ls ps) ≡ true
 lesser_in_range [] [] [] e = refl
 lesser_in_range [] [] (p ∷ ps) e = absurd (false≢true e)
 lesser_in_range [] (l ∷ ls) ps e = absurd (false≢true e)
@@ -95,7 +95,7 @@ lesser_in_range (d ∷ ds) (l ∷ ls) (p ∷ ps) e = let a = and_parts (is_level
     one None e = e
     one (Some q) e = let a : l ≤ d.levels = leb-true l d.levels (and_parts (leb l d.levels) (ltb q.level d.levels) (and_parts (leb l d.levels && ltb q.level d.levels) (leb q.first q.last) (and_parts (leb l d.levels && ltb q.level d.levels && leb q.first q.last) _ e).0).0).0 in le-leb (lesser l (Some q)) d.levels (omega arith)
 
-meet_in_range : (ds : List Dimension) (a b : List ℕ) → are_levels ds a ≡ true → are_levels ds b ≡ true → are_levels ds (meet a b) ≡ true
+pub meet_in_range : (ds : List Dimension) (a b : List ℕ) → are_levels ds a ≡ true → are_levels ds b ≡ true → are_levels ds (meet a b) ≡ true
 meet_in_range [] [] bs p q = refl
 meet_in_range [] (a ∷ xs) bs p q = absurd (false≢true p)
 meet_in_range (d ∷ ds) [] bs p q = absurd (false≢true p)
@@ -106,11 +106,11 @@ meet_in_range (d ∷ ds) (a ∷ xs) (b ∷ bs) p q =
     let l : a ≤ d.levels = leb-true a d.levels x.0 in
     and_from (leb (min a b) d.levels) (are_levels ds (meet xs bs)) (le-leb (min a b) d.levels (omega arith)) (meet_in_range ds xs bs x.1 y.1)
 
-abbrev InRange : Public → Option (List ℕ) → Type 0
+abbrev pub InRange : Public → Option (List ℕ) → Type 0
 InRange g None = Unit {0}
 InRange g (Some c) = are_levels g.dimensions c ≡ true
 
-entry_in_range : (g : Public) (e : Entry) → is_allowed g e ≡ true → Each (λ c. are_levels g.dimensions c ≡ true) (levels_in e)
+pub entry_in_range : (g : Public) (e : Entry) → is_allowed g e ≡ true → Each (λ c. are_levels g.dimensions c ≡ true) (levels_in e)
 unfolding is_allowed grain
 entry_in_range g (Asked r) a = (lesser_in_range g.dimensions r.group r.picks (fits_valid g r a), tt)
 entry_in_range g (Source m c) a = ((and_parts (is_lattice (method g m)) (are_levels g.dimensions c) a).1, tt)
@@ -133,7 +133,7 @@ fold_in_range g o (e ∷ es) a r = go e (entry_in_range g e a.0) (λ s q. fold_i
     go (Source m c) l again = again (Some (narrowed o c)) (both o c r l.0)
     go (Linked m l) z again = again o r
 
-source_in_range : (g : Public) (h : List Entry) (m : ℕ) → AreAllowed g h → InRange g (source h m)
+pub source_in_range : (g : Public) (h : List Entry) (m : ℕ) → AreAllowed g h → InRange g (source h m)
 unfolding source narrow
 source_in_range g h m a = fold_in_range g None (on m h) (allowed_on g h m a) tt
 
@@ -222,7 +222,7 @@ unfolding kept_more
 basis_of n ls l k = ⊎_elim (λ a. absurd a) (λ a. a) (basis_of_from n [] ls l k)
 
 -- ---- admissible
-admissible_append : (g : Public) (c xs ys : List Entry) → AdmissibleFrom g c xs → AdmissibleFrom g (c ++ xs) ys → AdmissibleFrom g c (xs ++ ys)
+pub admissible_append : (g : Public) (c xs ys : List Entry) → AdmissibleFrom g c xs → AdmissibleFrom g (c ++ xs) ys → AdmissibleFrom g c (xs ++ ys)
 admissible_append g c [] ys a b = subst (λ x. AdmissibleFrom g x ys) (append-nil c) b
 admissible_append g c (x ∷ xs) ys a b = (a.0, a.1, admissible_append g (c ++ x ∷ []) xs ys a.2 (subst (λ z. AdmissibleFrom g z ys) (sym (append_assoc c (x ∷ []) xs)) b))
 

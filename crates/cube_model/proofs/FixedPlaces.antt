@@ -23,7 +23,7 @@ single_from (Pair a b ∷ ls) i h = inr (single_from ls i h)
 single_from (Single a ∷ ls) i (inl e) = inl (ap Single e)
 single_from (Single a ∷ ls) i (inr k) = inr (single_from ls i k)
 
-single_has : (ls : List Link) (i : ℕ) → IsIn (Single i) ls → IsIn i (singles_among ls)
+pub single_has : (ls : List Link) (i : ℕ) → IsIn (Single i) ls → IsIn i (singles_among ls)
 single_has [] i h = absurd h
 single_has (Pair a b ∷ ls) i (inl e) = absurd (cc)
 single_has (Pair a b ∷ ls) i (inr k) = single_has ls i k
@@ -34,11 +34,11 @@ single_has (Single a ∷ ls) i (inl e) = inl (ap place e)
     place (Single x) = x
 single_has (Single a ∷ ls) i (inr k) = inr (single_has ls i k)
 
-one_not_zero : pos 1 ≡ pos 0 → ⊥
+pub one_not_zero : pos 1 ≡ pos 0 → ⊥
 one_not_zero e = cc
 
 -- a fixed place is not free
-fixed_not_free : (n : ℕ) (ls : List Link) (i : ℕ) → is_fixed n ls i ≡ true → is_free n ls i ≡ true → ⊥
+pub fixed_not_free : (n : ℕ) (ls : List Link) (i : ℕ) → is_fixed n ls i ≡ true → is_free n ls i ≡ true → ⊥
 fixed_not_free n ls i x e = ⊎_elim
     (λ a. let q = any_from (λ q. listed q (ends n ls i).oddly) (ends n ls i).evenly a in
     one_way n (pairs_among ls) f.sign i (2 * n) q.0 pairs_suit not_none (listed_has q.0 (ends n ls i).evenly q.1) q.2)
@@ -63,7 +63,7 @@ fixed_not_free n ls i x e = ⊎_elim
     odd_zero x y p q = omega (arith, ints)
 
 -- from a place that is not fixed the changes by walks suit all links
-walks_in : (n : ℕ) (ls : List Link) (i : ℕ) → AreOfPlaces n ls → i < n → is_fixed n ls i ≡ false → IsIn (map (by_walks (ends n ls i)) (count_from 0 n)) (suiting n ls)
+pub walks_in : (n : ℕ) (ls : List Link) (i : ℕ) → AreOfPlaces n ls → i < n → is_fixed n ls i ≡ false → IsIn (map (by_walks (ends n ls i)) (count_from 0 n)) (suiting n ls)
 walks_in n ls i of_ls below x = in_suiting (by_walks (ends n ls i)) n ls (small_walks n (pairs_among ls) i) (λ l k. of_places n l (of_ls l k)) suit
   where
     parts : (list_any (λ q. listed q (ends n ls i).oddly) (ends n ls i).evenly ≡ false) × (list_any (λ q. listed q (ends n ls i).evenly || listed q (ends n ls i).oddly) (singles_among ls) ≡ false)
@@ -87,10 +87,10 @@ walks_in n ls i of_ls below x = in_suiting (by_walks (ends n ls i)) n ls (small_
     suit (Pair a b) k = walks_balance_if n (pairs_among ls) i (a, b) (λ e z. of_ls (Pair e.0 e.1) (pair_from ls e z)) below not_both (pair_has ls a b k)
     suit (Single a) k = alone a (single_has ls a k)
 
-at_start : (n : ℕ) (ls : List Link) (i : ℕ) → AreOfPlaces n ls → i < n → by_walks (ends n ls i) i ≡ pos 1
+pub at_start : (n : ℕ) (ls : List Link) (i : ℕ) → AreOfPlaces n ls → i < n → by_walks (ends n ls i) i ≡ pos 1
 at_start n ls i of_ls below = ap (λ b. cond b (pos 1) (cond (listed i (ends n ls i).oddly) (negsuc 0) (pos 0))) (start_even n (pairs_among ls) i (λ e k. of_ls (Pair e.0 e.1) (pair_from ls e k)) below (2 * n))
 
-not_fixed_free : (n : ℕ) (ls : List Link) (i : ℕ) → AreOfPlaces n ls → i < n → is_fixed n ls i ≡ false → is_free n ls i ≡ true
+pub not_fixed_free : (n : ℕ) (ls : List Link) (i : ℕ) → AreOfPlaces n ls → i < n → is_fixed n ls i ≡ false → is_free n ls i ≡ true
 not_fixed_free n ls i of_ls below x = any_has (λ xs. int_eq (entry xs i) (pos 1)) (map (by_walks (ends n ls i)) (count_from 0 n)) (suiting n ls) (walks_in n ls i of_ls below x)
     ((Decides-int_eq _ (pos 1)).1 (at_place (by_walks (ends n ls i)) n i below ∙ at_start n ls i of_ls below))
 
@@ -135,7 +135,7 @@ small_entry (x ∷ xs) zero e = e.0
 small_entry (x ∷ xs) (suc i) e = small_entry xs i e.1
 
 -- at a fixed place each list that suits is 0
-fixed_zero : (n : ℕ) (ls : List Link) (i : ℕ) → is_fixed n ls i ≡ true → (xs : List ℤ) → SuitsAll n ls xs → entry xs i ≡ pos 0
+pub fixed_zero : (n : ℕ) (ls : List Link) (i : ℕ) → is_fixed n ls i ≡ true → (xs : List ℤ) → SuitsAll n ls xs → entry xs i ≡ pos 0
 fixed_zero n ls i x xs s = cases (small_entry xs i s.small)
   where
     cases : IsSmall (entry xs i) → entry xs i ≡ pos 0
@@ -151,7 +151,7 @@ single_follows n ls i of_ls below = tested (is_fixed n ls i)
     one_not_zero (sym a.2 ∙ (follows_is n ls (Single i)).0 e a.0 a.1)) ∙ sym x)
 
 -- a walk of oddly many pairs makes entries opposite
-odd_opposite : (n : ℕ) (ls : List Link) (i j : ℕ) → listed j (ends n ls i).oddly ≡ true → (xs : List ℤ) → SuitsAll n ls xs → entry xs i +ℤ entry xs j ≡ pos 0
+pub odd_opposite : (n : ℕ) (ls : List Link) (i j : ℕ) → listed j (ends n ls i).oddly ≡ true → (xs : List ℤ) → SuitsAll n ls xs → entry xs i +ℤ entry xs j ≡ pos 0
 odd_opposite n ls i j e xs s = swap (entry xs j) (entry xs i) (odd_sign n (pairs_among ls) (entry xs) i (2 * n) j (λ p k. s.all (Pair p.0 p.1) (pair_from ls p k)) e)
   where
     swap : (a b : ℤ) → a +ℤ b ≡ pos 0 → b +ℤ a ≡ pos 0

@@ -31,7 +31,7 @@ entered_grows h r (SourceWould c t) = extends_refl h
 entered_grows h r (PairFixes k x y i) = extends_refl h
 entered_grows h r (SingleFixes k x i) = extends_refl h
 
-grown_grows : (g : Public) (h : List Entry) (q : Question) → Extends h (grown q g h)
+pub grown_grows : (g : Public) (h : List Entry) (q : Question) → Extends h (grown q g h)
 grown_grows g h (Query r) = go (is_valid g r)
   where
     go : (b : Bool) → Extends h (cond b (entered h r (verdict g h r)) h)
@@ -40,7 +40,7 @@ grown_grows g h (Query r) = go (is_valid g r)
 grown_grows g h (Witness what t) = extends_refl h
 grown_grows g h Shape = extends_refl h
 
-next_grows : (g : Public) (h : List Entry) (q : Question) (o : Outcome) → Extends h (next_by o q g h)
+pub next_grows : (g : Public) (h : List Entry) (q : Question) (o : Outcome) → Extends h (next_by o q g h)
 next_grows g h q Given = grown_grows g h q
 next_grows g h q JournalFault = extends_refl h
 next_grows g h q NoMemory = extends_refl h

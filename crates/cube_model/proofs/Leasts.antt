@@ -45,7 +45,7 @@ finds_least p s (suc n) k e = go (p s) refl e (λ z. finds_least p (suc s) n k z
         cases j a b r (inr l) = r.none_before j l b
 
 -- the head of a filter of numbers in order is the least that passes
-first_least : (p : ℕ → Bool) (s n i k : ℕ) → first (filter p (count_from s n)) ≡ Some i → IsIn k (count_from s n) → p k ≡ true → i ≤ k
+pub first_least : (p : ℕ → Bool) (s n i k : ℕ) → first (filter p (count_from s n)) ≡ Some i → IsIn k (count_from s n) → p k ≡ true → i ≤ k
 first_least p s zero i k e h q = absurd h
 first_least p s (suc n) i k e h q = go (p s) refl e (λ z m. first_least p (suc s) n i k z m q) h
   where
@@ -54,14 +54,14 @@ first_least p s (suc n) i k e h q = go (p s) refl e (λ z m. first_least p (suc 
     go false r z again (inl m) = absurd (false≢true (sym r ∙ ap p m ∙ q))
     go false r z again (inr m) = again z m
 
-in_places : (g : Public) (k : ℕ) → k < length g.shape.points → IsIn k (places g)
+pub in_places : (g : Public) (k : ℕ) → k < length g.shape.points → IsIn k (places g)
 in_places g k l = count_from_has k 0 (length g.shape.points) (omega arith) (omega arith)
 
 pub first_covered : FirstCovered
 first_covered g t i k e l q = first_least (covers g t) 0 (length g.shape.points) i k e (in_places g k l) q
 
 -- the head of pairs listed by the first and then by the second is the least
-first_pair : (p : ℕ → Bool) (q : ℕ → ℕ → Bool) (all : List ℕ) (least : (i k j : ℕ) → first (filter (q i) all) ≡ Some k → IsIn j all → q i j ≡ true → k ≤ j) (s n : ℕ) (e : ℕ × ℕ) (i j : ℕ) → first (flat_map (λ x. map (λ y. (x, y)) (filter (q x) all)) (filter p (count_from s n))) ≡ Some e → IsIn i (count_from s n) → p i ≡ true → IsIn j all → q i j ≡ true → (e.0 < i) ⊎ ((e.0 ≡ i) × (e.1 ≤ j))
+pub first_pair : (p : ℕ → Bool) (q : ℕ → ℕ → Bool) (all : List ℕ) (least : (i k j : ℕ) → first (filter (q i) all) ≡ Some k → IsIn j all → q i j ≡ true → k ≤ j) (s n : ℕ) (e : ℕ × ℕ) (i j : ℕ) → first (flat_map (λ x. map (λ y. (x, y)) (filter (q x) all)) (filter p (count_from s n))) ≡ Some e → IsIn i (count_from s n) → p i ≡ true → IsIn j all → q i j ≡ true → (e.0 < i) ⊎ ((e.0 ≡ i) × (e.1 ≤ j))
 first_pair p q all least s zero e i j f h a k b = absurd h
 first_pair p q all least s (suc n) e i j f h a k b = go (p s) refl f (λ z m. first_pair p q all least (suc s) n e i j z m a k b) h
   where
@@ -104,7 +104,7 @@ first_cut g c t e i j f a b p q r = first_pair (covers g t) (λ i j. not (covers
     0 (length g.shape.points) e i j f (in_places g i a) p (in_places g j b) (and_from (not (covers g t j)) (together g c i j) (not_from_false (covers g t j) q) r)
 
 -- a search splits the list
-search_splits : (g : Public) (c : List ℕ) (ts : List Cell) (t : Cell) → find (λ s. not (is_cut g c s)) ts ≡ Some t → (before : List Cell) × (after : List Cell) × (ts ≡ before ++ t ∷ after) × ((s : Cell) → IsIn s before → is_cut g c s ≡ true) × (is_cut g c t ≡ false)
+pub search_splits : (g : Public) (c : List ℕ) (ts : List Cell) (t : Cell) → find (λ s. not (is_cut g c s)) ts ≡ Some t → (before : List Cell) × (after : List Cell) × (ts ≡ before ++ t ∷ after) × ((s : Cell) → IsIn s before → is_cut g c s ≡ true) × (is_cut g c t ≡ false)
 search_splits g c [] t e = absurd (cc)
 search_splits g c (u ∷ us) t e = go (is_cut g c u) refl e (λ z. search_splits g c us t z)
   where
@@ -119,7 +119,7 @@ search_splits g c (u ∷ us) t e = go (is_cut g c u) refl e (λ z. search_splits
 pub uncut_is_first : UncutIsFirst
 uncut_is_first g c m t e = let r = search_splits g c (protected g m) t e in record { before = r.0; after = r.1; split = r.2; cut_before = r.3; not_cut = r.4 }
 
-distinct_filter : (p : Cell → Bool) (ts : List Cell) → IsDistinct ts → IsDistinct (filter p ts)
+pub distinct_filter : (p : Cell → Bool) (ts : List Cell) → IsDistinct ts → IsDistinct (filter p ts)
 distinct_filter p [] d = tt
 distinct_filter p (t ∷ ts) d = go (p t) (distinct_filter p ts d.1)
   where
@@ -127,7 +127,7 @@ distinct_filter p (t ∷ ts) d = go (p t) (distinct_filter p ts d.1)
     go true r = ((λ k. d.0 (IsIn-filter p t ts k).1), r)
     go false r = r
 
-once : (ts : List Cell) → IsDistinct (each_once ts)
+pub once : (ts : List Cell) → IsDistinct (each_once ts)
 once [] = tt
 once (t ∷ ts) = ((λ k. true≢false (sym (and_from (same t.levels t.levels) (same t.key t.key) (same_refl t.levels) (same_refl t.key)) ∙ not-true (same_cell t t) (IsIn-filter (λ s. not (same_cell t s)) t (each_once ts) k).0)), distinct_filter (λ s. not (same_cell t s)) (each_once ts) (once ts))
 

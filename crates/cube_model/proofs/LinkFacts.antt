@@ -15,15 +15,15 @@ use Rattle.cube_model.proofs.Members.{IsIn-filter, filter_has, IsIn-flat_map, fl
 use Rattle.cube_model.proofs.Parities.{IsOf, Freeing, freeing, walks_suit, all_at, all_from, pair_from, at_place, in_suiting, list_suits}
 use Rattle.cube_model.proofs.Walks.{any_from, any_has, listed_from, even_sign, odd_sign, start_even, even_odd, odd_even, even_odd_back, odd_even_back}
 
-suits_is : (xs : List ℤ) (l : Link) → suits_link xs l ≡ true → Suits xs l
+pub suits_is : (xs : List ℤ) (l : Link) → suits_link xs l ≡ true → Suits xs l
 suits_is xs (Pair i j) e = (Decides-int_eq (entry xs i +ℤ entry xs j) (pos 0)).0 e
 suits_is xs (Single i) e = (Decides-int_eq (entry xs i) (pos 0)).0 e
 
-is_suits : (xs : List ℤ) (l : Link) → Suits xs l → suits_link xs l ≡ true
+pub is_suits : (xs : List ℤ) (l : Link) → Suits xs l → suits_link xs l ≡ true
 is_suits xs (Pair i j) e = (Decides-int_eq (entry xs i +ℤ entry xs j) (pos 0)).1 e
 is_suits xs (Single i) e = (Decides-int_eq (entry xs i) (pos 0)).1 e
 
-small_is : (n : ℕ) (xs : List ℤ) → IsIn xs (small_lists n) → (length xs ≡ n) × Each IsSmall xs
+pub small_is : (n : ℕ) (xs : List ℤ) → IsIn xs (small_lists n) → (length xs ≡ n) × Each IsSmall xs
 small_is zero xs (inl e) = (ap length (sym e), subst (Each IsSmall) e tt)
 small_is zero xs (inr k) = absurd k
 small_is (suc n) xs h = go (λ rest k. small_is n rest k) (IsIn-flat_map (λ xs. (negsuc 0 ∷ xs) ∷ (pos 0 ∷ xs) ∷ (pos 1 ∷ xs) ∷ []) xs (small_lists n) h)
@@ -40,7 +40,7 @@ small_is (suc n) xs h = go (λ rest k. small_is n rest k) (IsIn-flat_map (λ xs.
         cases (inr (inr (inl e))) = made r.0 (pos 1) (again r.0 r.1) (inr (inr refl)) e
         cases (inr (inr (inr k))) = absurd k
 
-is_small : (n : ℕ) (xs : List ℤ) → length xs ≡ n → Each IsSmall xs → IsIn xs (small_lists n)
+pub is_small : (n : ℕ) (xs : List ℤ) → length xs ≡ n → Each IsSmall xs → IsIn xs (small_lists n)
 is_small zero [] e s = inl refl
 is_small zero (x ∷ xs) e s = absurd (omega arith)
 is_small (suc n) [] e s = absurd (omega arith)
@@ -71,10 +71,10 @@ follows_is n ls l = (
 )
 
 -- keeping what does not follow
-kept_more : ℕ → List Link → Link → List Link
+pub kept_more : ℕ → List Link → Link → List Link
 kept_more n kept l = cond (follows n kept l) kept (kept ++ l ∷ [])
 
-basis_from : (n : ℕ) (kept ls : List Link) (xs : List ℤ) → SuitsAll n (fold (kept_more n) kept ls) xs ↔ (SuitsAll n kept xs × SuitsAll n ls xs)
+pub basis_from : (n : ℕ) (kept ls : List Link) (xs : List ℤ) → SuitsAll n (fold (kept_more n) kept ls) xs ↔ (SuitsAll n kept xs × SuitsAll n ls xs)
 unfolding kept_more
 basis_from n kept [] xs = ((λ s. (s, record { long = s.long; small = s.small; all = λ l k. absurd k })), (λ s. s.0))
 basis_from n kept (l ∷ ls) xs = go (follows n kept l) refl (λ k. basis_from n k ls xs)
@@ -127,7 +127,7 @@ pub of_places : (n : ℕ) (l : Link) → IsOfPlaces n l → IsOf (λ k. k < n) l
 of_places n (Pair i j) h = h
 of_places n (Single i) h = h
 
-free_to : (n : ℕ) (ls ks : List Link) (i : ℕ) → ((xs : List ℤ) → SuitsAll n ls xs ↔ SuitsAll n ks xs) → is_free n ls i ≡ true → is_free n ks i ≡ true
+pub free_to : (n : ℕ) (ls ks : List Link) (i : ℕ) → ((xs : List ℤ) → SuitsAll n ls xs ↔ SuitsAll n ks xs) → is_free n ls i ≡ true → is_free n ks i ≡ true
 free_to n ls ks i same e = let a = (free_is n ls i).0 e in (free_is n ks i).1 (a.0, (same a.0).0 a.1, a.2)
 
 -- the change at a place, as each suiting list with +1 at the start has it
@@ -186,31 +186,31 @@ same_changes n ls ks i place of_ls of_ks below here same free = go
     go false false false false p q r t = ap₂ (λ x y. cond x (pos 1) (cond y (negsuc 0) (pos 0))) p q ∙ sym (ap₂ (λ x y. cond x (pos 1) (cond y (negsuc 0) (pos 0))) r t)
 
 -- walks and their ends
-abbrev places_of : Reached → ℕ → List ℕ
+abbrev pub places_of : Reached → ℕ → List ℕ
 places_of w zero = w.evenly
 places_of w (suc zero) = w.oddly
 places_of w (suc (suc k)) = places_of w k
 
-step_on : (n : ℕ) (ps : List (ℕ × ℕ)) (from : ℕ) (of_ps : (e : ℕ × ℕ) → IsIn e ps → (e.0 < n) × (e.1 < n)) (below : from < n) (x q k : ℕ) → Joins ps x q → listed x (places_of (reached n ps from (2 * n)) k) ≡ true → listed q (places_of (reached n ps from (2 * n)) (suc k)) ≡ true
+pub step_on : (n : ℕ) (ps : List (ℕ × ℕ)) (from : ℕ) (of_ps : (e : ℕ × ℕ) → IsIn e ps → (e.0 < n) × (e.1 < n)) (below : from < n) (x q k : ℕ) → Joins ps x q → listed x (places_of (reached n ps from (2 * n)) k) ≡ true → listed q (places_of (reached n ps from (2 * n)) (suc k)) ≡ true
 step_on n ps from of_ps below x q zero (inl j) l = even_odd n ps from of_ps below (x, q) j l
 step_on n ps from of_ps below x q zero (inr j) l = even_odd_back n ps from of_ps below (q, x) j l
 step_on n ps from of_ps below x q (suc zero) (inl j) l = odd_even n ps from of_ps below (x, q) j l
 step_on n ps from of_ps below x q (suc zero) (inr j) l = odd_even_back n ps from of_ps below (q, x) j l
 step_on n ps from of_ps below x q (suc (suc k)) j l = step_on n ps from of_ps below x q k j l
 
-walk_ends : (n : ℕ) (ps : List (ℕ × ℕ)) (from : ℕ) (of_ps : (e : ℕ × ℕ) → IsIn e ps → (e.0 < n) × (e.1 < n)) (below : from < n) (k q : ℕ) → Walk ps from k q → listed q (places_of (reached n ps from (2 * n)) k) ≡ true
+pub walk_ends : (n : ℕ) (ps : List (ℕ × ℕ)) (from : ℕ) (of_ps : (e : ℕ × ℕ) → IsIn e ps → (e.0 < n) × (e.1 < n)) (below : from < n) (k q : ℕ) → Walk ps from k q → listed q (places_of (reached n ps from (2 * n)) k) ≡ true
 walk_ends n ps from of_ps below zero q e = subst (λ z. listed z (reached n ps from (2 * n)).evenly ≡ true) e (start_even n ps from of_ps below (2 * n))
 walk_ends n ps from of_ps below (suc k) q h = step_on n ps from of_ps below h.0 q k h.2 (walk_ends n ps from of_ps below k h.0 h.1)
 
-even_places : (w : Reached) (k : ℕ) → places_of w (2 * k) ≡ w.evenly
+pub even_places : (w : Reached) (k : ℕ) → places_of w (2 * k) ≡ w.evenly
 even_places w zero = refl
 even_places w (suc k) = let e : 2 * suc k ≡ suc (suc (2 * k)) = omega arith in ap (places_of w) e ∙ even_places w k
 
-odd_places : (w : Reached) (k : ℕ) → places_of w (suc (2 * k)) ≡ w.oddly
+pub odd_places : (w : Reached) (k : ℕ) → places_of w (suc (2 * k)) ≡ w.oddly
 odd_places w zero = refl
 odd_places w (suc k) = let e : suc (2 * suc k) ≡ suc (suc (suc (2 * k))) = omega arith in ap (places_of w) e ∙ odd_places w k
 
-joins_from : (ps : List (ℕ × ℕ)) (q : ℕ) (xs : List ℕ) → is_joined ps q xs ≡ true → (x : ℕ) × (IsIn x xs) × Joins ps x q
+pub joins_from : (ps : List (ℕ × ℕ)) (q : ℕ) (xs : List ℕ) → is_joined ps q xs ≡ true → (x : ℕ) × (IsIn x xs) × Joins ps x q
 joins_from ps q xs j = go (any_from (λ e. (eqb e.0 q && listed e.1 xs) || (eqb e.1 q && listed e.0 xs)) ps j)
   where
     go : (e : ℕ × ℕ) × (IsIn e ps) × (((eqb e.0 q && listed e.1 xs) || (eqb e.1 q && listed e.0 xs)) ≡ true) → (x : ℕ) × (IsIn x xs) × Joins ps x q
@@ -226,11 +226,11 @@ joins_from ps q xs j = go (any_from (λ e. (eqb e.0 q && listed e.1 xs) || (eqb 
         pair_at p q = ap₂ pair p q
 
 -- a reached place has a walk
-record Led (ps : List (ℕ × ℕ)) (from : ℕ) (w : Reached) : Type 0 where
+pub record Led (ps : List (ℕ × ℕ)) (from : ℕ) (w : Reached) : Type 0 where
   even : (q : ℕ) → IsIn q w.evenly → (k : ℕ) × Walk ps from (2 * k) q
   odd : (q : ℕ) → IsIn q w.oddly → (k : ℕ) × Walk ps from (suc (2 * k)) q
 
-led : (n : ℕ) (ps : List (ℕ × ℕ)) (from k : ℕ) → Led ps from (reached n ps from k)
+pub led : (n : ℕ) (ps : List (ℕ × ℕ)) (from k : ℕ) → Led ps from (reached n ps from k)
 led n ps from zero = record { even = only; odd = λ q z. absurd z }
   where
     only : (q : ℕ) → IsIn q (from ∷ []) → (k : ℕ) × Walk ps from (2 * k) q

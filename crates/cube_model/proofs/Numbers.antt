@@ -12,19 +12,19 @@ pub top : List Dimension → List ℕ
 top ds = map (λ d. d.levels) ds
 
 -- blocks of one length, one after another
-blocks_length : {X : Type 0} (f : ℕ → List X) (w : ℕ) → ((a : ℕ) → length (f a) ≡ w) → (s n : ℕ) → length (flat_map f (count_from s n)) ≡ n * w
+pub blocks_length : {X : Type 0} (f : ℕ → List X) (w : ℕ) → ((a : ℕ) → length (f a) ≡ w) → (s n : ℕ) → length (flat_map f (count_from s n)) ≡ n * w
 blocks_length f w each s zero = sym (zero-mul w)
 blocks_length f w each s (suc n) = length-append (f s) (flat_map f (count_from (suc s) n)) ∙ more (length (f s)) (length (flat_map f (count_from (suc s) n))) (n * w) (suc n * w) (each s) (blocks_length f w each (suc s) n) (suc-mul n w)
   where
     more : (a b c d : ℕ) → a ≡ w → b ≡ c → d ≡ c + w → a + b ≡ d
     more a b c d p q r = omega arith
 
-get_left : {X : Type 0} (xs ys : List X) (n : ℕ) (x : X) → slice_get xs n ≡ Some x → slice_get (xs ++ ys) n ≡ Some x
+pub get_left : {X : Type 0} (xs ys : List X) (n : ℕ) (x : X) → slice_get xs n ≡ Some x → slice_get (xs ++ ys) n ≡ Some x
 get_left [] ys n x e = absurd (cc)
 get_left (z ∷ xs) ys zero x e = e
 get_left (z ∷ xs) ys (suc n) x e = get_left xs ys n x e
 
-get_right : {X : Type 0} (xs ys : List X) (n : ℕ) → slice_get (xs ++ ys) (length xs + n) ≡ slice_get ys n
+pub get_right : {X : Type 0} (xs ys : List X) (n : ℕ) → slice_get (xs ++ ys) (length xs + n) ≡ slice_get ys n
 get_right [] ys n = ap (slice_get ys) (none n)
   where
     none : (n : ℕ) → 0 + n ≡ n
@@ -34,16 +34,16 @@ get_right (x ∷ xs) ys n = ap (slice_get (x ∷ (xs ++ ys))) (one (length xs) n
     one : (a n : ℕ) → suc a + n ≡ suc (a + n)
     one a n = omega arith
 
-get_map : {X Y : Type 0} (f : X → Y) (xs : List X) (n : ℕ) (x : X) → slice_get xs n ≡ Some x → slice_get (map f xs) n ≡ Some (f x)
+pub get_map : {X Y : Type 0} (f : X → Y) (xs : List X) (n : ℕ) (x : X) → slice_get xs n ≡ Some x → slice_get (map f xs) n ≡ Some (f x)
 get_map f [] n x e = absurd (cc)
 get_map f (z ∷ xs) zero x e = let q : z ≡ x = cc in ap (λ y. Some (f y)) q
 get_map f (z ∷ xs) (suc n) x e = get_map f xs n x e
 
-length_map : {X Y : Type 0} (f : X → Y) (xs : List X) → length (map f xs) ≡ length xs
+pub length_map : {X Y : Type 0} (f : X → Y) (xs : List X) → length (map f xs) ≡ length xs
 length_map f [] = refl
 length_map f (x ∷ xs) = ap suc (length_map f xs)
 
-in_block : {X : Type 0} (f : ℕ → List X) (w : ℕ) → ((a : ℕ) → length (f a) ≡ w) → (s k i n : ℕ) (x : X) → i < k → slice_get (f (s + i)) n ≡ Some x → slice_get (flat_map f (count_from s k)) (i * w + n) ≡ Some x
+pub in_block : {X : Type 0} (f : ℕ → List X) (w : ℕ) → ((a : ℕ) → length (f a) ≡ w) → (s k i n : ℕ) (x : X) → i < k → slice_get (f (s + i)) n ≡ Some x → slice_get (flat_map f (count_from s k)) (i * w + n) ≡ Some x
 in_block f w each s zero i n x l e = absurd (omega arith)
 in_block f w each s (suc k) zero n x l e = ap (slice_get (f s ++ flat_map f (count_from (suc s) k))) (none (0 * w) n (zero-mul w)) ∙ get_left (f s) (flat_map f (count_from (suc s) k)) n x (subst (λ y. slice_get (f y) n ≡ Some x) (start s) e)
   where

@@ -30,21 +30,21 @@ finer_below (l ∷ ls) (x ∷ xs) e =
     let k : x ≤ l = leb-true x l p.0 in
     flat_map_has (λ a. map (λ rest. a ∷ rest) (cuboids_below ls)) x (x ∷ xs) (count_from 0 (suc l)) (count_from_has x 0 (suc l) (omega arith) (omega arith)) (map_has (λ rest. x ∷ rest) xs (cuboids_below ls) (finer_below ls xs p.1))
 
-cell : List ℕ → List ℕ → Cell
+pub cell : List ℕ → List ℕ → Cell
 cell c k = record { levels = c; key = k }
 
 pub same_cell_eq : (s t : Cell) → same_cell s t ≡ true → s ≡ t
 unfolding cell
 same_cell_eq s t e = let p = and_parts (same s.levels t.levels) (same s.key t.key) e in ap₂ cell (same_eq s.levels t.levels p.0) (same_eq s.key t.key p.1)
 
-each_once_has : (t : Cell) (ts : List Cell) → IsIn t ts → IsIn t (each_once ts)
+pub each_once_has : (t : Cell) (ts : List Cell) → IsIn t ts → IsIn t (each_once ts)
 each_once_has t [] h = h
 each_once_has t (s ∷ ts) (inl e) = inl e
 each_once_has t (s ∷ ts) (inr k) = tested (same_cell s t)
     (λ e. inl (same_cell_eq s t e))
     (λ e. inr (filter_has (λ u. not (same_cell s u)) t (each_once ts) (ap not e) (each_once_has t ts k)))
 
-touched_is : (g : Public) (o : Object) (c : List ℕ) (t : Cell) → IsIn t (touched g o c) → (c ≡ t.levels) × ((i : ℕ) × (i < length g.shape.points) × (in_slice g o i ≡ true) × (covers g t i ≡ true))
+pub touched_is : (g : Public) (o : Object) (c : List ℕ) (t : Cell) → IsIn t (touched g o c) → (c ≡ t.levels) × ((i : ℕ) × (i < length g.shape.points) × (in_slice g o i ≡ true) × (covers g t i ≡ true))
 unfolding cell
 touched_is g o c t h =
     let a = IsIn-map (cell c) t (in_order (map (key_at g c) (filter (in_slice g o) (places g)))) h in
@@ -52,7 +52,7 @@ touched_is g o c t h =
     let p = IsIn-filter (in_slice g o) b.0 (places g) b.1 in
     (ap (λ s. s.levels) a.2, (b.0, place_below g b.0 p.1, p.0, subst (λ s. covers g s b.0 ≡ true) a.2 (ap (λ k. same k a.0) b.2 ∙ same_refl a.0)))
 
-touched_has : (g : Public) (o : Object) (t : Cell) (i : ℕ) → i < length g.shape.points → in_slice g o i ≡ true → covers g t i ≡ true → IsIn t (touched g o t.levels)
+pub touched_has : (g : Public) (o : Object) (t : Cell) (i : ℕ) → i < length g.shape.points → in_slice g o i ≡ true → covers g t i ≡ true → IsIn t (touched g o t.levels)
 unfolding cell
 touched_has g o t i l s e =
     map_has (cell t.levels) t.key (in_order (map (key_at g t.levels) (filter (in_slice g o) (places g))))

@@ -16,14 +16,14 @@ use Rattle.cube_model.proofs.Sources.{place_below, cut_at, Each-get_or}
 pub meet_is_greatest : MeetIsGreatest
 meet_is_greatest a b e = record { below_first = meet_left a b e; below_second = meet_right a b e; greatest = λ d p q. meet_greatest a b d p q }
 
-place_of : (g : Public) (i : ℕ) → i < length g.shape.points → IsIn i (places g)
+pub place_of : (g : Public) (i : ℕ) → i < length g.shape.points → IsIn i (places g)
 place_of g i l = count_from_has i 0 (length g.shape.points) (omega arith) (omega arith)
 
-is_some_first : {X : Type 0} (x : X) (xs : List X) → IsIn x xs → is_some (first xs) ≡ true
+pub is_some_first : {X : Type 0} (x : X) (xs : List X) → IsIn x xs → is_some (first xs) ≡ true
 is_some_first x [] h = absurd h
 is_some_first x (y ∷ ys) h = refl
 
-cut_from : (g : Public) (c : List ℕ) (t : Cell) (i j : ℕ) → i < length g.shape.points → j < length g.shape.points → covers g t i ≡ true → covers g t j ≡ false → together g c i j ≡ true → is_cut g c t ≡ true
+pub cut_from : (g : Public) (c : List ℕ) (t : Cell) (i j : ℕ) → i < length g.shape.points → j < length g.shape.points → covers g t i ≡ true → covers g t j ≡ false → together g c i j ≡ true → is_cut g c t ≡ true
 unfolding cutting_pairs
 cut_from g c t i j a b p q r = is_some_first (i, j) (cutting_pairs g c t)
     (flat_map_has (λ i. map (λ j. (i, j)) (filter (λ j. not (covers g t j) && together g c i j) (places g))) i (i, j) (filter (covers g t) (places g))
@@ -61,7 +61,7 @@ coarser_cuts w c d t ok f h =
     ∙ same_refl (ancestors w.shown.dimensions d (point w.shown e.0.0)))
 
 -- the order of keys
-before_trans : (x y z : List ℕ) → before x y ≡ true → before y z ≡ true → before x z ≡ true
+pub before_trans : (x y z : List ℕ) → before x y ≡ true → before y z ≡ true → before x z ≡ true
 before_trans [] [] z p q = q
 before_trans [] (b ∷ y) [] p q = absurd (false≢true q)
 before_trans [] (b ∷ y) (c ∷ z) p q = refl
@@ -79,17 +79,17 @@ before_trans (a ∷ x) (b ∷ y) (c ∷ z) p q = ⊎_elim
     (or_cases (ltb a b) (eqb a b && before x y) p)
 
 -- two keys are equal, or one comes before the other
-before_total : (x y : List ℕ) → same x y ≡ false → before x y ≡ false → before y x ≡ true
+pub before_total : (x y : List ℕ) → same x y ≡ false → before x y ≡ false → before y x ≡ true
 before_total [] [] p q = absurd (false≢true (sym p))
 before_total [] (b ∷ y) p q = absurd (false≢true (sym q))
 before_total (a ∷ x) [] p q = refl
 before_total (a ∷ x) (b ∷ y) p q = grind (arith, nat_tests, before_total x y)
 
-all_later : (x y : List ℕ) (ks : List (List ℕ)) → before x y ≡ true → list_all (before y) ks ≡ true → list_all (before x) ks ≡ true
+pub all_later : (x y : List ℕ) (ks : List (List ℕ)) → before x y ≡ true → list_all (before y) ks ≡ true → list_all (before x) ks ≡ true
 all_later x y [] p q = refl
 all_later x y (k ∷ ks) p q = let r = and_parts (before y k) (list_all (before y) ks) q in and_from (before x k) (list_all (before x) ks) (before_trans x y k p r.0) (all_later x y ks p r.1)
 
-all_with_key : (x k : List ℕ) (ks : List (List ℕ)) → before x k ≡ true → list_all (before x) ks ≡ true → list_all (before x) (with_key k ks) ≡ true
+pub all_with_key : (x k : List ℕ) (ks : List (List ℕ)) → before x k ≡ true → list_all (before x) ks ≡ true → list_all (before x) (with_key k ks) ≡ true
 all_with_key x k [] p q = and_from (before x k) true p refl
 all_with_key x k (a ∷ ks) p q = go (same k a) (before k a) (all_with_key x k ks p (and_parts (before x a) (list_all (before x) ks) q).1)
   where
@@ -98,7 +98,7 @@ all_with_key x k (a ∷ ks) p q = go (same k a) (before k a) (all_with_key x k k
     go false true r = and_from (before x k) (list_all (before x) (a ∷ ks)) p q
     go false false r = and_from (before x a) (list_all (before x) (with_key k ks)) (and_parts (before x a) (list_all (before x) ks) q).0 r
 
-increasing_with_key : (k : List ℕ) (ks : List (List ℕ)) → IsIncreasing ks → IsIncreasing (with_key k ks)
+pub increasing_with_key : (k : List ℕ) (ks : List (List ℕ)) → IsIncreasing ks → IsIncreasing (with_key k ks)
 increasing_with_key k [] i = (refl, tt)
 increasing_with_key k (a ∷ ks) i = go (same k a) (before k a) refl refl (increasing_with_key k ks i.1)
   where
@@ -107,7 +107,7 @@ increasing_with_key k (a ∷ ks) i = go (same k a) (before k a) refl refl (incre
     go false true p q r = (and_from (before k a) (list_all (before k) ks) q (all_later k a ks q i.0), i)
     go false false p q r = (all_with_key a k ks (before_total k a p q) i.0, r)
 
-with_key_has : (x k : List ℕ) (ks : List (List ℕ)) → IsIn x (k ∷ ks) → IsIn x (with_key k ks)
+pub with_key_has : (x k : List ℕ) (ks : List (List ℕ)) → IsIn x (k ∷ ks) → IsIn x (with_key k ks)
 with_key_has x k [] h = h
 with_key_has x k (a ∷ ks) h = go (same k a) (before k a) refl h (λ z. with_key_has x k ks z)
   where
@@ -131,7 +131,7 @@ in_order_increasing (k ∷ ks) = increasing_with_key k (in_order ks) (in_order_i
 pub in_order_law : InOrder
 in_order_law ks = (in_order_increasing ks, (λ k. ((λ h. IsIn-in_order k ks h), (λ h. in_order_has k ks h))))
 
-keys_of-map : (g : Public) (r : Request) (ks : List (List ℕ)) → keys_of (map (row_at g r) ks) ≡ ks
+pub keys_of-map : (g : Public) (r : Request) (ks : List (List ℕ)) → keys_of (map (row_at g r) ks) ≡ ks
 keys_of-map g r [] = refl
 keys_of-map g r (k ∷ ks) = ap (λ x. k ∷ x) (keys_of-map g r ks)
 

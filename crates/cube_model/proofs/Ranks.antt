@@ -82,7 +82,7 @@ before_suc a b x y e = ⊎_elim
     (or_cases (ltb a b) (eqb a b && before x y) e)
 
 -- ---- cuboids
-finer_levels : (ds : List Dimension) (c ls : List ℕ) → is_finer c ls ≡ true → are_levels ds ls ≡ true → are_levels ds c ≡ true
+pub finer_levels : (ds : List Dimension) (c ls : List ℕ) → is_finer c ls ≡ true → are_levels ds ls ≡ true → are_levels ds c ≡ true
 finer_levels [] [] ls f e = refl
 finer_levels [] (x ∷ c) [] f e = absurd (false≢true f)
 finer_levels [] (x ∷ c) (l ∷ ls) f e = absurd (false≢true e)

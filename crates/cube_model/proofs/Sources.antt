@@ -30,7 +30,7 @@ pub record IsCutting (g : Public) (c : List ℕ) (t : Cell) (e : ℕ × ℕ) : T
 pub place_below : (g : Public) (i : ℕ) → IsIn i (places g) → i < length g.shape.points
 place_below g i h = let r = IsIn-count_from i 0 (length g.shape.points) h in let b : i < 0 + length g.shape.points = r.1 in omega arith
 
-cutting_is : (g : Public) (c : List ℕ) (t : Cell) (e : ℕ × ℕ) → IsIn e (cutting_pairs g c t) → IsCutting g c t e
+pub cutting_is : (g : Public) (c : List ℕ) (t : Cell) (e : ℕ × ℕ) → IsIn e (cutting_pairs g c t) → IsCutting g c t e
 unfolding cutting_pairs
 cutting_is g c t e h =
     let a = IsIn-flat_map (λ i. map (λ j. (i, j)) (filter (λ j. not (covers g t j) && together g c i j) (places g))) e (filter (covers g t) (places g)) h in
@@ -68,7 +68,7 @@ rows_alike w c r i j key ok a b v f t =
     (Each-get_or (IsPoint w.shown.dimensions) w.shown.shape.points j [] ok.points b) (fits_valid w.shown r v) f t in
     ap₂ (λ x y. x && same y key) k.1 k.0
 
-moved_is : (e : ℕ × ℕ) → (e.0 ≡ e.1 → ⊥) → (p : ℕ) → moved e p ≡ at_one e.0 (pos 1) p +ℤ at_one e.1 (negsuc 0) p
+pub moved_is : (e : ℕ × ℕ) → (e.0 ≡ e.1 → ⊥) → (p : ℕ) → moved e p ≡ at_one e.0 (pos 1) p +ℤ at_one e.1 (negsuc 0) p
 moved_is e d p = go (eqb p e.0) (eqb p e.1) refl refl
   where
     go : (a b : Bool) → eqb p e.0 ≡ a → eqb p e.1 ≡ b → cond a (pos 1) (cond b (negsuc 0) (pos 0)) ≡ cond a (pos 1) (pos 0) +ℤ cond b (negsuc 0) (pos 0)
@@ -77,7 +77,7 @@ moved_is e d p = go (eqb p e.0) (eqb p e.1) refl refl
     go false true q r = refl
     go false false q r = refl
 
-apart : (g : Public) (c : List ℕ) (t : Cell) (e : ℕ × ℕ) → IsCutting g c t e → e.0 ≡ e.1 → ⊥
+pub apart : (g : Public) (c : List ℕ) (t : Cell) (e : ℕ × ℕ) → IsCutting g c t e → e.0 ≡ e.1 → ⊥
 apart g c t e k q = true≢false (sym k.covers_first ∙ ap (covers g t) q ∙ k.not_second)
 
 -- +1 at one place and -1 at another, in rows that hold both or none
@@ -128,7 +128,7 @@ IsIn-each_once t [] h = h
 IsIn-each_once t (s ∷ ts) (inl e) = inl e
 IsIn-each_once t (s ∷ ts) (inr k) = inr (IsIn-each_once t ts (IsIn-filter (λ u. not (same_cell s u)) t (each_once ts) k).1)
 
-touched_covers : (g : Public) (o : Object) (c : List ℕ) (t : Cell) → IsIn t (touched g o c) → (i : ℕ) × IsIn i (covered g t)
+pub touched_covers : (g : Public) (o : Object) (c : List ℕ) (t : Cell) → IsIn t (touched g o c) → (i : ℕ) × IsIn i (covered g t)
 touched_covers g o c t h =
     let a = IsIn-map cell_of t (in_order (map (key_at g c) (filter (in_slice g o) (places g)))) h in
     let b = IsIn-map (key_at g c) a.0 (filter (in_slice g o) (places g)) (IsIn-in_order a.0 (map (key_at g c) (filter (in_slice g o) (places g))) a.1) in

@@ -24,7 +24,7 @@ any_from {X} p (y ∷ ys) e = go (λ k. any_from p ys k) (or_cases (p y) (list_a
     go again (inl l) = (y, inl refl, l)
     go again (inr k) = ((again k).0, inr (again k).1, (again k).2)
 
-any_alike : {X : Type 0} (p q : X → Bool) (xs : List X) → ((x : X) → IsIn x xs → p x ≡ q x) → list_any p xs ≡ list_any q xs
+pub any_alike : {X : Type 0} (p q : X → Bool) (xs : List X) → ((x : X) → IsIn x xs → p x ≡ q x) → list_any p xs ≡ list_any q xs
 any_alike p q [] h = refl
 any_alike p q (x ∷ xs) h = ap₂ (λ a b. a || b) (h x (inl refl)) (any_alike p q xs (λ y k. h y (inr k)))
 
@@ -35,13 +35,13 @@ pub listed_has : (x : ℕ) (xs : List ℕ) → IsIn x xs → listed x xs ≡ tru
 listed_has x xs h = any_has (λ y. eqb x y) x xs h (eq-eqb x x refl)
 
 -- a Bool is what it is true for
-same_truth : (a b : Bool) → (a ≡ true → b ≡ true) → (b ≡ true → a ≡ true) → a ≡ b
+pub same_truth : (a b : Bool) → (a ≡ true → b ≡ true) → (b ≡ true → a ≡ true) → a ≡ b
 same_truth true b f g = sym (f refl)
 same_truth false true f g = g refl
 same_truth false false f g = refl
 
 -- what a filter of all places lists
-listed_filter : (n : ℕ) (test : ℕ → Bool) (q : ℕ) → q < n → listed q (filter test (count_from 0 n)) ≡ test q
+pub listed_filter : (n : ℕ) (test : ℕ → Bool) (q : ℕ) → q < n → listed q (filter test (count_from 0 n)) ≡ test q
 listed_filter n test q l = same_truth (listed q (filter test (count_from 0 n))) (test q)
     (λ e. (IsIn-filter test q (count_from 0 n) (listed_from q (filter test (count_from 0 n)) e)).0)
     (λ e. listed_has q (filter test (count_from 0 n)) (filter_has test q (count_from 0 n) e (count_from_has q 0 n (omega arith) (omega arith))))
@@ -60,7 +60,7 @@ tally_below p (x ∷ xs) = go (p x) (tally_below p xs)
     go true h = omega arith
     go false h = omega arith
 
-tally_some : (p : ℕ → Bool) (x : ℕ) (xs : List ℕ) → IsIn x xs → p x ≡ true → 1 ≤ tally p xs
+pub tally_some : (p : ℕ → Bool) (x : ℕ) (xs : List ℕ) → IsIn x xs → p x ≡ true → 1 ≤ tally p xs
 unfolding tally
 tally_some p x [] h e = absurd h
 tally_some p x (y ∷ ys) (inl yx) e = let z : p y ≡ true = ap p yx ∙ e in rw z (omega arith)
@@ -94,10 +94,10 @@ abbrev pub ArePlaces : ℕ → List (ℕ × ℕ) → Type 0
 ArePlaces n ps = (e : ℕ × ℕ) → IsIn e ps → (e.0 < n) × (e.1 < n)
 
 -- two lists list the same places
-abbrev Alike : ℕ → List ℕ → List ℕ → Type 0
+abbrev pub Alike : ℕ → List ℕ → List ℕ → Type 0
 Alike n xs ys = (q : ℕ) → q < n → listed q xs ≡ listed q ys
 
-joined_alike : (n : ℕ) (ps : List (ℕ × ℕ)) (q : ℕ) (xs ys : List ℕ) → ArePlaces n ps → Alike n xs ys → is_joined ps q xs ≡ is_joined ps q ys
+pub joined_alike : (n : ℕ) (ps : List (ℕ × ℕ)) (q : ℕ) (xs ys : List ℕ) → ArePlaces n ps → Alike n xs ys → is_joined ps q xs ≡ is_joined ps q ys
 joined_alike n ps q xs ys a h = any_alike _ _ ps (λ e k.
     ap₂ (λ x y. (eqb e.0 q && x) || (eqb e.1 q && y)) (h e.1 (a e k).1) (h e.0 (a e k).0))
 
@@ -186,7 +186,7 @@ module _ (n : ℕ) (ps : List (ℕ × ℕ)) (from : ℕ) (places : ArePlaces n p
   start_even (suc k) = listed_filter n _ from below ∙ or_left (listed from (reached n ps from k).evenly) (is_joined ps from (reached n ps from k).oddly) (start_even k)
 
 -- a place that a pair joins to some of these has the opposite sign of one of them
-joined_sign : (s : ℕ → ℤ) (ps : List (ℕ × ℕ)) (q : ℕ) (xs : List ℕ) → ((e : ℕ × ℕ) → IsIn e ps → s e.0 +ℤ s e.1 ≡ pos 0) → is_joined ps q xs ≡ true → (x : ℕ) × (IsIn x xs) × (s q +ℤ s x ≡ pos 0)
+pub joined_sign : (s : ℕ → ℤ) (ps : List (ℕ × ℕ)) (q : ℕ) (xs : List ℕ) → ((e : ℕ × ℕ) → IsIn e ps → s e.0 +ℤ s e.1 ≡ pos 0) → is_joined ps q xs ≡ true → (x : ℕ) × (IsIn x xs) × (s q +ℤ s x ≡ pos 0)
 joined_sign s ps q xs h j = go (any_from (λ e. (eqb e.0 q && listed e.1 xs) || (eqb e.1 q && listed e.0 xs)) ps j)
   where
     go : (e : ℕ × ℕ) × (IsIn e ps) × (((eqb e.0 q && listed e.1 xs) || (eqb e.1 q && listed e.0 xs)) ≡ true) → (x : ℕ) × (IsIn x xs) × (s q +ℤ s x ≡ pos 0)
@@ -199,11 +199,11 @@ joined_sign s ps q xs h j = go (any_from (λ e. (eqb e.0 q && listed e.1 xs) || 
         swap a b = omega (arith, ints)
 
 -- what walks say of signs that suit the pairs
-record Signed (s : ℕ → ℤ) (from : ℕ) (w : Reached) : Type 0 where
+pub record Signed (s : ℕ → ℤ) (from : ℕ) (w : Reached) : Type 0 where
   even : (q : ℕ) → IsIn q w.evenly → s q ≡ s from
   odd : (q : ℕ) → IsIn q w.oddly → s q +ℤ s from ≡ pos 0
 
-signed : (n : ℕ) (ps : List (ℕ × ℕ)) (s : ℕ → ℤ) (from k : ℕ) → ((e : ℕ × ℕ) → IsIn e ps → s e.0 +ℤ s e.1 ≡ pos 0) → Signed s from (reached n ps from k)
+pub signed : (n : ℕ) (ps : List (ℕ × ℕ)) (s : ℕ → ℤ) (from k : ℕ) → ((e : ℕ × ℕ) → IsIn e ps → s e.0 +ℤ s e.1 ≡ pos 0) → Signed s from (reached n ps from k)
 signed n ps s from zero h = record { even = only; odd = λ q k. absurd k }
   where
     only : (q : ℕ) → IsIn q (from ∷ []) → s q ≡ s from

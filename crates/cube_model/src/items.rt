@@ -1,5 +1,5 @@
 // A list with its allocator, seen by contracts as a list.
-ghost use Rattle.std.specs.Prelude.{◌≡◌, ◌==◌, ◌++◌, ◌∷◌, [], List, length, decimal, slice_get, OnOk, OnErr, IfOk, option_copied};
+ghost use Rattle.std.specs.Prelude.{◌≡◌, ◌==◌, ◌<◌, ◌++◌, ◌∷◌, [], List, length, decimal, slice_get, slice_set, OnOk, OnErr, IfOk, option_copied};
 
 use crate::NoMemory;
 use itoa::Buffer;
@@ -94,6 +94,16 @@ impl<T> Items<T> {
     {
         self.items.push(item)?;
         Ok(())
+    }
+
+    /// Puts an item in the place of the one that stands there.
+    pub fn set(&mut self, place: usize, item: T)
+    where
+        T: Drop,
+        requires { place < length self.old }
+        ensures { self.new ≡ slice_set self.old place item }
+    {
+        self.items[place] = item;
     }
 }
 
