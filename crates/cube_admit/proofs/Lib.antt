@@ -1,0 +1,7 @@
+pub mod Few
+pub mod Linking
+pub mod Meets
+pub mod Standing
+pub mod Colours
+pub mod Judging
+pub mod Boxes

@@ -1,0 +1,5 @@
+pub mod Boxes
+pub mod Linking
+pub mod Room
+pub mod Sources
+pub mod States

@@ -1,0 +1,56 @@
+// The source rule: what one more request makes of the source of a lattice measure.
+ghost use Rattle.std.specs.Prelude.{◌≡◌, length};
+ghost use Rattle.cube_model.specs.Verdicts.{holds_grain, narrowed};
+ghost use Rattle.cube_admit.specs.Sources.{IsLong, stepped};
+
+use cube_lattice::{finer_or_equal, meet_into};
+use cube_model::Levels;
+
+/// Whether the source is as fine as the grain already.
+#[tactic(auto, using(crate::proofs::Meets::held_finer))]
+fn holds(source: &Option<Levels>, grain: &Levels) -> bool
+    requires { IsLong (length grain.now) source.now }
+    ensures { result ≡ holds_grain source.now grain.now }
+{
+    match source {
+        None => false,
+        Some(source) => finer_or_equal(source, grain),
+    }
+}
+
+/// The source under one more grain.
+#[tactic(auto, using(crate::proofs::Meets::meet_turned))]
+fn narrow(source: &Option<Levels>, grain: Levels) -> Levels
+    requires { IsLong (length grain) source.now }
+    ensures { result ≡ narrowed source.now grain }
+{
+    match source {
+        None => grain,
+        Some(source) => {
+            let mut next = grain;
+            meet_into(&mut next, source);
+            next
+        }
+    }
+}
+
+/// What a request does to the source of its measure.
+#[derive(Drop)]
+pub(crate) enum Step {
+    /// It stays as it is.
+    Stays,
+    /// It would become these levels.
+    Would(Levels),
+}
+
+/// What one more grain does to a source.
+pub(crate) fn step_from(source: &Option<Levels>, grain: Levels) -> Step
+    requires { IsLong (length grain) source.now }
+    ensures { result ≡ stepped source.now grain }
+{
+    if holds(source, &grain) {
+        Step::Stays
+    } else {
+        Step::Would(narrow(source, grain))
+    }
+}

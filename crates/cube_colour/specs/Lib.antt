@@ -1,0 +1,4 @@
+pub mod Colourings
+pub mod Forests
+pub mod Steps
+pub mod Outcomes

@@ -1,0 +1,8 @@
+//! The links that rows bring: the places of a row in pairs, a last one alone.
+#![tactic(auto)]
+
+mod pairs;
+#[cfg(test)]
+mod tests;
+
+pub use pairs::links;

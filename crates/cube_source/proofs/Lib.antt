@@ -1,0 +1,14 @@
+pub mod Cuts
+pub mod Keys
+pub mod Listed
+pub mod Ordered
+pub mod Rows
+pub mod Steps
+pub mod Guards
+pub mod Uncut
+pub mod Least
+pub mod Among
+pub mod Repeats
+pub mod Once
+pub mod Growing
+pub mod Worked

@@ -1,0 +1,7 @@
+pub mod Blocks
+pub mod Fresh
+pub mod Judged
+pub mod Keys
+pub mod Objects
+pub mod Pairs
+pub mod Worked

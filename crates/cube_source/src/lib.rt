@@ -1,0 +1,22 @@
+//! Which protected cells a source cuboid cuts.
+//!
+//! A cuboid has places together in blocks. It cuts a cell where a block has both a place that the
+//! cell covers and one that it does not: then the sums by that cuboid leave the cell's sum open.
+#![tactic(auto)]
+
+mod blocks;
+mod counting;
+mod fresh;
+mod judging;
+mod listing;
+mod pair;
+mod places;
+mod protecting;
+#[cfg(test)]
+mod tests;
+
+pub use counting::count_protected;
+pub use judging::{Judged, judge};
+pub use listing::{guarded, protected};
+pub use pair::cutting_pair;
+pub use protecting::protects;
