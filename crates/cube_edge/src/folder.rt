@@ -27,11 +27,16 @@ impl<'a, R: Files> FileFolder<'a, R> {
 // So many bytes of a file are read at once.
 const PIECE: usize = 65_536;
 
-// All bytes that a file still gives, where they are no more than a file may have.
-fn read_rest<R: Read>(file: &mut R, alloc: Global) -> Result<Text, FileFault>
-    ensures short { IfOk result (λ text. length text ≤ max_file) }
+// All bytes that a file still gives, where they are no more than this.
+pub(crate) fn read_rest<R: Read>(
+    file: &mut R,
+    alloc: Global,
+    most: usize,
+) -> Result<Text, FileFault>
+    requires { 65536 ≤ most }
+    ensures short { IfOk result (λ text. length text ≤ most) }
     ensures bytes { IfOk result (λ text. Consumes (R.remaining file.old) (R.remaining file.new) text × IsAtEnd (R.remaining file.new)) }
-    ensures long { result ≡ Err faults.TooLong → IfSome (R.remaining file.old) (λ bytes. max_file < length bytes) }
+    ensures long { result ≡ Err faults.TooLong → IfSome (R.remaining file.old) (λ bytes. most < length bytes) }
 {
     let mut text = Text::new(alloc);
     let mut buf = [0u8; PIECE];
@@ -43,7 +48,7 @@ fn read_rest<R: Read>(file: &mut R, alloc: Global) -> Result<Text, FileFault>
         if count == 0 {
             return Ok(text);
         }
-        if text.len() > MAX_FILE - count {
+        if text.len() > most - count {
             return Err(FileFault::TooLong);
         }
         text.extend(&buf[..count])?;
@@ -55,7 +60,7 @@ fn read_whole<R: Files>(rt: &R, alloc: Global, name: &str) -> Result<Text, FileF
     ensures short { IfOk result (λ text. length text ≤ max_file) }
 {
     match fs::open(rt, name) {
-        Ok(mut file) => read_rest(&mut file, alloc),
+        Ok(mut file) => read_rest(&mut file, alloc, MAX_FILE),
         Err(_) => Err(FileFault::Failed),
     }
 }

@@ -1,13 +1,19 @@
-//! The real objects outside the program: standard input and output, and the files of the machine. Each counts its errors.
-//! What a reader or a writer tells of its bytes is told by the source or the sink over it; the folder tells nothing.
+//! The real objects outside the program: standard input and output, the files of the machine, and its connections. Each
+//! counts its errors.
+//! What a reader or a writer tells of its bytes is told by the source or the sink over it; the folder, the store and the
+//! wire tell nothing.
 #![tactic(auto)]
 
 mod folder;
 mod sink;
 mod source;
+mod store;
 #[cfg(test)]
 mod tests;
+mod wire;
 
 pub use folder::FileFolder;
 pub use sink::WriterSink;
 pub use source::ReaderSource;
+pub use store::{FileStore, MAX_PATH};
+pub use wire::TcpWire;

@@ -45,7 +45,7 @@ fn behind(bytes: &[u8], count: usize) -> &[u8]
 }
 
 // Writes all of the piece, or a front of it where that fails.
-fn write_whole<W: Write>(out: &mut W, piece: &[u8]) -> Result<(), Failed>
+pub(crate) fn write_whole<W: Write>(out: &mut W, piece: &[u8]) -> Result<(), Failed>
     ensures { PutAppends (W.contents out.old) (W.contents out.new) result piece.now }
 {
     let mut rest = piece;

@@ -1,7 +1,10 @@
-// The objects over bytes in memory, and the folder over the machine's files.
-use crate::{FileFolder, ReaderSource, WriterSink};
-use cube_io::{FileFault, Folder, Sink, Source};
+// The objects over bytes in memory, and the folder and the store over the machine's files.
+use crate::{FileFolder, FileStore, ReaderSource, TcpWire, WriterSink};
+use cube_io::{Event, FileFault, Folder, Sink, Source, Store, Wire};
 use cube_model::Text;
+use std::fs;
+use std::io::{Read, Write};
+use std::net::{SocketAddr, TcpStream};
 use std::test::Fail;
 
 #[test]
@@ -39,5 +42,64 @@ fn a_file_is_read_whole_or_is_at_fault(rt: HostRuntime) -> Result<(), Fail> {
     assert_eq!(rt; missing.err(), Some(FileFault::Failed));
     let not_utf8 = folder.read_file(alloc, &Text::from_bytes(alloc, b"\xFF")?);
     assert_eq!(rt; not_utf8.err(), Some(FileFault::Failed));
+    Ok(())
+}
+
+#[test]
+fn logs_are_kept_in_files(rt: HostRuntime) -> Result<(), Fail> {
+    let alloc = rt.alloc();
+    let mut store = FileStore::new(alloc, &rt)?;
+    let name = Text::from_bytes(alloc, b"logs_are_kept_in_files.log")?;
+    store.attach(&name).expect(&rt, "a name");
+    assert!(rt; store.append(0, b"kept\n").is_ok());
+    assert!(rt; store.append(2, b"other").is_ok());
+    assert!(rt; store.append(0, b"torn").is_ok());
+    assert!(rt; store.cut(0, 5).is_ok());
+    assert!(rt; store.sync(0).is_ok());
+    let mut reader = FileStore::new(alloc, &rt)?;
+    reader.attach(&name).expect(&rt, "a name");
+    let first = reader.read_all(alloc, 0).expect(&rt, "log 0");
+    let other = reader.read_all(alloc, 2).expect(&rt, "log 2");
+    assert_eq!(rt; first.as_slice(), b"kept\n".as_slice());
+    assert_eq!(rt; other.as_slice(), b"other".as_slice());
+    fs::remove_file(&rt, "logs_are_kept_in_files.log")?;
+    fs::remove_file(&rt, "logs_are_kept_in_files.log.2")?;
+    Ok(())
+}
+
+#[test]
+fn a_store_of_no_file_fails(rt: HostRuntime) -> Result<(), Fail> {
+    let alloc = rt.alloc();
+    let mut store = FileStore::new(alloc, &rt)?;
+    let long = [b'a'; 4_097];
+    assert!(rt; store.attach(&Text::from_bytes(alloc, &long)?).is_err());
+    store
+        .attach(&Text::from_bytes(alloc, b"no/such/log")?)
+        .expect(&rt, "a name");
+    assert!(rt; store.append(0, b"").is_ok());
+    assert!(rt; store.append(0, b"a").is_err());
+    assert!(rt; store.sync(0).is_err());
+    Ok(())
+}
+
+#[test]
+fn a_client_is_heard_and_answered(rt: HostRuntime) -> Result<(), Fail> {
+    let mut wire = TcpWire::new(&rt);
+    let address = Text::from_bytes(rt.alloc(), b"127.0.0.1:0")?;
+    assert!(rt; wire.listen(&address).is_ok());
+    let port = wire.port().ok_or("no port")?;
+    let mut client = TcpStream::connect(&rt, SocketAddr::from(([127, 0, 0, 1], port)))?;
+    client.write_all(b"ping")?;
+    let mut buf = [0u8; 65_536];
+    assert_eq!(rt; wire.next(&mut buf), Ok(Event::Opened(0)));
+    assert_eq!(rt; wire.next(&mut buf), Ok(Event::Piece(0, 4)));
+    assert_eq!(rt; &buf[..4], b"ping".as_slice());
+    assert!(rt; wire.send(0, b"pong").is_ok());
+    let mut got = [0u8; 4];
+    client.read_exact(&mut got)?;
+    assert_eq!(rt; got.as_slice(), b"pong".as_slice());
+    drop(client);
+    assert_eq!(rt; wire.next(&mut buf), Ok(Event::Closed(0)));
+    assert!(rt; wire.send(0, b"late").is_err());
     Ok(())
 }

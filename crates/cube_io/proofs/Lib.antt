@@ -1,1 +1,4 @@
+mod Records
 pub mod Told
+pub mod Trails
+pub mod Scrolled

@@ -2,7 +2,10 @@ pub mod Causes
 pub mod Content
 pub mod Desks
 pub mod Files
+pub mod Mem
+pub mod Scrolls
 pub mod States
 pub mod Told
+pub mod Whole
 pub mod Wires
 pub mod Reads

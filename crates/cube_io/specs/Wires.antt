@@ -53,6 +53,24 @@ open_after c was (e ∷ log) = open_after c (open_by c was e) log
 abbrev pub IsOpen : ℕ → List LogEntry → Type 0
 IsOpen c log = IsTrue (open_after c false log)
 
+-- whether a send on connection c may go out behind an entry: it is open, and no send on it failed since it was opened
+abbrev pub sound_by : ℕ → Bool → LogEntry → Bool
+sound_by c was (Heard (Opened d)) = if d == c then true else was
+sound_by c was (Heard (Came d bytes)) = was
+sound_by c was (Heard (Closed d)) = if d == c then false else was
+sound_by c was (Heard End) = was
+sound_by c was (Sent d bytes) = was
+sound_by c was (Torn d bytes) = if d == c then false else was
+sound_by c was (Shut d) = if d == c then false else was
+
+abbrev pub sound_after : ℕ → Bool → List LogEntry → Bool
+sound_after c was [] = was
+sound_after c was (e ∷ log) = sound_after c (sound_by c was e) log
+
+-- it was opened, and since then no send on it failed, and nobody closed it
+abbrev pub IsSound : ℕ → List LogEntry → Type 0
+IsSound c log = IsTrue (sound_after c false log)
+
 -- a send: all of the piece, or after a failure a prefix of it
 abbrev pub SendTells : ℕ → List ℕ → Result (Unit {0}) Failed → List LogEntry → List LogEntry → Type 0
 SendTells c piece (Ok u) old new = new ≡ old ++ Sent c piece ∷ []

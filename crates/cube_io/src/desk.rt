@@ -43,6 +43,8 @@ pub trait Desk<S: Store> {
         ensures manner { manner self.new ≡ manner self.old }
         ensures room { room self.new + 1 ≡ room self.old }
         ensures fits { fits self.new store.new }
+        ensures told { S.told store.new ≡ S.told store.old }
+        ensures names { IsTrue (S.told store.old) → S.names store.new ≡ S.names store.old }
 
         // An ask that adds to no history leaves the store alone.
         ensures untouched { (manner self.old).next (rooms self.old) ask.now outcome.Given ≡ rooms self.old → store.new ≡ store.old }

@@ -2,20 +2,31 @@
 //! trait that counts its faults; what an object holds is told where it can be known.
 #![tactic(auto)]
 
+mod book;
 mod desk;
 mod faults;
 mod folder;
+mod mem_store;
+mod mem_wire;
 mod null;
+mod record;
+mod scroll;
 mod sink;
 mod source;
+mod stop;
 mod store;
+#[cfg(test)]
+mod tests;
 mod wire;
 
 pub use desk::Desk;
 pub use faults::Failed;
 pub use folder::{FileFault, Folder, MAX_FILE, MemFolder};
+pub use mem_store::{Failing, MemStore, Reach};
+pub use mem_wire::{FailingSend, MemWire, Play};
 pub use null::{NullSink, NullStore, NullWire};
 pub use sink::{MemSink, Sink};
 pub use source::{MemSource, Source};
+pub use stop::StopStore;
 pub use store::{Store, StoreFault};
 pub use wire::{Event, Wire};

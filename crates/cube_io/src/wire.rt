@@ -2,7 +2,7 @@
 ghost use Rattle.std.specs.Prelude.{◌≡◌, ℕ, Bool, List, [], ◌∷◌, ◌++◌, length, IsTrue, IfOk, OnOk};
 ghost use Rattle.cube_io.specs.Causes.{HasCause};
 ghost use Rattle.cube_io.specs.Told.{AsksFor};
-ghost use Rattle.cube_io.specs.Wires.{LogEntry, FitsBuffer, IsOpen, SendTells, NextTells};
+ghost use Rattle.cube_io.specs.Wires.{LogEntry, FitsBuffer, IsOpen, IsSound, SendTells, NextTells};
 ghost use Rattle.cube_io.specs.Wires.LogEntry.{Shut};
 
 use crate::Failed;
@@ -56,9 +56,9 @@ pub trait Wire {
         ensures log { IsTrue (told self.old) → NextTells result buf.new (log self.old) (log self.new) }
         ensures heard { IsTrue (told self.old) → heard self.new ≡ heard self.old };
 
-    /// Sends a piece. After a failure a prefix of it went out.
+    /// Sends a piece. After a failure a prefix of it went out, and the connection can only be closed.
     fn send(&mut self, c: u32, piece: &[u8]) -> Result<(), Failed>
-        requires { IsTrue (told self.old) → IsOpen c (log self.old) }
+        requires { IsTrue (told self.old) → IsSound c (log self.old) }
         ensures cause { HasCause (send_faults self.old) (send_faults self.new) result }
         ensures faults { faults self.new ≡ faults self.old }
         ensures told { told self.new ≡ told self.old }

@@ -2,3 +2,4 @@ pub mod Digits
 pub mod UnitsReadBack
 pub mod Quotes
 pub mod NameLaws
+pub mod Lines

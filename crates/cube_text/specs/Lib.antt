@@ -1,3 +1,4 @@
 pub mod Units
 pub mod UnitLaws
 pub mod Quoting
+pub mod Keys

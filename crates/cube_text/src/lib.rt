@@ -1,9 +1,11 @@
 //! Numbers and names as text.
 #![tactic(auto)]
 
+mod keys;
 mod names;
 mod units;
 
+pub use keys::{push_head, push_heads, push_key};
 pub use names::{
     is_bare, is_bare_name, names_read_back, print_name, push_field, push_name, push_quoted,
     quote_field, quote_name, read_quoted, unquote_name,

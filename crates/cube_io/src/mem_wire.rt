@@ -1,0 +1,191 @@
+// A wire in memory that plays some events.
+ghost use Rattle.std.specs.Prelude.{◌≡◌, [], true, length, IfOk};
+ghost use Rattle.cube_io.specs.Mem.{names_in};
+ghost use Rattle.cube_io.specs.Scrolls.{entry_of, is_event};
+ghost use Rattle.cube_io.specs.Wires.{NextTells, FitsBuffer, arrival_of};
+ghost use Rattle.cube_io.specs.Wires.LogEntry.{Heard};
+
+use crate::book::Book;
+use crate::record::{Record, Target};
+use crate::scroll::Note;
+use crate::{Event, Failed, Wire};
+use cube_model::{NoMemory, Text};
+use std::alloc::Global;
+
+// Room for how many addresses, and for how many bytes of them.
+const ADDRESSES: usize = 8;
+
+const ADDRESS_BYTES: usize = 1_024;
+
+/// An event that a wire in memory plays.
+#[derive(Drop)]
+pub enum Play {
+    /// A connection is opened.
+    Opened(u32),
+    /// Bytes come, from 1 to 65,536 of them.
+    Piece(u32, Text),
+    /// The other side closes it.
+    Closed(u32),
+}
+
+/// A send that is to fail: its number, counted from 0, and how many of its bytes go out before.
+#[derive(Clone, Copy, Debug, PartialEq, Eq)]
+pub struct FailingSend {
+    pub send: u64,
+    pub bytes: u64,
+}
+
+/// A wire in memory. It plays its events, of which the last is the end, and tells its log. It fails at the calls that it is
+/// told, and where its room is used up.
+#[derive(Drop)]
+pub struct MemWire {
+    plays: Vec<Play>,
+    at: usize,
+    book: Book,
+    heard: Record,
+    failing_nexts: Vec<u64>,
+    failing_sends: Vec<FailingSend>,
+    nexts: u64,
+    sends: u64,
+    faults: u64,
+    send_faults: u64,
+}
+
+impl MemWire {
+    /// A wire that plays these events, with room for so many entries of its log and for so many bytes of them. A `next` with
+    /// one of the numbers fails, counted from 0, and so do these sends.
+    pub fn with_room(
+        alloc: Global,
+        plays: Vec<Play>,
+        failing_nexts: Vec<u64>,
+        failing_sends: Vec<FailingSend>,
+        entries: usize,
+        bytes: usize,
+    ) -> Result<MemWire, NoMemory>
+        ensures told { IfOk result (λ wire. ⟦<MemWire as Wire>⟧.told wire ≡ true) }
+        ensures log { IfOk result (λ wire. ⟦<MemWire as Wire>⟧.log wire ≡ []) }
+        ensures heard { IfOk result (λ wire. ⟦<MemWire as Wire>⟧.heard wire ≡ []) }
+        ensures faults { IfOk result (λ wire. ⟦<MemWire as Wire>⟧.faults wire ≡ 0) }
+        ensures send_faults { IfOk result (λ wire. ⟦<MemWire as Wire>⟧.send_faults wire ≡ 0) }
+    {
+        Ok(MemWire {
+            plays,
+            at: 0,
+            book: Book::with_room(alloc, entries, bytes)?,
+            heard: Record::with_room(alloc, ADDRESSES, ADDRESS_BYTES)?,
+            failing_nexts,
+            failing_sends,
+            nexts: 0,
+            sends: 0,
+            faults: 0,
+            send_faults: 0,
+        })
+    }
+}
+
+// How many bytes go out of the send with the number before it fails, if it is to fail.
+fn failing_of(failing: &[FailingSend], send: u64) -> Option<u64> {
+    let found = failing.iter().find(|failing| failing.send == send)?;
+    Some(found.bytes)
+}
+
+// Notes an event, where there is room.
+fn note(book: &mut Book, note: Note, event: Event, buf: &[u8]) -> Result<Event, Failed>
+    requires event { is_event note ≡ true }
+    requires same { entry_of note [] ≡ Heard (arrival_of event buf.now) }
+    ensures event { IfOk result (λ e. e ≡ event) }
+    ensures log { NextTells result buf.now book.old.scroll.log book.new.scroll.log }
+{
+    if book.hear(note, b"") {
+        Ok(event)
+    } else {
+        Err(Failed)
+    }
+}
+
+// Notes a piece, where there is room, and puts it at the front of the buffer.
+fn note_piece(book: &mut Book, c: u32, bytes: &[u8], buf: &mut [u8]) -> Result<Event, Failed>
+    requires { length buf.old ≡ 65536 }
+    ensures fits { IfOk result (λ event. FitsBuffer event buf.new) }
+    ensures log { NextTells result buf.new book.old.scroll.log book.new.scroll.log }
+{
+    let n = bytes.len();
+    if n == 0 || n > buf.len() {
+        return Err(Failed);
+    }
+    if !book.hear(Note::Came(c), bytes) {
+        return Err(Failed);
+    }
+    buf[..n].copy_from_slice(bytes);
+    Ok(Event::Piece(c, n))
+}
+
+// Plays an event.
+fn play_next(book: &mut Book, play: Option<&Play>, buf: &mut [u8]) -> Result<Event, Failed>
+    requires { length buf.old ≡ 65536 }
+    ensures fits { IfOk result (λ event. FitsBuffer event buf.new) }
+    ensures log { NextTells result buf.new book.old.scroll.log book.new.scroll.log }
+{
+    match play {
+        Some(Play::Opened(c)) => note(book, Note::Opened(*c), Event::Opened(*c), buf),
+        Some(Play::Piece(c, bytes)) => note_piece(book, *c, bytes.as_slice(), buf),
+        Some(Play::Closed(c)) => note(book, Note::Closed(*c), Event::Closed(*c), buf),
+        None => note(book, Note::End, Event::End, buf),
+    }
+}
+
+impl Wire for MemWire {
+    ghost faults = { λ w. w.faults };
+
+    ghost send_faults = { λ w. w.send_faults };
+
+    ghost told = { λ w. true };
+
+    ghost log = { λ w. w.book.scroll.log };
+
+    ghost heard = { λ w. names_in w.heard };
+
+    fn listen(&mut self, address: &Text) -> Result<(), Failed> {
+        match self.heard.write(Target::Names, address.as_slice()) {
+            Ok(()) => Ok(()),
+            Err(_) => {
+                self.faults = self.faults.saturating_add(1);
+                Err(Failed)
+            }
+        }
+    }
+
+    fn next(&mut self, buf: &mut [u8]) -> Result<Event, Failed> {
+        let call = self.nexts;
+        self.nexts = self.nexts.saturating_add(1);
+        let played = if self.failing_nexts.contains(&call) {
+            Err(Failed)
+        } else {
+            play_next(&mut self.book, self.plays.get(self.at), buf)
+        };
+        match played {
+            Ok(event) => {
+                self.at = self.at.saturating_add(1);
+                Ok(event)
+            }
+            Err(failed) => {
+                self.faults = self.faults.saturating_add(1);
+                Err(failed)
+            }
+        }
+    }
+
+    fn send(&mut self, c: u32, piece: &[u8]) -> Result<(), Failed> {
+        let failing = failing_of(&self.failing_sends, self.sends);
+        self.sends = self.sends.saturating_add(1);
+        if self.book.send(c, piece, failing) {
+            return Ok(());
+        }
+        self.send_faults = self.send_faults.saturating_add(1);
+        Err(Failed)
+    }
+
+    fn close(&mut self, c: u32) {
+        self.book.shut(c);
+    }
+}

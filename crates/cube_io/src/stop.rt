@@ -1,0 +1,109 @@
+// A store that stops after some calls.
+ghost use Rattle.std.specs.Prelude.{◌≡◌, ◌≤◌, ◌+◌, [], true, false};
+ghost use Rattle.std.proofs.Common.{rules};
+ghost use Rattle.cube_io.specs.Causes.{Rose};
+ghost use Rattle.cube_io.specs.States.{settled};
+
+use crate::{Failed, Store, StoreFault};
+use cube_model::Text;
+use std::alloc::Global;
+
+/// Passes its first calls on to a store that it owns, and fails each later one but an append of an
+/// empty piece. It tells nothing, and so does the store that it owns: its caller owes it nothing
+/// that a store which tells could ask of a cut.
+#[derive(Drop)]
+pub struct StopStore<S: Store> {
+    inner: S,
+    left: u64,
+    faults: u64,
+    ghost quiet: { S.told inner ≡ false },
+}
+
+impl<S: Store> StopStore<S> {
+    /// A store that passes so many calls on.
+    pub fn new(inner: S, left: u64) -> StopStore<S>
+        requires { S.told inner ≡ false }
+        ensures faults { ⟦<StopStore<S> as Store>⟧.faults result ≡ S.faults inner }
+        ensures attached { ⟦<StopStore<S> as Store>⟧.attached result ≡ S.attached inner }
+        ensures told { ⟦<StopStore<S> as Store>⟧.told result ≡ false }
+    {
+        StopStore {
+            inner,
+            left,
+            faults: 0,
+        }
+    }
+}
+
+/// Uses up a call, if one is left; else counts a fault.
+fn spend(left: &mut u64, faults: &mut u64) -> bool
+    ensures kept { result ≡ true → faults.new ≡ faults.old }
+    ensures rose { result ≡ false → (faults.old ≤ faults.new) × Rose faults.old faults.new }
+{
+    if *left == 0 {
+        *faults = faults.saturating_add(1);
+        false
+    } else {
+        *left -= 1;
+        true
+    }
+}
+
+impl<S: Store> Store for StopStore<S> {
+    ghost faults = { λ s. S.faults s.inner + s.faults };
+
+    ghost attached = { λ s. S.attached s.inner };
+
+    ghost told = { λ s. false };
+
+    ghost logs = { λ s k. record { state = settled []; trail = [] } };
+
+    ghost names = { λ s. [] };
+
+    ghost calls = { λ s. 0 };
+
+    ghost whole = { λ s k told. Prim.search rules };
+
+    fn attach(&mut self, name: &Text) -> Result<(), Failed> {
+        if spend(&mut self.left, &mut self.faults) {
+            self.inner.attach(name)
+        } else {
+            Err(Failed)
+        }
+    }
+
+    fn read_all(&mut self, alloc: Global, log: u32) -> Result<Text, StoreFault> {
+        if spend(&mut self.left, &mut self.faults) {
+            self.inner.read_all(alloc, log)
+        } else {
+            Err(StoreFault::Failed)
+        }
+    }
+
+    fn append(&mut self, log: u32, piece: &[u8]) -> Result<(), Failed> {
+        if piece.is_empty() {
+            return Ok(());
+        }
+        if spend(&mut self.left, &mut self.faults) {
+            self.inner.append(log, piece)
+        } else {
+            Err(Failed)
+        }
+    }
+
+    fn cut(&mut self, log: u32, len: u64) -> Result<(), Failed> {
+        if spend(&mut self.left, &mut self.faults) {
+            self.inner.cut(log, len)
+        } else {
+            Err(Failed)
+        }
+    }
+
+    fn sync(&mut self, log: u32) -> Result<(), Failed> {
+        if spend(&mut self.left, &mut self.faults) {
+            self.inner.sync(log)
+        } else {
+            Err(Failed)
+        }
+    }
+}

@@ -1,0 +1,7 @@
+use Rattle.std.proofs.Common.{◌≡◌, ◌++◌, take}
+use Rattle.std.specs.List.{flat_map}
+use Rattle.cube_journal.specs.PublicText.{dimension_lines}
+use Rattle.cube_journal.proofs.public.push_dimensions.Given as goal
+
+abbrev pub invariant-loop-i : goal.invariant-loop-i
+invariant-loop-i l = l.text ≡ l.initial.text ++ flat_map dimension_lines (take l.i l.dimensions)

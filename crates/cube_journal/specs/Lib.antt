@@ -1,0 +1,10 @@
+pub mod Digests
+pub mod Examples
+pub mod Keeping
+pub mod Lines
+pub mod Opening
+pub mod PublicText
+pub mod Recovery
+pub mod RequestLines
+pub mod Sound
+pub mod Laws
