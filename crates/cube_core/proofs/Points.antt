@@ -2,8 +2,8 @@
 use Rattle.std.specs.List.{AllByRecursion}
 use Rattle.std.proofs.Common.{◌≡◌, ℕ, zero, suc, ◌<◌, ◌≤◌, ◌⊎◌, inl, inr, List, [], ◌∷◌, length, map, get_or, refl, sym, ap, ◌∙◌, subst, arith}
 use Rattle.std.proofs.lemmas.List.{get_or_read}
-use Rattle.cube_model.specs.Cubes.{up, names_at, IsPoint}
-use Rattle.cube_model.specs.Cores.{Core, IsCore}
+use Rattle.cube_model.specs.Cubes.{up, names_at, Each, IsPoint}
+use Rattle.cube_model.specs.Cores.{Core}
 use Rattle.cube_model.specs.Dims.{NamedDimension, plain, plains, no_dimension, IsDimension}
 use Rattle.cube_model.proofs.DimsFacts.{up-named, up-all, number_below, length-distinct, length-names_at}
 use Rattle.cube_model.proofs.Sources.{Each-get_or}
@@ -45,9 +45,9 @@ up_small d l x h k = go (below l (length d.levels))
     go (inr high) = let e = up-all d l x high in omega (arith, e)
 
 -- what is read at a place is its point
-pub point_read : (core : Core) (place : ℕ) (points : List (List ℕ)) (point xs : List ℕ) → IsCore core → place < length core.shape.points → points ≡ core.shape.points → point ≡ get_or points place point → xs ≡ point
+pub point_read : (core : Core) (place : ℕ) (points : List (List ℕ)) (point xs : List ℕ) → Each (IsPoint (plains core.dims)) core.shape.points → place < length core.shape.points → points ≡ core.shape.points → point ≡ get_or points place point → xs ≡ point
     → IsPoint (plains core.dims) xs × (xs ≡ get_or core.shape.points place [])
 point_read core place points point xs ok l es e f =
     let size = ap length es in
     let here : xs ≡ get_or core.shape.points place [] = f ∙ get_or_read points place point (omega (arith, size, l)) e [] ∙ ap (λ (ps : List (List ℕ)). get_or ps place []) es in
-    (subst (IsPoint (plains core.dims)) (sym here) (Each-get_or (IsPoint (plains core.dims)) core.shape.points place [] ok.points l), here)
+    (subst (IsPoint (plains core.dims)) (sym here) (Each-get_or (IsPoint (plains core.dims)) core.shape.points place [] ok l), here)

@@ -140,12 +140,12 @@ value_bound core m i ok l k =
 
 -- ---- the places of the rows of a request
 
-get_or_in : (xs : List ℕ) (k d : ℕ) → k < length xs → IsIn (get_or xs k d) xs
+pub get_or_in : (xs : List ℕ) (k d : ℕ) → k < length xs → IsIn (get_or xs k d) xs
 get_or_in [] k d l = absurd (omega (arith, l))
 get_or_in (x ∷ xs) zero d l = inl refl
 get_or_in (x ∷ xs) (suc k) d l = inr (get_or_in xs k d (omega (arith, l)))
 
-ArePlaces-filter : (t : ℕ → Bool) (n : ℕ) → ArePlaces n (filter t (count_from 0 n))
+pub ArePlaces-filter : (t : ℕ → Bool) (n : ℕ) → ArePlaces n (filter t (count_from 0 n))
 ArePlaces-filter t n = record {
   below = λ k d l. (
       let a = IsIn-filter t (get_or (filter t (count_from 0 n)) k d) (count_from 0 n) (get_or_in (filter t (count_from 0 n)) k d l) in

@@ -10,4 +10,5 @@ mod sums;
 mod tests;
 
 pub use core_cube::Core;
+pub use rows::rows_of;
 pub use steps::Steps;

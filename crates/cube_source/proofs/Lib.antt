@@ -12,3 +12,4 @@ pub mod Repeats
 pub mod Once
 pub mod Growing
 pub mod Worked
+pub mod Tables

@@ -5,3 +5,4 @@ pub mod Keys
 pub mod Objects
 pub mod Pairs
 pub mod Worked
+pub mod Tables

@@ -12,6 +12,7 @@ mod listing;
 mod pair;
 mod places;
 mod protecting;
+mod table;
 #[cfg(test)]
 mod tests;
 
@@ -19,4 +20,6 @@ pub use counting::count_protected;
 pub use judging::{Judged, judge};
 pub use listing::{guarded, protected};
 pub use pair::cutting_pair;
+pub use places::covers;
 pub use protecting::protects;
+pub use table::JudgeTable;

@@ -82,7 +82,7 @@ fn has_key(core: &Core, levels: &[u32], key: &[u32], place: u32) -> bool
 }
 
 /// Whether a cell covers a place.
-pub(crate) fn covers(core: &Core, cell: &Cell, place: u32) -> bool
+pub fn covers(core: &Core, cell: &Cell, place: u32) -> bool
     requires place { place < length core.now.shape.points }
     requires levels { are_levels (plains core.now.dims) cell.now.levels ≡ true }
     ensures { result ≡ cubes.covers (bare core.now) cell.now place }

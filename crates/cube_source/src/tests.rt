@@ -5,7 +5,7 @@ ghost use Rattle.cube_model.specs.Policies.{IsPolicy};
 ghost use Rattle.cube_core.specs.Worked.{region, time, measure, two, pay_core};
 ghost use Rattle.cube_source.specs.Worked.{object_at, policy_of, within, IsArea, CanHold};
 
-use crate::{Judged, count_protected, cutting_pair, judge, protected, protects};
+use crate::{JudgeTable, Judged, count_protected, cutting_pair, judge, protected, protects};
 use cube_core::Core;
 use cube_model::{
     Cell, Cells, Cube, Dimension, Dims, Items, Key, Levels, Measure, Method, Methods, NoMemory,
@@ -310,6 +310,61 @@ fn guarded_places_are_protected(rt: HostRuntime) -> Result<(), Fail> {
     );
     let none = told_of_none(alloc, Method::Plain)?;
     assert_eq!(rt; none.as_slice(), b"0\nsafe\nsafe\nsafe\n".as_slice());
+    Ok(())
+}
+
+fn push_verdict(text: &mut Text, judged: &Judged) -> Result<(), NoMemory> {
+    match judged {
+        Judged::Safe => text.extend(b"safe\n"),
+        Judged::Uncut { cell } => {
+            text.extend(b"uncut")?;
+            push_cell(text, cell)
+        }
+    }
+}
+
+/// What a table answers of the cuboid of two levels, first and again.
+fn tabled(alloc: Global, policy: &Policy, levels: (u32, u32)) -> Result<Text, NoMemory>
+    requires policy { IsPolicy pay_core.dims policy.now }
+    requires first { levels.0 ≤ 2 }
+    requires second { levels.1 ≤ 2 }
+{
+    let core = make_pay(alloc)?;
+    let levels = make_two(alloc, levels.0, levels.1)?;
+    let mut table = JudgeTable::new(alloc, core.dims(), policy)?;
+    let mut text = Text::new(alloc);
+    let first = table.judge(alloc, &core, policy, 0, &levels)?;
+    push_verdict(&mut text, &first)?;
+    let again = table.judge(alloc, &core, policy, 0, &levels)?;
+    push_verdict(&mut text, &again)?;
+    Ok(text)
+}
+
+/// What a table answers where the cells of areas are protected.
+fn tabled_of_areas(alloc: Global, levels: (u32, u32)) -> Result<Text, NoMemory>
+    requires first { levels.0 ≤ 2 }
+    requires second { levels.1 ≤ 2 }
+{
+    let mut objects = Objects::new(alloc);
+    objects.push(make_object(alloc, 1, None)?)?;
+    tabled(
+        alloc,
+        &make_policy(alloc, Method::Lattice, objects)?,
+        levels,
+    )
+}
+
+#[test]
+fn a_table_answers_again(rt: HostRuntime) -> Result<(), Fail> {
+    let alloc = rt.alloc();
+    assert_eq!(rt;
+        tabled_of_areas(alloc, (0, 2))?.as_slice(),
+        b"uncut 0 0 : 1 0\nuncut 0 0 : 1 0\n".as_slice()
+    );
+    assert_eq!(rt;
+        tabled_of_areas(alloc, (2, 0))?.as_slice(),
+        b"safe\nsafe\n".as_slice()
+    );
     Ok(())
 }
 

@@ -9,7 +9,7 @@ pub bounds-as_slice-dimension : goal.bounds-as_slice-dimension
 bounds-as_slice-dimension c =
     let rules : IsCore c.args.self.now = subst IsCore c.self.view_is c.self.invariant.0 in
     let points = c.as_slice.ensures ∙ ap (λ (v : Core). v.shape.points) c.self.view_is in
-    let read = point_read c.args.self.now c.args.place c.as_slice.result.now c.index-as_slice-place.result c.as_slice-2.result.now rules c.requires.place points c.index-as_slice-place.is c.as_slice-2.ensures in
+    let read = point_read c.args.self.now c.args.place c.as_slice.result.now c.index-as_slice-place.result c.as_slice-2.result.now rules.points c.requires.place points c.index-as_slice-place.is c.as_slice-2.ensures in
     let size = length-point c.args.self.now.dims.dimensions c.as_slice-2.result.now read.0 in
     omega (arith, size, c.requires.dimension)
 
@@ -17,7 +17,7 @@ pub up-requires-clause-leaf : goal.up-requires-clause-leaf
 up-requires-clause-leaf c =
     let rules : IsCore c.args.self.now = subst IsCore c.self.view_is c.self.invariant.0 in
     let points = c.as_slice.ensures ∙ ap (λ (v : Core). v.shape.points) c.self.view_is in
-    let read = point_read c.args.self.now c.args.place c.as_slice.result.now c.index-as_slice-place.result c.as_slice-2.result.now rules c.requires.place points c.index-as_slice-place.is c.as_slice-2.ensures in
+    let read = point_read c.args.self.now c.args.place c.as_slice.result.now c.index-as_slice-place.result c.as_slice-2.result.now rules.points c.requires.place points c.index-as_slice-place.is c.as_slice-2.ensures in
     let leaf = leaf_below c.args.self.now.dims.dimensions c.as_slice-2.result.now c.args.dimension read.0 c.requires.dimension in
     let here = ap (λ (d : NamedDimension). length d.paths) (c.dimension.ensures.dimension ∙ ap (λ (v : Core). dimension_at v.dims c.args.dimension) c.self.view_is) in
     omega (arith, leaf, here)
@@ -26,7 +26,7 @@ pub returns-clause-small : goal.returns-clause-small
 returns-clause-small c =
     let rules : IsCore c.args.self.now = subst IsCore c.self.view_is c.self.invariant.0 in
     let points = c.as_slice.ensures ∙ ap (λ (v : Core). v.shape.points) c.self.view_is in
-    let read = point_read c.args.self.now c.args.place c.as_slice.result.now c.index-as_slice-place.result c.as_slice-2.result.now rules c.requires.place points c.index-as_slice-place.is c.as_slice-2.ensures in
+    let read = point_read c.args.self.now c.args.place c.as_slice.result.now c.index-as_slice-place.result c.as_slice-2.result.now rules.points c.requires.place points c.index-as_slice-place.is c.as_slice-2.ensures in
     let leaf = leaf_below c.args.self.now.dims.dimensions c.as_slice-2.result.now c.args.dimension read.0 c.requires.dimension in
     let here = c.dimension.ensures.dimension ∙ ap (λ (v : Core). dimension_at v.dims c.args.dimension) c.self.view_is in
     let small = up_small (dimension_at c.args.self.now.dims c.args.dimension) c.args.level (get_or c.as_slice-2.result.now c.args.dimension 0) (dimension_of c.args.self.now.dims.dimensions c.args.dimension rules.dims.each_dimension c.requires.dimension) leaf in

@@ -1,0 +1,74 @@
+// Answers from cells.
+ghost use Rattle.std.specs.Prelude.{◌≡◌, ◌+◌, ◌≤◌, true, length, map, IfOk};
+ghost use Rattle.std.specs.List.{sum_by, AllByRecursion};
+ghost use Rattle.cube_core.specs.Rows.{ArePlaces};
+ghost use Rattle.cube_model.specs.Cores.{Core, world};
+ghost use Rattle.cube_model.specs.Cubes.{is_finer};
+ghost use Rattle.cube_model.specs.Dims.{plains};
+ghost use Rattle.cube_model.specs.Requests as requests;
+ghost use Rattle.cube_model.specs.Requests.{asks, fits, grain, total};
+ghost use Rattle.cube_model.specs.declared.policy.Policy.{Policy};
+ghost use Rattle.cube_rollup.specs.Cuboids.{sums_of, summed_row, StandsFor, StandsWith};
+
+use crate::Cuboid;
+use cube_core::{Steps, rows_of};
+use cube_model::{Answer, AnswerRow, Dims, NoMemory, Request, Row, Rows};
+use std::alloc::Global;
+use std::sync::ledger::Ledger;
+
+impl Cuboid {
+    /// The sum over the cells of a row, whose places are the numbers of cells. One step for each.
+    fn sum_row<L: Ledger>(&self, row: &Row, steps: &mut Steps<L>) -> i64
+        requires { ArePlaces (length self.now.cells) row.now.places }
+        ensures sum { result ≡ total (sums_of self.now.cells) row.now.places }
+        ensures steps { steps.new ≡ steps.old + length row.now.places }
+    {
+        let _bounds = self.cells();
+        let mut sum = 0;
+        'cells: for place in row.places.as_slice() {
+            sum += self.cell(*place, steps);
+        }
+        sum
+    }
+
+    /// The sums over the cells of each row.
+    fn sum_rows<L: Ledger>(
+        &self,
+        alloc: Global,
+        rows: Rows,
+        steps: &mut Steps<L>,
+    ) -> Result<Answer, NoMemory>
+        requires { AllByRecursion (λ row. ArePlaces (length self.now.cells) row.places) rows }
+        ensures sums { IfOk result (λ answer. answer ≡ map (summed_row (sums_of self.now.cells)) rows) }
+        ensures steps { steps.new ≤ steps.old + sum_by (λ row. length row.places) rows }
+    {
+        let mut answer = Answer::new(alloc);
+        'rows: for row in rows.into_vec() {
+            let sum = self.sum_row(&row, steps);
+            answer.push(AnswerRow { key: row.key, sum })?;
+        }
+        Ok(answer)
+    }
+
+    /// The answer to a request for the cuboid's measure whose grain the cuboid is finer than or equal
+    /// to: the rows that the request has in a core for which the cuboid stands, with their plain sums.
+    ///
+    /// It groups the cells, by a sort, and reads each at most once.
+    pub fn answer<L: Ledger>(
+        &self,
+        alloc: Global,
+        dims: &Dims,
+        request: &Request,
+        steps: &mut Steps<L>,
+    ) -> Result<Answer, NoMemory>
+        requires measure { asks self.now.measure request.now ≡ true }
+        requires fits { fits (plains dims.now) request.now.group request.now.picks ≡ true }
+        requires finer { is_finer self.now.levels (grain request.now) ≡ true }
+        requires stands { StandsWith dims.now self.now }
+        ensures answer { IfOk result (λ answer. (core : Core) (p : Policy) → core.dims ≡ dims.now → StandsFor core self.now → answer ≡ requests.answer (world core p) request.now) }
+        ensures steps { steps.new ≤ steps.old + length self.now.cells }
+    {
+        let rows = rows_of(alloc, dims, self.points(), request)?;
+        self.sum_rows(alloc, rows, steps)
+    }
+}

@@ -1,0 +1,13 @@
+//! The table of the nonempty cells of one cuboid, with their sums.
+//!
+//! A request whose grain is not finer than the cuboid is answered from the cells alone: each row of
+//! the answer is a union of cells, and each place stands in exactly one cell.
+#![tactic(auto)]
+
+mod answering;
+mod building;
+mod cuboid;
+#[cfg(test)]
+mod tests;
+
+pub use cuboid::Cuboid;
