@@ -1,5 +1,5 @@
 -- The verdict on an even box of a full core.
-use Rattle.std.proofs.Common.{◌≡◌, ℕ, ◌<◌, ◌≤◌, ◌⊎◌, inl, inr, Bool, List, length, ap, ◌∙◌, arith, Result, Ok, Err, IfOk}
+use Rattle.std.proofs.Common.{◌≡◌, ◌≤◌, ◌⊎◌, inl, inr, Bool, List, length, ap, ◌∙◌, arith, Result, Ok, Err, IfOk}
 use Rattle.cube_model.specs.declared.entry.Entry.{Entry}
 use Rattle.cube_model.specs.declared.memory.NoMemory.{NoMemory}
 use Rattle.cube_model.specs.declared.policy.Policy.{Policy}

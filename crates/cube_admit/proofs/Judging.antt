@@ -58,7 +58,7 @@ grain_in_range : (g : Public) (r : Request) → is_valid g r ≡ true → are_le
 unfolding grain
 grain_in_range g r v = lesser_in_range g.dimensions r.group r.picks (fits_valid g r v)
 
-narrowed_in_range : (g : Public) (s : Option (List ℕ)) (c : List ℕ) → InRange g s → are_levels g.dimensions c ≡ true → are_levels g.dimensions (narrowed s c) ≡ true
+pub narrowed_in_range : (g : Public) (s : Option (List ℕ)) (c : List ℕ) → InRange g s → are_levels g.dimensions c ≡ true → are_levels g.dimensions (narrowed s c) ≡ true
 narrowed_in_range g None c a b = b
 narrowed_in_range g (Some s) c a b = meet_in_range g.dimensions s c a b
 
@@ -159,7 +159,7 @@ known g s r m stands none v what =
     }
 
 -- what is kept of a measure, with a request on another measure behind
-held_more : (way : Method) (g : Public) (h : List Entry) (e : Entry) (n : ℕ) (k : Held) → is_on n e ≡ false → IsHeldBy way g h h n k → IsHeldBy way g h (h ++ e ∷ []) n k
+pub held_more : (way : Method) (g : Public) (h : List Entry) (e : Entry) (n : ℕ) (k : Held) → is_on n e ≡ false → IsHeldBy way g h h n k → IsHeldBy way g h (h ++ e ∷ []) n k
 held_more Plain g h e n held.Open off i = tt
 held_more Plain g h e n (held.Source c) off i = absurd i
 held_more Plain g h e n (held.Links c) off i = absurd i
@@ -192,7 +192,7 @@ waiting_stands g s t r m n new stands none valid what fresh becomes is_held same
       ready = subst (IsReady g t) (sym waits) (asks_it r m what, subst (λ (h : List Entry). IsNextBy (method g m) g h (whole t) m n) (sym same) (subst (λ (h : List Entry). IsNextBy (method g m) g s.history h m n) (sym all) becomes));
     }
 
-set_same : (hs : List Held) (m : ℕ) → set hs m (get_or hs m held.Open) ≡ hs
+pub set_same : (hs : List Held) (m : ℕ) → set hs m (get_or hs m held.Open) ≡ hs
 set_same hs m = set-get_or hs m held.Open
 
 -- ---- on a lattice measure

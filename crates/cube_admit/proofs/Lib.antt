@@ -5,3 +5,4 @@ pub mod Standing
 pub mod Colours
 pub mod Judging
 pub mod Boxes
+mod Taking

@@ -54,7 +54,7 @@ held_next Parity g h k m (next.Mark n) (held.Source c) i j = absurd j
 held_next Parity g h k m (next.Mark n) (held.Links c) i j = j
 
 -- an entry on another measure
-held_skip : (way : Method) (g : Public) (h : List Entry) (e : Entry) (m : ℕ) (held : Held) → is_on m e ≡ false → IsHeldBy way g h (h ++ e ∷ []) m held → IsHeldBy way g (h ++ e ∷ []) (h ++ e ∷ []) m held
+pub held_skip : (way : Method) (g : Public) (h : List Entry) (e : Entry) (m : ℕ) (held : Held) → is_on m e ≡ false → IsHeldBy way g h (h ++ e ∷ []) m held → IsHeldBy way g (h ++ e ∷ []) (h ++ e ∷ []) m held
 held_skip Plain g h e m held.Open off i = tt
 held_skip Plain g h e m (held.Source c) off i = absurd i
 held_skip Plain g h e m (held.Links c) off i = absurd i

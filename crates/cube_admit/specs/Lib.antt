@@ -3,3 +3,4 @@ pub mod Linking
 pub mod Room
 pub mod Sources
 pub mod States
+pub mod Taking

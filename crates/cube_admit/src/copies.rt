@@ -4,7 +4,8 @@ ghost use Rattle.std.specs.Prelude.{◌≡◌, IfOk};
 use cube_model::{Items, NoMemory, Request};
 use std::alloc::Global;
 
-fn copy_items<T: Copy>(alloc: Global, items: &Items<T>) -> Result<Items<T>, NoMemory>
+/// The same items again.
+pub(crate) fn copy_items<T: Copy>(alloc: Global, items: &Items<T>) -> Result<Items<T>, NoMemory>
     ensures { IfOk result (λ copy. copy ≡ items.now) }
 {
     Ok(Items::from_vec(Vec::from_slice(alloc, items.as_slice())?))

@@ -1,8 +1,10 @@
 // The source rule: what one more request makes of the source of a lattice measure.
 ghost use Rattle.std.specs.Prelude.{◌≡◌, length};
 ghost use Rattle.cube_model.specs.Verdicts.{holds_grain, narrowed};
-ghost use Rattle.cube_admit.specs.Sources.{IsLong, stepped};
+ghost use Rattle.cube_admit.specs.Sources.{IsLong, stepped, step_by};
+ghost use Rattle.cube_admit.specs.States.{source_in};
 
+use crate::Held;
 use cube_lattice::{finer_or_equal, meet_into};
 use cube_model::Levels;
 
@@ -44,7 +46,7 @@ pub(crate) enum Step {
 }
 
 /// What one more grain does to a source.
-pub(crate) fn step_from(source: &Option<Levels>, grain: Levels) -> Step
+fn step_from(source: &Option<Levels>, grain: Levels) -> Step
     requires { IsLong (length grain) source.now }
     ensures { result ≡ stepped source.now grain }
 {
@@ -52,5 +54,16 @@ pub(crate) fn step_from(source: &Option<Levels>, grain: Levels) -> Step
         Step::Stays
     } else {
         Step::Would(narrow(source, grain))
+    }
+}
+
+/// What levels do to what is kept of a measure: where it has no source, nothing.
+pub(crate) fn step_at(held: &Held, levels: Levels) -> Step
+    requires { IsLong (length levels) (source_in held.now) }
+    ensures { result ≡ step_by held.now levels }
+{
+    match held {
+        Held::Open | Held::Links(_) => Step::Stays,
+        Held::Source(source) => step_from(source, levels),
     }
 }

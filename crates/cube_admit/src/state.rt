@@ -23,7 +23,7 @@ ghost use Rattle.cube_admit.specs.declared.held.Held.TheVariants as kinds;
 
 use crate::copies::copy_request;
 use crate::parity::judge_held;
-use crate::source::{Step, step_from};
+use crate::source::{Step, step_at};
 use crate::{Held, Next, Pending};
 use cube_colour::Colouring;
 use cube_core::Core;
@@ -33,6 +33,8 @@ use cube_pairs::links;
 use cube_source::{Judged, guarded, judge};
 use std::alloc::Global;
 use std::marker::Model;
+
+mod take;
 
 /// The most requests that a history holds.
 pub(crate) const MOST_HELD: u32 = 16_384;
@@ -92,12 +94,12 @@ fn start_all(alloc: Global, core: &Core, policy: &Policy) -> Result<Vec<Held>, N
     Ok(held)
 }
 
-// Puts a request at the end of a history that has room for it.
-fn enter(history: &mut Vec<Entry>, request: Request)
+// Puts an entry at the end of a history that has room for it.
+fn enter(history: &mut Vec<Entry>, entry: Entry)
     requires { length history.old.items < vec_capacity history.old }
-    ensures { history.new.items ≡ history.old.items ++ Entry.Asked request ∷ [] }
+    ensures { history.new.items ≡ history.old.items ++ entry ∷ [] }
 {
-    match history.push(Entry::Asked(request)) {
+    match history.push(entry) {
         Ok(()) => {}
         Err(_) => unreachable!(),
     }
@@ -190,7 +192,8 @@ impl State {
 
     /// The entries of the history, the earliest first.
     pub fn history(&self) -> &[Entry]
-        ensures { result.now ≡ self.now.history }
+        ensures history { result.now ≡ self.now.history }
+        ensures few { length (requests self.now.history) ≤ 16384 }
     {
         self.history.as_slice()
     }
@@ -226,7 +229,7 @@ impl State {
                 next,
             } = pending;
             keep_at(&mut self.held, measure, next);
-            enter(&mut self.history, request);
+            enter(&mut self.history, Entry::Asked(request));
             self.asked += 1;
         }
     }
@@ -292,16 +295,22 @@ impl State {
         }
     }
 
+    // What levels do to the source of a measure; any other measure stays.
+    fn step_with(&self, measure: u32, levels: Levels) -> Step
+        requires measure { measure < length self.now.held }
+        requires long { IsLong (length levels) (source_in (slice_index_or self.now.held measure kinds.Open)) }
+        ensures { result ≡ step_by (slice_index_or self.now.held measure kinds.Open) levels }
+    {
+        step_at(&self.held[measure as usize], levels)
+    }
+
     // What the grain of a request does to the source of its measure; any other measure stays.
     fn step(&self, alloc: Global, request: &Request, measure: u32) -> Result<Step, NoMemory>
         requires measure { measure < length self.now.held }
         requires long { IsLong (length (grain_of request.now)) (source_in (slice_index_or self.now.held measure kinds.Open)) }
         ensures { IfOk result (λ step. step ≡ step_by (slice_index_or self.now.held measure kinds.Open) (grain_of request.now)) }
     {
-        match &self.held[measure as usize] {
-            Held::Open | Held::Links(_) => Ok(Step::Stays),
-            Held::Source(source) => Ok(step_from(source, grain(alloc, request)?)),
-        }
+        Ok(self.step_with(measure, grain(alloc, request)?))
     }
 
     // The verdict on a request that would narrow the source of its measure to these levels.
