@@ -1,0 +1,10 @@
+pub mod Spoken
+pub mod Found
+pub mod Dealt
+pub mod Streams
+pub mod Pieces
+pub mod Lookup
+pub mod Meetings
+pub mod Standing
+pub mod Enduring
+pub mod Likeness

@@ -1,0 +1,164 @@
+-- How a call stands between two events, and the log where it ends.
+use Rattle.std.proofs.Common.{◌≡◌, ℕ, ◌+◌, ◌-◌, ◌<◌, ◌==◌, ◌||◌, Bool, true, false, List, [], ◌∷◌, ◌++◌, length, refl, sym, ◌∙◌, ap, subst, arith, append_assoc, length-append, Option, if◌then◌else◌}
+use Rattle.std.proofs.lemmas.List.{append-nil}
+use Rattle.std.specs.List.{list_any}
+use Rattle.std.proofs.lemmas.Bool.Decides.{nat_tests}
+use Rattle.cube_model.specs.declared.outcome.Outcome.{Outcome}
+use Rattle.cube_model.specs.Rooms.{Room}
+use Rattle.cube_io.specs.Desks.{Manner}
+use Rattle.cube_io.specs.Wires.{Arrival, LogEntry}
+use Rattle.cube_io.specs.Wires.Arrival.{End}
+use Rattle.cube_io.specs.Wires.LogEntry.{Heard}
+use Rattle.cube_server.specs.declared.lines.Line.{Line}
+use Rattle.cube_server.specs.Ears.{AreKept, AreOpen}
+use Rattle.cube_server.specs.Logs.{Call, Run, met, taken as took, is_over, run_on, begin, run_of}
+use Rattle.cube_server.specs.Steps.{Takes, Serves, course, run, luck_of, sends_in, events_in, has_end, is_end}
+use Rattle.cube_server.proofs.Spoken.{sends_more, events_more}
+
+-- one event more
+abbrev once : Manner → Arrival → Run → Run
+once m e r = if is_over r then r else met m e (took e r)
+
+run_more : (m : Manner) (es : List Arrival) (e : Arrival) (r : Run) → run_on m (es ++ e ∷ []) r ≡ once m e (run_on m es r)
+run_more m [] e r = refl
+run_more m (x ∷ es) e r = by (is_over r) refl (run_more m es e (met m x (took x r)))
+  where
+    by : (b : Bool) → is_over r ≡ b → run_on m (es ++ e ∷ []) (met m x (took x r)) ≡ once m e (run_on m es (met m x (took x r))) → run_on m (x ∷ es ++ e ∷ []) r ≡ once m e (run_on m (x ∷ es) r)
+    by true o more = rw o (sym (ap (λ (b : Bool). if b then r else met m e (took e r)) o))
+    by false o more = rw o more
+
+going : (conns : List (ℕ × List ℕ)) (events : ℕ) (rooms : List Room) (asks : ℕ) (os : List Outcome) (ss : List (Option ℕ)) (bs : List Bool) (cs : List Call) (log : List LogEntry) → 0 < events → 0 < asks
+    → is_over (run conns events (course rooms asks os ss bs cs log)) ≡ false
+going conns events rooms asks os ss bs cs log some more =
+    let a : (events == 0) ≡ false = grind (arith, nat_tests) in
+    let b : (asks == 0) ≡ false = grind (arith, nat_tests) in
+    rw (a, b) refl
+
+-- How a call stands: its log is that of the definition's run so far, whatever luck is left.
+pub record Stands (m : Manner) (rooms0 rooms : List Room) (asks0 asks events0 events : ℕ) (outs0 outs : List Outcome) (log : List LogEntry) (lines : List Line) : Type 0 where
+  pub conns : List (ℕ × List ℕ)
+  pub kept : 0 < asks → AreKept lines conns
+  pub live : AreOpen lines log
+  pub unended : has_end log ≡ false
+  pub outcomes : List Outcome
+  pub starved : List Bool
+  pub calls : List Call
+  pub gained : outs ≡ outs0 ++ outcomes
+  pub runs : (os : List Outcome) (ss : List (Option ℕ)) (bs : List Bool)
+      → run_of m rooms0 (events_in log) (luck_of asks0 events0 (outcomes ++ os) (sends_in log ++ ss) (starved ++ bs)) ≡ run conns events (course rooms asks os ss bs calls log)
+
+pub stands_start : (m : Manner) (rooms : List Room) (asks events : ℕ) (outs : List Outcome) (log : List LogEntry) (lines : List Line) → log ≡ [] → lines ≡ [] → Stands m rooms rooms asks asks events events outs outs log lines
+unfolding run_of
+stands_start m rooms asks events outs log lines l e = rw (l, e) (record {
+  conns = [];
+  kept = λ some. tt;
+  live = tt;
+  unended = refl;
+  outcomes = [];
+  starved = [];
+  calls = [];
+  gained = sym (append-nil outs);
+  runs = λ os ss bs. refl;
+})
+
+one_event : (log : List LogEntry) (e : Arrival) → events_in (log ++ Heard e ∷ []) ≡ events_in log ++ e ∷ []
+one_event log e = events_more log (Heard e ∷ [])
+
+no_send : (log : List LogEntry) (e : Arrival) → sends_in (log ++ Heard e ∷ []) ≡ sends_in log
+no_send log e = sends_more log (Heard e ∷ []) ∙ append-nil (sends_in log)
+
+any_more : (es : List Arrival) (e : Arrival) → list_any is_end es ≡ false → is_end e ≡ false → list_any is_end (es ++ e ∷ []) ≡ false
+any_more [] e none last = rw last refl
+any_more (x ∷ es) e none last = by (is_end x) none (λ n. any_more es e n last)
+  where
+    by : (b : Bool) → (b || list_any is_end es) ≡ false → (list_any is_end es ≡ false → list_any is_end (es ++ e ∷ []) ≡ false) → (b || list_any is_end (es ++ e ∷ [])) ≡ false
+    by true n more = cc
+    by false n more = more n
+
+-- the run so far, with one event more
+run_once : (m : Manner) (rooms0 rooms : List Room) (asks0 asks events0 events : ℕ) (outs0 outs : List Outcome) (log : List LogEntry) (lines : List Line) (e : Arrival) → (s : Stands m rooms0 rooms asks0 asks events0 events outs0 outs log lines) → 0 < events → 0 < asks
+    → (os : List Outcome) (ss : List (Option ℕ)) (bs : List Bool) → run_of m rooms0 (events_in log ++ e ∷ []) (luck_of asks0 events0 (s.outcomes ++ os) (sends_in log ++ ss) (s.starved ++ bs))
+    ≡ met m e (run s.conns (events - 1) (course rooms asks os ss bs s.calls (log ++ Heard e ∷ [])))
+unfolding run_of
+run_once m rooms0 rooms asks0 asks events0 events outs0 outs log lines e s some more os ss bs =
+    run_more m (events_in log) e (begin rooms0 (luck_of asks0 events0 (s.outcomes ++ os) (sends_in log ++ ss) (s.starved ++ bs)))
+    ∙ ap (once m e) (s.runs os ss bs)
+    ∙ ap (λ (b : Bool). if b then run s.conns events (course rooms asks os ss bs s.calls log) else met m e (took e (run s.conns events (course rooms asks os ss bs s.calls log)))) (going s.conns events rooms asks os ss bs s.calls log some more)
+
+pub stands_more : (m : Manner) (rooms0 x y : List Room) (asks0 i j events0 events : ℕ) (outs0 o p : List Outcome) (u v : List LogEntry) (lines lines' : List Line)
+    → (s : Stands m rooms0 x asks0 i events0 events outs0 o u lines) → 0 < events → 0 < i → Takes m lines' s.conns x y i j o p u v
+    → Stands m rooms0 y asks0 j events0 (events - 1) outs0 p v lines'
+stands_more m rooms0 x y asks0 i j events0 events outs0 o p u v lines lines' s some more t =
+    let d = t.meets in
+    let ev : events_in v ≡ events_in u ++ t.event ∷ [] = d.quiet ∙ one_event u t.event in
+    let sh : sends_in v ≡ sends_in u ++ d.sends = d.shown ∙ ap (λ (l : List (Option ℕ)). l ++ d.sends) (no_send u t.event) in
+    record {
+      conns = d.conns';
+      kept = d.kept;
+      live = d.live;
+      unended = ap (list_any is_end) ev ∙ any_more (events_in u) t.event s.unended t.more;
+      outcomes = s.outcomes ++ d.outcomes;
+      starved = s.starved ++ d.starved;
+      calls = s.calls ++ d.calls;
+      gained = d.gained ∙ ap (λ (l : List Outcome). l ++ d.outcomes) s.gained ∙ append_assoc outs0 s.outcomes d.outcomes;
+      runs = λ os ss bs.
+          rw (ev, sh, append_assoc s.outcomes d.outcomes os, append_assoc (sends_in u) d.sends ss, append_assoc s.starved d.starved bs) (
+          run_once m rooms0 x asks0 i events0 events outs0 o u lines t.event s some more (d.outcomes ++ os) (d.sends ++ ss) (d.starved ++ bs)
+          ∙ d.runs (events - 1) os ss bs s.calls
+          );
+    }
+
+-- ---- its ends
+
+serves_by : (m : Manner) (rooms0 rooms : List Room) (asks0 asks events0 events : ℕ) (outs0 outs : List Outcome) (log : List LogEntry) (conns : List (ℕ × List ℕ)) (outcomes : List Outcome) (starved : List Bool) (calls : List Call) → outs ≡ outs0 ++ outcomes
+    → run_of m rooms0 (events_in log) (luck_of asks0 events0 outcomes (sends_in log) starved) ≡ run conns events (course rooms asks [] [] [] calls log) → Serves m rooms0 rooms asks0 asks events0 outs0 outs log
+serves_by m rooms0 rooms asks0 asks events0 events outs0 outs log conns outcomes starved calls gained runs = record {
+  outcomes = outcomes;
+  starved = starved;
+  gained = gained;
+  told = sym (ap (λ (r : Run). r.course.log) runs);
+  ended = sym (ap (λ (r : Run). r.course.rooms) runs);
+  none_left = ap (λ (r : Run). r.course.outcomes) runs;
+  asks_left = ap (λ (r : Run). r.course.asks) runs;
+}
+
+-- no more events came
+pub stands_done : (m : Manner) (rooms0 rooms : List Room) (asks0 asks events0 events : ℕ) (outs0 outs : List Outcome) (log log' : List LogEntry) (lines : List Line) → Stands m rooms0 rooms asks0 asks events0 events outs0 outs log lines → log' ≡ log
+    → Serves m rooms0 rooms asks0 asks events0 outs0 outs log'
+stands_done m rooms0 rooms asks0 asks events0 events outs0 outs log log' lines s same = rw same (
+    serves_by m rooms0 rooms asks0 asks events0 events outs0 outs log s.conns s.outcomes s.starved s.calls s.gained (rw (append-nil s.outcomes, append-nil (sends_in log), append-nil s.starved) at (s.runs [] [] []))
+    )
+
+-- the end came
+pub stands_end : (m : Manner) (rooms0 rooms : List Room) (asks0 asks events0 events : ℕ) (outs0 outs : List Outcome) (log log' : List LogEntry) (lines : List Line) → Stands m rooms0 rooms asks0 asks events0 events outs0 outs log lines → 0 < events → 0 < asks
+    → log' ≡ log ++ Heard End ∷ [] → Serves m rooms0 rooms asks0 asks events0 outs0 outs log'
+stands_end m rooms0 rooms asks0 asks events0 events outs0 outs log log' lines s some more e =
+    let runs = run_once m rooms0 rooms asks0 asks events0 events outs0 outs log lines End s some more [] [] [] in
+    rw e (
+    serves_by m rooms0 rooms asks0 asks events0 0 outs0 outs (log ++ Heard End ∷ []) s.conns s.outcomes s.starved s.calls s.gained
+    (rw (one_event log End, no_send log End) (rw (append-nil s.outcomes, append-nil (sends_in log), append-nil s.starved) at runs))
+    )
+
+-- what was heard up to the end
+pub ends_with : (log log' : List LogEntry) → log' ≡ log ++ Heard End ∷ [] → events_in log' ≡ events_in log ++ End ∷ []
+ends_with log log' e = ap events_in e ∙ one_event log End
+
+pub one_longer : (log log' : List LogEntry) (e : Arrival) (n : ℕ) → events_in log' ≡ events_in (log ++ Heard e ∷ []) → length (events_in log) ≡ n → length (events_in log') ≡ n + 1
+one_longer log log' e n same long = ap length (same ∙ one_event log e) ∙ length-append (events_in log) (e ∷ []) ∙ ap (λ (k : ℕ). k + 1) long
+
+-- an event was taken and dealt with: the call stands one event on, or its asks are used up
+pub record Onward (m : Manner) (rooms0 y : List Room) (asks0 j events0 events : ℕ) (outs0 p : List Outcome) (u v : List LogEntry) (lines' : List Line) : Type 0 where
+  pub stands : Stands m rooms0 y asks0 j events0 events outs0 p v lines'
+  pub longer : length (events_in v) ≡ length (events_in u) + 1
+
+pub onward : (m : Manner) (rooms0 x y : List Room) (asks0 i j events0 taken : ℕ) (outs0 o p : List Outcome) (u v : List LogEntry) (lines lines' : List Line)
+    → Stands m rooms0 x asks0 i events0 (events0 - taken) outs0 o u lines → taken < events0 → 0 < i → ((conns : List (ℕ × List ℕ)) → AreKept lines conns → Takes m lines' conns x y i j o p u v)
+    → Onward m rooms0 y asks0 j events0 (events0 - (taken + 1)) outs0 p u v lines'
+onward m rooms0 x y asks0 i j events0 taken outs0 o p u v lines lines' s few some takes =
+    let t = takes s.conns (s.kept some) in
+    let n : events0 - taken - 1 ≡ events0 - (taken + 1) = omega arith in
+    let more : 0 < events0 - taken = omega (arith, few) in
+    record {
+      stands = subst (λ (k : ℕ). Stands m rooms0 y asks0 j events0 k outs0 p v lines') n (stands_more m rooms0 x y asks0 i j events0 (events0 - taken) outs0 o p u v lines lines' s more some t);
+      longer = one_longer u v t.event (length (events_in u)) t.meets.quiet refl;
+    }

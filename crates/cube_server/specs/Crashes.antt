@@ -1,0 +1,49 @@
+-- What a crash may leave of the logs of a store, while a desk is asked.
+use Rattle.std.specs.Prelude.{◌≡◌, ◌↔◌, ℕ, ◌+◌, ◌-◌, ◌^◌, ◌≤◌, min, Bool, true, false, IsTrue, List, [], ◌∷◌, count_by}
+use Rattle.cube_model.specs.declared.outcome.Outcome.{Outcome}
+use Rattle.cube_model.specs.declared.outcome.Outcome.TheVariants.{Given, JournalFault, NoMemory}
+use Rattle.cube_model.specs.Rooms.{Room}
+use Rattle.cube_io.specs.Desks.{Manner}
+use Rattle.cube_io.specs.States.{State, Log, Gained}
+use Rattle.cube_server.specs.Logs.{Call}
+
+-- the rooms that some asks leave
+abbrev pub after : Manner → List Room → List Call → List Room
+after m rooms [] = rooms
+after m rooms (c ∷ calls) = after m (m.next rooms c.ask c.outcome) calls
+
+-- some asks lead from one to the other
+abbrev pub Reaches : Manner → List Room → List Room → Type 0
+Reaches m rooms rooms' = (calls : List Call) × (rooms' ≡ after m rooms calls)
+
+-- On the way from one to the other, behind some of the asks, from the first on and none skipped, it holds of the rooms.
+pub record OnTheWay (m : Manner) (holds : List Room → ℕ → State → Type 0) (rooms rooms' : List Room) (log : ℕ) (state : State) : Type 0 where
+  pub here : List Room
+  pub from : Reaches m rooms here
+  pub to : Reaches m here rooms'
+  pub there : holds here log state
+
+abbrev pub is_fault : Outcome → Bool
+is_fault Given = false
+is_fault JournalFault = true
+is_fault NoMemory = false
+
+-- how often the journal failed
+abbrev pub faults_in : List Outcome → ℕ
+faults_in outcomes = count_by is_fault outcomes
+
+-- What asks do to a store. Where `within` held of the rooms at entry, it holds at each state that a log gains of the rooms that some
+-- of the asks leave, and at exit of the last rooms. Where `exact` held and the journal failed in no ask, it holds at exit. The count of
+-- the store's faults rose for each ask in which the journal failed, and for no other.
+pub record Endures (m : Manner) (within within' exact exact' : List Room → ℕ → State → Type 0) (tells tells' : Bool) (logs logs' : ℕ → Log) (rooms rooms' : List Room) (outs outs' : List Outcome) (faults faults' : ℕ) : Type 0 where
+  pub told : tells' ≡ tells
+  pub reached : Reaches m rooms rooms'
+  pub within_stays : (r : List Room) (log : ℕ) (state : State) → within' r log state ↔ within r log state
+  pub exact_stays : (r : List Room) (log : ℕ) (state : State) → exact' r log state ↔ exact r log state
+  pub passed : IsTrue tells → (log : ℕ) → within rooms log (logs log).state → Gained (OnTheWay m within rooms rooms' log) (logs log) (logs' log)
+  pub stays_within : IsTrue tells → (log : ℕ) → within rooms log (logs log).state → within' rooms' log (logs' log).state
+  pub stays_exact : faults_in outs' ≡ faults_in outs → IsTrue tells → (log : ℕ) → exact rooms log (logs log).state → exact' rooms' log (logs' log).state
+  pub more : faults_in outs ≤ faults_in outs'
+  pub later : faults ≤ faults'
+  pub steady : faults_in outs' ≡ faults_in outs → faults' ≡ faults
+  pub risen : min (faults + (faults_in outs' - faults_in outs)) (2 ^ 64 - 1) ≤ faults'

@@ -1,0 +1,7 @@
+pub mod Logs
+pub mod Rows
+pub mod Ears
+pub mod Pools
+pub mod Crashes
+pub mod Alike
+pub mod Steps

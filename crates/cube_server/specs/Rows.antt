@@ -1,0 +1,74 @@
+-- A manner of the worked examples: a query is answered with its text, and no room changes.
+use Rattle.std.specs.Prelude.{◌≡◌, refl, ℕ, Bool, List, [], ◌∷◌, ◌++◌, map, Option, Some, None, codes}
+use Rattle.std.specs.List.{filter_map}
+use Rattle.cube_model.specs.declared.ask.Ask.{Ask}
+use Rattle.cube_model.specs.declared.ask.Ask.TheVariants as ask
+use Rattle.cube_model.specs.declared.outcome.Outcome.{Outcome}
+use Rattle.cube_model.specs.declared.outcome.Outcome.TheVariants.{Given, JournalFault, NoMemory}
+use Rattle.cube_model.specs.declared.reply.Fixed.TheVariants as constant
+use Rattle.cube_model.specs.declared.reply.Kind.TheVariants as kind
+use Rattle.cube_model.specs.declared.reply.Reply.{Reply}
+use Rattle.cube_model.specs.declared.reply.Reply.TheVariants as reply
+use Rattle.cube_io.specs.Desks.{Manner, IsConstant}
+use Rattle.cube_io.specs.Wires.{Arrival, LogEntry}
+use Rattle.cube_io.specs.Wires.LogEntry.{Heard, Sent, Torn, Shut}
+use Rattle.cube_http.specs.Examples.{head, host}
+use Rattle.cube_server.specs.Logs.{Luck, log_of, calls_of}
+
+abbrev pub echoed : Ask → Outcome → Reply
+echoed (ask.Query text) Given = reply.Made 200 kind.Csv text
+echoed (ask.Witness text) Given = reply.Fixed constant.NoPath
+echoed ask.Shape Given = reply.Fixed constant.NoPath
+echoed (ask.Group name inner) Given = reply.Fixed constant.NoPath
+echoed a JournalFault = reply.Fixed constant.JournalFault
+echoed a NoMemory = reply.Fixed constant.NoMemory
+
+abbrev pub echo : Manner
+echo = record { reply = λ rooms a o. echoed a o; next = λ rooms a o. rooms }
+
+-- the text of a query
+abbrev pub text_of : Ask → List ℕ
+text_of (ask.Query text) = text
+text_of (ask.Witness text) = text
+text_of ask.Shape = []
+text_of (ask.Group name inner) = name
+
+-- a log without its events
+abbrev pub is_out : LogEntry → Option LogEntry
+is_out (Heard e) = None
+is_out (Sent c bytes) = Some (Sent c bytes)
+is_out (Torn c bytes) = Some (Torn c bytes)
+is_out (Shut c) = Some (Shut c)
+
+-- what goes out and is closed, over no room
+abbrev pub played : List Arrival → Luck → List LogEntry
+played events luck = filter_map is_out (log_of echo [] events luck)
+
+-- the texts that are asked
+abbrev pub texts : List Arrival → Luck → List (List ℕ)
+texts events luck = map (λ c. text_of c.ask) (calls_of echo [] events luck)
+
+abbrev pub get : List ℕ → List ℕ
+get q = head ((codes "GET /v1/query?q=" ++ q ++ codes " HTTP/1.1") ∷ host ∷ [])
+
+abbrev pub ok_head : ℕ → List ℕ
+ok_head digit = head (codes "HTTP/1.1 200 OK" ∷ codes "Content-Type: text/csv; charset=utf-8" ∷ (codes "Content-Length: " ++ digit ∷ []) ∷ [])
+
+abbrev pub ample : List Outcome → List (Option ℕ) → List Bool → Luck
+ample outcomes sends starved = record { asks = 9; events = 99; outcomes = outcomes; sends = sends; starved = starved }
+
+fault_reply : (a : Ask) → echoed a JournalFault ≡ reply.Fixed constant.JournalFault
+fault_reply (ask.Query text) = refl
+fault_reply (ask.Witness text) = refl
+fault_reply ask.Shape = refl
+fault_reply (ask.Group name inner) = refl
+
+memory_reply : (a : Ask) → echoed a NoMemory ≡ reply.Fixed constant.NoMemory
+memory_reply (ask.Query text) = refl
+memory_reply (ask.Witness text) = refl
+memory_reply ask.Shape = refl
+memory_reply (ask.Group name inner) = refl
+
+-- what failed gets its constant reply
+pub echo_is_constant : IsConstant echo
+echo_is_constant = record { fault = λ rooms a. (fault_reply a, refl); memory = λ rooms a. (memory_reply a, refl) }

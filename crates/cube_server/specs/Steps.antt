@@ -1,0 +1,158 @@
+-- What a part of a run does, in terms of the definition of the log: the definition's step, with the luck that the log and the
+-- desk show used up in front of any luck that is left.
+use Rattle.std.specs.Prelude.{◌≡◌, ◌⊎◌, ℕ, ◌<◌, ◌≤◌, ◌+◌, ◌==◌, Bool, true, false, IsTrue, List, [], ◌∷◌, ◌++◌, length, Option, Some, None, if◌then◌else◌, ◌||◌}
+use Rattle.std.specs.List.{filter_map, list_any}
+use Rattle.cube_model.specs.declared.ask.Ask.{Ask}
+use Rattle.cube_model.specs.declared.outcome.Outcome.{Outcome}
+use Rattle.cube_model.specs.Rooms.{Room}
+use Rattle.cube_io.specs.Desks.{Manner}
+use Rattle.cube_io.specs.Wires.{Arrival, LogEntry, sound_after}
+use Rattle.cube_io.specs.Wires.Arrival.{Opened, Came, Closed, End}
+use Rattle.cube_io.specs.Wires.LogEntry.{Heard, Sent, Torn, Shut}
+use Rattle.cube_model.specs.declared.reply.Reply.{Reply}
+use Rattle.cube_model.specs.declared.reply.Reply.TheVariants as reply
+use Rattle.cube_http.specs.Responses.{has_phrase, status_of, continue_bytes}
+use Rattle.cube_http.specs.Stream.{Request}
+use Rattle.cube_http.specs.declared.connection.Heard.{Heard as Sound}
+use Rattle.cube_http.specs.declared.connection.Heard.TheVariants as heard
+use Rattle.cube_http.specs.declared.targets.Wanted.{Wanted}
+use Rattle.cube_server.specs.Logs.{Luck, Call, Course, Turn, Run, spoken, replied, answered, wanted_by, run_of, log_of, end_of, met}
+use Rattle.cube_server.specs.declared.serving.ServeFault.{ServeFault}
+use Rattle.cube_server.specs.declared.serving.ServeFault.TheVariants as fault
+use Rattle.cube_server.specs.Ears.{AreKept, AreOpen}
+use Rattle.cube_server.specs.declared.lines.Line.{Line}
+
+-- each reply of the desk has a status with a phrase
+abbrev pub IsPhrased : Manner → Type 0
+IsPhrased m = (rooms : List Room) (ask : Ask) (o : Outcome) → IsTrue (has_phrase (status_of (m.reply rooms ask o)))
+
+-- for each send of a log, whether it failed after so many bytes
+abbrev pub send_of : LogEntry → Option (Option ℕ)
+send_of (Heard e) = None
+send_of (Sent c bytes) = Some None
+send_of (Torn c bytes) = Some (Some (length bytes))
+send_of (Shut c) = None
+
+abbrev pub sends_in : List LogEntry → List (Option ℕ)
+sends_in log = filter_map send_of log
+
+-- the events of a log
+abbrev pub event_of : LogEntry → Option Arrival
+event_of (Heard e) = Some e
+event_of (Sent c bytes) = None
+event_of (Torn c bytes) = None
+event_of (Shut c) = None
+
+abbrev pub events_in : List LogEntry → List Arrival
+events_in log = filter_map event_of log
+
+-- the sends of a body
+abbrev pub body_sends : Bool → List ℕ → List (List ℕ)
+body_sends head_only body = if head_only || length body == 0 then [] else body ∷ []
+
+abbrev pub turn : Course → Bool → Turn
+turn k live = record { course = k; live = live }
+
+abbrev pub speaking : Course → List (Option ℕ) → List LogEntry → Course
+speaking k sends log = record k { sends = sends; log = log }
+
+abbrev pub course : List Room → ℕ → List Outcome → List (Option ℕ) → List Bool → List Call → List LogEntry → Course
+course rooms asks outcomes sends starved calls log = record { rooms = rooms; asks = asks; outcomes = outcomes; sends = sends; starved = starved; calls = calls; log = log }
+
+abbrev pub run : List (ℕ × List ℕ) → ℕ → Course → Run
+run conns events k = record { conns = conns; events = events; course = k }
+
+-- No other connection was opened or closed, no event came, and the connection is open where it was and is live.
+pub record Talks (c : ℕ) (log log' : List LogEntry) (live : Bool) : Type 0 where
+  pub quiet : events_in log' ≡ events_in log
+  pub others : (d : ℕ) → (c == d) ≡ false → sound_after d false log' ≡ sound_after d false log
+  pub stays : live ≡ true → sound_after c false log' ≡ sound_after c false log
+
+-- a step of the definition that sends on a live connection: it took the log so far
+pub record Speaks (c : ℕ) (op : Turn → Turn) (log log' : List LogEntry) (live : Bool) : Type 0 where
+  pub talks : Talks c log log' live
+  pub sends : List (Option ℕ)
+  pub shown : sends_in log' ≡ sends_in log ++ sends
+  pub runs : (k : Course) (left : List (Option ℕ)) → op (turn (speaking k (sends ++ left) log) true) ≡ turn (speaking k left log') live
+
+-- a step of the definition that may ask the desk too
+pub record Deals (c : ℕ) (op : Turn → Turn) (rooms rooms' : List Room) (asks asks' : ℕ) (outs outs' : List Outcome) (log log' : List LogEntry) (live : Bool) : Type 0 where
+  pub talks : Talks c log log' live
+  pub outcomes : List Outcome
+  pub sends : List (Option ℕ)
+  pub starved : List Bool
+  pub calls : List Call
+  pub gained : outs' ≡ outs ++ outcomes
+  pub shown : sends_in log' ≡ sends_in log ++ sends
+  pub runs : (os : List Outcome) (ss : List (Option ℕ)) (bs : List Bool) (cs : List Call)
+      → op (turn (course rooms asks (outcomes ++ os) (sends ++ ss) (starved ++ bs) cs log) true) ≡ turn (course rooms' asks' os ss bs (cs ++ calls) log') live
+
+-- the reply to what a request wants: where it goes out, the request was dealt with
+abbrev pub MakesReply : Manner → Wanted → List Room → List Room → ℕ → ℕ → List Outcome → List Outcome → Reply → Type 0
+MakesReply m w rooms rooms' asks asks' outs outs' r =
+    (q : Request) (c : ℕ) (log log' : List LogEntry) (live : Bool) → Speaks c (answered c q r) log log' live → Deals c (wanted_by m w c q) rooms rooms' asks asks' outs outs' log log' live
+
+-- what is sent where the client may wait for leave
+abbrev pub body_said : ℕ → Bool → Turn → Turn
+body_said c waits t = if waits then spoken c continue_bytes t else t
+
+-- what is sent where bytes were refused
+abbrev pub dead_said : ℕ → Sound → Turn → Turn
+dead_said c heard.More t = t
+dead_said c heard.Continue t = t
+dead_said c heard.Whole t = t
+dead_said c (heard.Bad fixed) t = replied c (reply.Fixed fixed) true false t
+
+-- a step of the definition at an event: which connections are open behind it is told too
+pub record Meets (op : Run → Run) (lines' : List Line) (conns : List (ℕ × List ℕ)) (rooms rooms' : List Room) (asks asks' : ℕ) (outs outs' : List Outcome) (log log' : List LogEntry) : Type 0 where
+  pub conns' : List (ℕ × List ℕ)
+  pub kept : 0 < asks' → AreKept lines' conns'
+  pub live : AreOpen lines' log'
+  pub quiet : events_in log' ≡ events_in log
+  pub outcomes : List Outcome
+  pub sends : List (Option ℕ)
+  pub starved : List Bool
+  pub calls : List Call
+  pub gained : outs' ≡ outs ++ outcomes
+  pub shown : sends_in log' ≡ sends_in log ++ sends
+  pub runs : (n : ℕ) (os : List Outcome) (ss : List (Option ℕ)) (bs : List Bool) (cs : List Call)
+      → op (run conns n (course rooms asks (outcomes ++ os) (sends ++ ss) (starved ++ bs) cs log)) ≡ run conns' n (course rooms' asks' os ss bs (cs ++ calls) log')
+
+-- a whole luck
+abbrev pub luck_of : ℕ → ℕ → List Outcome → List (Option ℕ) → List Bool → Luck
+luck_of asks events outcomes sends starved = record { asks = asks; events = events; outcomes = outcomes; sends = sends; starved = starved }
+
+-- The log of a whole call. It is the log of the definition for the rooms at entry, the events that it shows, and the stated numbers,
+-- the outcomes that were gained, the sends as the log shows them, and what constant replies starved. No outcome is left over, the
+-- rooms are those at the end of the definition's run, and as many asks are left as the desk has room for.
+pub record Serves (m : Manner) (rooms rooms' : List Room) (asks asks' events : ℕ) (outs outs' : List Outcome) (log : List LogEntry) : Type 0 where
+  pub outcomes : List Outcome
+  pub starved : List Bool
+  pub gained : outs' ≡ outs ++ outcomes
+  pub told : log ≡ log_of m rooms (events_in log) (luck_of asks events outcomes (sends_in log) starved)
+  pub ended : rooms' ≡ end_of m rooms (events_in log) (luck_of asks events outcomes (sends_in log) starved)
+  pub none_left : (run_of m rooms (events_in log) (luck_of asks events outcomes (sends_in log) starved)).course.outcomes ≡ []
+  pub asks_left : (run_of m rooms (events_in log) (luck_of asks events outcomes (sends_in log) starved)).course.asks ≡ asks'
+
+abbrev pub is_end : Arrival → Bool
+is_end (Opened c) = false
+is_end (Came c bytes) = false
+is_end (Closed c) = false
+is_end End = true
+
+-- the end was heard
+abbrev pub has_end : List LogEntry → Bool
+has_end log = list_any is_end (events_in log)
+
+-- an event that is not the end was taken, and what it leads to was done
+pub record Takes (m : Manner) (lines' : List Line) (conns : List (ℕ × List ℕ)) (rooms rooms' : List Room) (asks asks' : ℕ) (outs outs' : List Outcome) (log log' : List LogEntry) : Type 0 where
+  pub event : Arrival
+  pub more : is_end event ≡ false
+  pub meets : Meets (met m event) lines' conns rooms rooms' asks asks' outs outs' (log ++ Heard event ∷ []) log'
+
+-- What is said by the fault that ends a call: the wire failed before the stated asks and events were used up; or one of these was, and
+-- both were counted.
+abbrev pub IsCounted : ServeFault → Bool → List Outcome → List Outcome → ℕ → ℕ → List LogEntry → Type 0
+IsCounted fault.WireFailed told outs outs' asks' events log = (0 < asks') × (IsTrue told → length (events_in log) < events)
+IsCounted (fault.Spent requests taken) told outs outs' asks' events log =
+    (length outs' ≡ length outs + requests) × (IsTrue told → length (events_in log) ≡ taken) × (taken ≤ events) × ((asks' ≡ 0) ⊎ (taken ≡ events))

@@ -1,0 +1,325 @@
+// The loop over the events of a wire.
+ghost use Rattle.std.specs.Prelude.{◌≡◌, ◌≢◌, ◌⊎◌, ◌<◌, ◌≤◌, ◌+◌, ◌++◌, ◌∷◌, [], ℕ, List, length, take, IsTrue, IsOk, OnOk, OnErr, IfErr, true, false, Ok, Err, IfSome, IfNone};
+ghost use Rattle.cube_model.specs.declared.outcome.Outcome.{Outcome};
+ghost use Rattle.cube_model.specs.Rooms.{Room};
+ghost use Rattle.cube_io.specs.Causes.{Rose};
+ghost use Rattle.cube_io.specs.Desks.{Manner};
+ghost use Rattle.cube_io.specs.Wires.{Arrival, LogEntry, IsSound, FitsBuffer, arrival_of};
+ghost use Rattle.cube_io.specs.Wires.LogEntry.{Heard};
+ghost use Rattle.cube_io.specs.Wires.Arrival.{Opened, Came, Closed, End};
+ghost use Rattle.cube_server.specs.Crashes.{Endures};
+ghost use Rattle.cube_server.specs.Ears.{has, IsAnew, HasRoom, AreKept, AreOpen, AreOpenBut, AreOpenAt, is_last};
+ghost use Rattle.cube_server.specs.Logs.{met};
+ghost use Rattle.cube_server.specs.Pools.{IsFree};
+ghost use Rattle.cube_server.specs.Steps.{IsPhrased, IsCounted, Meets, Takes, Serves, events_in, has_end};
+
+use crate::deal::{Left, hear_piece};
+use crate::lines::{Ear, Lines};
+use crate::pools::Pool;
+use crate::reply::send_reply;
+use cube_http::HeadConn;
+use cube_io::{Desk, Event, Store, Wire};
+use cube_model::{Fixed, Reply};
+use std::alloc::Global;
+
+/// Why a call ended before the end of the wire.
+#[derive(Clone, Copy, Debug, PartialEq, Eq)]
+pub enum ServeFault {
+    /// The wire failed; this was counted.
+    WireFailed,
+    /// The desk has no room for more asks, or the stated events were taken.
+    Spent {
+        /// How many outcomes the desk gained.
+        requests: u64,
+        /// How many events were taken.
+        events: u64,
+    },
+}
+
+// What became of an event.
+#[derive(Clone, Copy, Debug, PartialEq, Eq)]
+enum Taken {
+    // It was taken.
+    More,
+    // It is the end.
+    Ended,
+    // The wire failed.
+    Failed,
+}
+
+// What hears a new connection of the number, where there is room for one more.
+fn fresh_ear(lines: &mut Lines, c: u32) -> Option<HeadConn>
+    requires { HasRoom lines.old 0 }
+    ensures some { IfSome result (λ head. HasRoom lines.new 1 × (head ≡ []) × IsAnew c lines.old.lines.items lines.new.lines.items) }
+    ensures none { IfNone result (HasRoom lines.new 0 × (has c lines.old.lines.items ≡ false) × (length lines.old.lines.items ≡ 64) × (lines.new.lines.items ≡ lines.old.lines.items)) }
+{
+    match lines.take(c) {
+        Some(ear) => Some(ear.renew()),
+        None => lines.lend(),
+    }
+}
+
+// A connection was opened: it is new, or there is no room for it.
+fn open_conn<W: Wire>(wire: &mut W, lines: &mut Lines, c: u32)
+    requires room { HasRoom lines.old 0 }
+    requires live { IsTrue (W.told wire.old) → IsSound c (W.log wire.old) }
+    ensures room { HasRoom lines.new 0 }
+    ensures meets { IsTrue (W.told wire.old) → (conns : List (ℕ × List ℕ)) → AreKept lines.old.lines.items conns → AreOpenBut c lines.old.lines.items (W.log wire.old)
+        → (m : Manner) (rooms : List Room) (asks : ℕ) (outs : List Outcome) → Meets (met m (Opened c)) lines.new.lines.items conns rooms rooms asks asks outs outs (W.log wire.old) (W.log wire.new) }
+    ensures told { W.told wire.new ≡ W.told wire.old }
+    ensures faults { W.faults wire.new ≡ W.faults wire.old }
+    ensures sends { W.send_faults wire.old ≤ W.send_faults wire.new }
+{
+    match fresh_ear(lines, c) {
+        Some(head) => lines.put(c, Ear::Head(head)),
+        None => {
+            let _shut = send_reply(wire, c, &Reply::Fixed(Fixed::Busy), true, false);
+        }
+    }
+}
+
+// A connection was closed by the other side.
+fn close_conn(lines: &mut Lines, c: u32)
+    requires { HasRoom lines.old 0 }
+    ensures room { HasRoom lines.new 0 }
+    ensures meets { (conns : List (ℕ × List ℕ)) (log : List LogEntry) → AreKept lines.old.lines.items conns → AreOpenBut c lines.old.lines.items log
+        → (m : Manner) (rooms : List Room) (asks : ℕ) (outs : List Outcome) → Meets (met m (Closed c)) lines.new.lines.items conns rooms rooms asks asks outs outs log log }
+{
+    match lines.take(c) {
+        Some(ear) => lines.give(ear.renew()),
+        None => {}
+    }
+}
+
+// A piece came. That of a connection that is not open is dropped.
+fn hear<S: Store, D: Desk<S>, W: Wire>(
+    alloc: Global,
+    desk: &mut D,
+    store: &mut S,
+    wire: &mut W,
+    lines: &mut Lines,
+    c: u32,
+    piece: &[u8],
+)
+    requires fits { D.fits desk.old store.old }
+    requires room { 1 ≤ D.room desk.old }
+    requires phrased { IsPhrased (D.manner desk.old) }
+    requires lines { HasRoom lines.old 0 }
+    requires live { IsTrue (W.told wire.old) → AreOpen lines.old.lines.items (W.log wire.old) }
+    ensures lines { HasRoom lines.new 0 }
+    ensures meets { IsTrue (W.told wire.old) → (conns : List (ℕ × List ℕ)) → AreKept lines.old.lines.items conns
+        → Meets (met (D.manner desk.old) (Came c piece.now)) lines.new.lines.items conns (D.rooms desk.old) (D.rooms desk.new) (D.room desk.old) (D.room desk.new)
+        (D.outcomes desk.old) (D.outcomes desk.new) (W.log wire.old) (W.log wire.new) }
+    ensures manner { D.manner desk.new ≡ D.manner desk.old }
+    ensures fits { D.fits desk.new store.new }
+    ensures endures { Endures (D.manner desk.old) (D.within desk.old) (D.within desk.new) (D.exact desk.old) (D.exact desk.new) (S.told store.old) (S.told store.new) (S.logs store.old) (S.logs store.new)
+        (D.rooms desk.old) (D.rooms desk.new) (D.outcomes desk.old) (D.outcomes desk.new) (S.faults store.old) (S.faults store.new) }
+    ensures counted { D.room desk.new + length (D.outcomes desk.new) ≡ D.room desk.old + length (D.outcomes desk.old) }
+    ensures fewer { D.room desk.new ≤ D.room desk.old }
+    ensures told { W.told wire.new ≡ W.told wire.old }
+    ensures faults { W.faults wire.new ≡ W.faults wire.old }
+    ensures sends { W.send_faults wire.old ≤ W.send_faults wire.new }
+{
+    let Some(ear) = lines.take(c) else {
+        return;
+    };
+    match hear_piece(alloc, desk, store, wire, c, ear, piece) {
+        Left::On(ear) => lines.put(c, ear),
+        Left::Off(head) => lines.give(head),
+    }
+}
+
+// What an event leads to, unless it is the end.
+fn meet<S: Store, D: Desk<S>, W: Wire>(
+    alloc: Global,
+    desk: &mut D,
+    store: &mut S,
+    wire: &mut W,
+    lines: &mut Lines,
+    event: Event,
+    buf: &[u8],
+)
+    requires fits { D.fits desk.old store.old }
+    requires room { 1 ≤ D.room desk.old }
+    requires phrased { IsPhrased (D.manner desk.old) }
+    requires lines { HasRoom lines.old 0 }
+    requires buf { FitsBuffer event buf.now }
+    requires live { IsTrue (W.told wire.old) → AreOpenAt event lines.old.lines.items (W.log wire.old) }
+    requires more { is_last event ≡ false }
+    ensures lines { HasRoom lines.new 0 }
+    ensures meets { IsTrue (W.told wire.old) → (conns : List (ℕ × List ℕ)) → AreKept lines.old.lines.items conns
+        → Meets (met (D.manner desk.old) (arrival_of event buf.now)) lines.new.lines.items conns (D.rooms desk.old) (D.rooms desk.new) (D.room desk.old) (D.room desk.new)
+        (D.outcomes desk.old) (D.outcomes desk.new) (W.log wire.old) (W.log wire.new) }
+    ensures manner { D.manner desk.new ≡ D.manner desk.old }
+    ensures fits { D.fits desk.new store.new }
+    ensures endures { Endures (D.manner desk.old) (D.within desk.old) (D.within desk.new) (D.exact desk.old) (D.exact desk.new) (S.told store.old) (S.told store.new) (S.logs store.old) (S.logs store.new)
+        (D.rooms desk.old) (D.rooms desk.new) (D.outcomes desk.old) (D.outcomes desk.new) (S.faults store.old) (S.faults store.new) }
+    ensures counted { D.room desk.new + length (D.outcomes desk.new) ≡ D.room desk.old + length (D.outcomes desk.old) }
+    ensures fewer { D.room desk.new ≤ D.room desk.old }
+    ensures told { W.told wire.new ≡ W.told wire.old }
+    ensures faults { W.faults wire.new ≡ W.faults wire.old }
+    ensures sends { W.send_faults wire.old ≤ W.send_faults wire.new }
+{
+    match event {
+        Event::Opened(c) => open_conn(wire, lines, c),
+        Event::Piece(c, n) => hear(alloc, desk, store, wire, lines, c, &buf[..n]),
+        Event::Closed(c) => close_conn(lines, c),
+        Event::End => {}
+    }
+}
+
+// Whether an event is the end.
+fn is_end(event: Event) -> bool
+    ensures { result ≡ is_last event }
+{
+    match event {
+        Event::End => true,
+        _ => false,
+    }
+}
+
+// Takes an event.
+fn take_event<S: Store, D: Desk<S>, W: Wire>(
+    alloc: Global,
+    desk: &mut D,
+    store: &mut S,
+    wire: &mut W,
+    lines: &mut Lines,
+    buf: &mut [u8],
+) -> Taken
+    requires fits { D.fits desk.old store.old }
+    requires room { 1 ≤ D.room desk.old }
+    requires phrased { IsPhrased (D.manner desk.old) }
+    requires lines { HasRoom lines.old 0 }
+    requires buf { length buf.old ≡ 65536 }
+    requires live { IsTrue (W.told wire.old) → AreOpen lines.old.lines.items (W.log wire.old) }
+    ensures lines { HasRoom lines.new 0 }
+    ensures takes { result ≡ Taken.More → IsTrue (W.told wire.old) → (conns : List (ℕ × List ℕ)) → AreKept lines.old.lines.items conns
+        → Takes (D.manner desk.old) lines.new.lines.items conns (D.rooms desk.old) (D.rooms desk.new) (D.room desk.old) (D.room desk.new)
+        (D.outcomes desk.old) (D.outcomes desk.new) (W.log wire.old) (W.log wire.new) }
+    ensures ended { result ≡ Taken.Ended → (desk.new ≡ desk.old) × (store.new ≡ store.old) × (IsTrue (W.told wire.old) → W.log wire.new ≡ W.log wire.old ++ Heard End ∷ []) }
+    ensures failed { result ≡ Taken.Failed → (desk.new ≡ desk.old) × (store.new ≡ store.old) × (IsTrue (W.told wire.old) → W.log wire.new ≡ W.log wire.old) × Rose (W.faults wire.old) (W.faults wire.new) }
+    ensures manner { D.manner desk.new ≡ D.manner desk.old }
+    ensures fits { D.fits desk.new store.new }
+    ensures endures { Endures (D.manner desk.old) (D.within desk.old) (D.within desk.new) (D.exact desk.old) (D.exact desk.new) (S.told store.old) (S.told store.new) (S.logs store.old) (S.logs store.new)
+        (D.rooms desk.old) (D.rooms desk.new) (D.outcomes desk.old) (D.outcomes desk.new) (S.faults store.old) (S.faults store.new) }
+    ensures counted { D.room desk.new + length (D.outcomes desk.new) ≡ D.room desk.old + length (D.outcomes desk.old) }
+    ensures fewer { D.room desk.new ≤ D.room desk.old }
+    ensures told { W.told wire.new ≡ W.told wire.old }
+    ensures steady { result ≢ Taken.Failed → W.faults wire.new ≡ W.faults wire.old }
+    ensures sends { W.send_faults wire.old ≤ W.send_faults wire.new }
+{
+    let event = match wire.next(buf) {
+        Ok(event) => event,
+        Err(_) => return Taken::Failed,
+    };
+    if is_end(event) {
+        return Taken::Ended;
+    }
+    meet(alloc, desk, store, wire, lines, event, buf);
+    Taken::More
+}
+
+// Serves the wire over these connections, of which none is open.
+fn serve_lines<S: Store, D: Desk<S>, W: Wire>(
+    alloc: Global,
+    desk: &mut D,
+    store: &mut S,
+    wire: &mut W,
+    lines: &mut Lines,
+    buf: &mut [u8],
+    events: u64,
+) -> Result<(), ServeFault>
+    requires fits { D.fits desk.old store.old }
+    requires room { 1 ≤ D.room desk.old }
+    requires events { 1 ≤ events }
+    requires phrased { IsPhrased (D.manner desk.old) }
+    requires lines { HasRoom lines.old 0 }
+    requires none { lines.old.lines.items ≡ [] }
+    requires buf { length buf.old ≡ 65536 }
+    requires log { IsTrue (W.told wire.old) → W.log wire.old ≡ [] }
+    ensures lines { HasRoom lines.new 0 }
+    ensures log { IsTrue (W.told wire.old) → Serves (D.manner desk.old) (D.rooms desk.old) (D.rooms desk.new) (D.room desk.old) (D.room desk.new) events (D.outcomes desk.old) (D.outcomes desk.new) (W.log wire.new) }
+    ensures ended { IsTrue (W.told wire.old) → OnOk result ((es : List Arrival) × (events_in (W.log wire.new) ≡ es ++ End ∷ []) × (length es < events)) }
+    ensures unended { IsTrue (W.told wire.old) → OnErr result (has_end (W.log wire.new) ≡ false) }
+    ensures room { OnOk result (0 < D.room desk.new) }
+    ensures spent { IfErr result (λ fault. IsCounted fault (W.told wire.old) (D.outcomes desk.old) (D.outcomes desk.new) (D.room desk.new) events (W.log wire.new)) }
+    ensures failed { result ≡ Err ServeFault.WireFailed → Rose (W.faults wire.old) (W.faults wire.new) }
+    ensures steady { result ≢ Err ServeFault.WireFailed → W.faults wire.new ≡ W.faults wire.old }
+    ensures sends { W.send_faults wire.old ≤ W.send_faults wire.new }
+    ensures told { W.told wire.new ≡ W.told wire.old }
+    ensures manner { D.manner desk.new ≡ D.manner desk.old }
+    ensures fits { D.fits desk.new store.new }
+    ensures endures { Endures (D.manner desk.old) (D.within desk.old) (D.within desk.new) (D.exact desk.old) (D.exact desk.new) (S.told store.old) (S.told store.new) (S.logs store.old) (S.logs store.new)
+        (D.rooms desk.old) (D.rooms desk.new) (D.outcomes desk.old) (D.outcomes desk.new) (S.faults store.old) (S.faults store.new) }
+    ensures counted { D.room desk.new + length (D.outcomes desk.new) ≡ D.room desk.old + length (D.outcomes desk.old) }
+    ensures fewer { D.room desk.new ≤ D.room desk.old }
+{
+    let room = desk.left();
+    let mut taken = 0u64;
+    'events: while taken < events {
+        match take_event(alloc, desk, store, wire, lines, buf) {
+            Taken::More => {}
+            Taken::Ended => return Ok(()),
+            Taken::Failed => return Err(ServeFault::WireFailed),
+        }
+        taken += 1;
+        if desk.left() == 0 {
+            return Err(ServeFault::Spent {
+                requests: room,
+                events: taken,
+            });
+        }
+    }
+    Err(ServeFault::Spent {
+        requests: room - desk.left(),
+        events: taken,
+    })
+}
+
+/// Serves a wire until its end, until the desk has no room for more asks, or until so many events were taken.
+///
+/// Each request whose last byte lies in a piece is answered before a later byte is looked at. A failed send closes its
+/// connection alone.
+pub fn serve<S: Store, D: Desk<S>, W: Wire>(
+    alloc: Global,
+    desk: &mut D,
+    store: &mut S,
+    wire: &mut W,
+    pool: &mut Pool,
+    events: u64,
+) -> Result<(), ServeFault>
+    requires fits { D.fits desk.old store.old }
+    requires room { 1 ≤ D.room desk.old }
+    requires events { 1 ≤ events }
+    requires phrased { IsPhrased (D.manner desk.old) }
+    requires pool { IsFree pool.old }
+    requires log { IsTrue (W.told wire.old) → W.log wire.old ≡ [] }
+    ensures log { IsTrue (W.told wire.old) → Serves (D.manner desk.old) (D.rooms desk.old) (D.rooms desk.new) (D.room desk.old) (D.room desk.new) events (D.outcomes desk.old) (D.outcomes desk.new) (W.log wire.new) }
+
+    // Ok comes exactly at the end, and a fault only before it.
+    ensures ended { IsTrue (W.told wire.old) → OnOk result ((es : List Arrival) × (events_in (W.log wire.new) ≡ es ++ End ∷ []) × (length es < events)) }
+    ensures unended { IsTrue (W.told wire.old) → OnErr result (has_end (W.log wire.new) ≡ false) }
+    ensures room { OnOk result (0 < D.room desk.new) }
+    ensures spent { IfErr result (λ fault. IsCounted fault (W.told wire.old) (D.outcomes desk.old) (D.outcomes desk.new) (D.room desk.new) events (W.log wire.new)) }
+    ensures failed { result ≡ Err ServeFault.WireFailed → Rose (W.faults wire.old) (W.faults wire.new) }
+    ensures steady { result ≢ Err ServeFault.WireFailed → W.faults wire.new ≡ W.faults wire.old }
+    ensures sends { W.send_faults wire.old ≤ W.send_faults wire.new }
+    ensures told { W.told wire.new ≡ W.told wire.old }
+    ensures manner { D.manner desk.new ≡ D.manner desk.old }
+    ensures fits { D.fits desk.new store.new }
+    ensures endures { Endures (D.manner desk.old) (D.within desk.old) (D.within desk.new) (D.exact desk.old) (D.exact desk.new) (S.told store.old) (S.told store.new) (S.logs store.old) (S.logs store.new)
+        (D.rooms desk.old) (D.rooms desk.new) (D.outcomes desk.old) (D.outcomes desk.new) (S.faults store.old) (S.faults store.new) }
+    ensures counted { D.room desk.new + length (D.outcomes desk.new) ≡ D.room desk.old + length (D.outcomes desk.old) }
+    ensures fewer { D.room desk.new ≤ D.room desk.old }
+{
+    serve_lines(
+        alloc,
+        desk,
+        store,
+        wire,
+        &mut pool.lines,
+        &mut pool.buf,
+        events,
+    )
+}

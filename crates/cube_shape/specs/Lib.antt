@@ -1,0 +1,2 @@
+pub mod ShapeText
+pub mod Examples

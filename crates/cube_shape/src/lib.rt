@@ -1,0 +1,11 @@
+//! The public shape of a cube, as JSON.
+#![tactic(auto)]
+
+mod parts;
+#[cfg(test)]
+mod tests;
+mod whole;
+mod worked;
+
+pub use whole::shape_text;
+pub use worked::worked_shape;

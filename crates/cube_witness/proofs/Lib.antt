@@ -1,0 +1,17 @@
+pub mod Telling
+pub mod Moves
+pub mod Points
+pub mod Adding
+pub mod Files
+pub mod Twinning
+pub mod Spreads
+pub mod Asked
+pub mod Sharing
+pub mod Columns
+pub mod Written
+pub mod Marks
+pub mod Faultless
+pub mod Lined
+pub mod PlacedFacts
+pub mod Reread
+pub mod Carried

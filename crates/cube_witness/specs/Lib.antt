@@ -1,0 +1,9 @@
+pub mod Grounds
+pub mod Leaves
+pub mod WitnessText
+pub mod TwinFile
+pub mod Shares
+pub mod Twinned
+pub mod Examples
+pub mod Laws
+pub mod Rereading
