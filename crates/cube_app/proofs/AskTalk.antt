@@ -1,5 +1,5 @@
 -- A talk by asks is the talk of a desk.
-use Rattle.std.proofs.Common.{◌≡◌, ◌≢◌, ◌≤◌, ℕ, ◌+◌, true, false, List, [], ◌++◌, length, refl, sym, ap, ◌∙◌, append-nil, arith, inl, inr, ◌==◌}
+use Rattle.std.proofs.Common.{◌≡◌, ◌≢◌, ◌≤◌, ◌<◌, ℕ, ◌+◌, true, false, List, [], ◌∷◌, ◌++◌, length, refl, sym, ap, ◌∙◌, append-nil, arith, inl, inr, ◌==◌}
 use Rattle.std.specs.declared.option.Option.{Option}
 use Rattle.std.specs.Str.Lines.{lines}
 use Rattle.std.proofs.lemmas.Bool.Decides.{nat_tests}
@@ -7,8 +7,8 @@ use Rattle.cube_model.specs.declared.outcome.Outcome.{Outcome}
 use Rattle.cube_model.specs.Rooms.{Room}
 use Rattle.cube_io.specs.Desks.{Manner}
 use Rattle.cube_io.proofs.Told.{appends_same}
-use Rattle.cube_app.specs.AskLaws.{asks_append, said_append, up_to_over}
-use Rattle.cube_app.specs.Asks.{asks_in, up_to_asks, said, rooms_behind, talk, Answers, Says}
+use Rattle.cube_app.specs.AskLaws.{asks_long, said_long, rooms_long, asks_append, said_append, up_to_over, within_one}
+use Rattle.cube_app.specs.Asks.{is_too_long, too_large, asks_in, up_to_asks, said, rooms_behind, talk, Answers, Says}
 use Rattle.cube_app.specs.Lines.{ended_lines}
 use Rattle.cube_app.specs.Talk.{Puts, Goes}
 use Rattle.cube_app.specs.declared.talk.Ending.{Ending}
@@ -18,20 +18,41 @@ use Rattle.cube_app.proofs.Spoken.{broken_before}
 no_room : (room : ℕ) → (room == 0) ≡ true → room ≡ 0
 no_room room e = grind (arith, nat_tests)
 
-some_room : (room : ℕ) → (room == 0) ≡ false → 1 ≤ room
+pub some_room : (room : ℕ) → (room == 0) ≡ false → 1 ≤ room
 some_room room e = grind (arith, nat_tests)
 
 none_left : (ls : List (List ℕ)) → up_to_asks 0 ls ≡ []
 none_left ls = refl
 
+-- a line that is too long is no ask
+pub too_long_said : (m : Manner) (rooms : List Room) (os : List Outcome) (room faults : ℕ) (line : List ℕ) → 65536 < length line → 1 ≤ room → Answers m m rooms rooms os os room room faults faults (line ∷ []) too_large
+too_long_said m rooms os room faults line h some =
+    let l : is_too_long line ≡ true = grind (arith, nat_tests) in
+    record {
+      manner = refl;
+      added = [];
+      outcomes_are = sym (append-nil os);
+      matched = sym (asks_long line [] l);
+      rooms_are = sym (rooms_long m rooms line [] [] l);
+      text_is = sym (append-nil too_large) ∙ sym (said_long m rooms line [] [] l);
+      room_left = rw (asks_long line [] l) (omega arith);
+      within = within_one room line some;
+      later = omega arith;
+      calm = λ e. tt;
+    }
+
+pub too_long_adds : (m : Manner) (rooms : List Room) (os : List Outcome) (room faults : ℕ) (line : List ℕ) (h : 65536 < length line) (some : 1 ≤ room) → (too_long_said m rooms os room faults line h some).added ≡ []
+unfolding too_long_said
+too_long_adds m rooms os room faults line h some = refl
+
 -- all the lines were answered
-said_all : {S : Type 0} (m m' : Manner) (rooms rooms' : List Room) (os : List Outcome) (stated room : ℕ) (s t : S) (first ls : List (List ℕ)) (text : List ℕ) → first ≡ ls → Answers m m' rooms rooms' [] os stated room s t first text
+said_all : (m m' : Manner) (rooms rooms' : List Room) (os : List Outcome) (stated room s t : ℕ) (first ls : List (List ℕ)) (text : List ℕ) → first ≡ ls → Answers m m' rooms rooms' [] os stated room s t first text
     → text ≡ talk m rooms ls os stated
 said_all m m' rooms rooms' os stated room s t first ls text is a =
     a.text_is ∙ ap (λ (l : List (List ℕ)). said m rooms l a.added) (sym a.within ∙ ap (up_to_asks stated) is) ∙ ap (λ (o : List Outcome). said m rooms (up_to_asks stated ls) o) (sym a.outcomes_are)
 
 -- the first of the lines were answered
-said_first : {S : Type 0} (m m' : Manner) (rooms rooms' : List Room) (os : List Outcome) (stated room : ℕ) (s t : S) (first more ls : List (List ℕ)) (text : List ℕ) → ls ≡ first ++ more → (a : Answers m m' rooms rooms' [] os stated room s t first text)
+said_first : (m m' : Manner) (rooms rooms' : List Room) (os : List Outcome) (stated room s t : ℕ) (first more ls : List (List ℕ)) (text : List ℕ) → ls ≡ first ++ more → (a : Answers m m' rooms rooms' [] os stated room s t first text)
     → talk m rooms ls os stated ≡ text ++ said m (rooms_behind m rooms first a.added) (up_to_asks room more) []
 said_first m m' rooms rooms' os stated room s t first more ls text is a =
     ap (λ (l : List (List ℕ)). said m rooms (up_to_asks stated l) os) is
@@ -40,11 +61,11 @@ said_first m m' rooms rooms' os stated room s t first more ls text is a =
     ∙ said_append m first (up_to_asks room more) [] rooms a.added a.matched
     ∙ ap (λ (l : List ℕ). l ++ said m (rooms_behind m rooms first a.added) (up_to_asks room more) []) (sym a.text_is)
 
-many : {S : Type 0} (m m' : Manner) (rooms rooms' : List Room) (os : List Outcome) (stated room : ℕ) (s t : S) (first : List (List ℕ)) (text : List ℕ) → Answers m m' rooms rooms' [] os stated room s t first text → length os ≡ asks_in first
+many : (m m' : Manner) (rooms rooms' : List Room) (os : List Outcome) (stated room s t : ℕ) (first : List (List ℕ)) (text : List ℕ) → Answers m m' rooms rooms' [] os stated room s t first text → length os ≡ asks_in first
 many m m' rooms rooms' os stated room s t first text a = ap length a.outcomes_are ∙ a.matched
 
 -- what was written of the talk, by how it ended
-pub said_of : {S : Type 0} (ending : Ending) (m m' : Manner) (rooms rooms' : List Room) (os : List Outcome) (stated room : ℕ) (s t : S) (text spoken : List ℕ) (first more : List (List ℕ)) (w w' : Option (List ℕ)) → ending ≢ NoMemory
+pub said_of : (ending : Ending) (m m' : Manner) (rooms rooms' : List Room) (os : List Outcome) (stated room s t : ℕ) (text spoken : List ℕ) (first more : List (List ℕ)) (w w' : Option (List ℕ)) → ending ≢ NoMemory
     → lines text ≡ first ++ more → Answers m m' rooms rooms' [] os stated room s t first spoken → Puts ending w w' spoken → Goes ending text first more (room == 0) → Says ending m rooms stated os text w w'
 said_of Ended m m' rooms rooms' os stated room s t text spoken first more w w' n split a put (none, going, short) =
     let all : first ≡ lines text = sym (split ∙ rw none (append-nil first)) in

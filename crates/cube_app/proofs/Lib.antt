@@ -1,7 +1,9 @@
 pub mod AskTalk
+pub mod AskCrash
 pub mod Commands
 pub mod Cuts
 pub mod Kept
+pub mod Opened
 pub mod Pieces
 pub mod Settled
 pub mod Speech
@@ -9,3 +11,5 @@ pub mod Spoken
 pub mod SumTalk
 pub mod Talks
 pub mod Given
+pub mod Worlds
+pub mod Lives

@@ -3,11 +3,12 @@ use Rattle.std.proofs.Common.{◌≡◌, ◌<◌, ◌≤◌, ℕ, zero, suc, ◌
 use Rattle.std.proofs.lemmas.Bool.Decides.{nat_tests}
 use Rattle.cube_model.specs.declared.outcome.Outcome.{Outcome}
 use Rattle.cube_model.specs.Rooms.{Room}
+use Rattle.cube_io.specs.Causes.{Rose}
 use Rattle.cube_io.specs.Desks.{Manner}
 use Rattle.cube_app.specs.Replies.{reply_text}
-use Rattle.cube_app.specs.Asks.{is_too_long, too_large, ask_of, asks_in, up_to_asks, said, rooms_behind, IsStill, NoneFailed, Answers}
+use Rattle.cube_app.specs.Asks.{is_too_long, too_large, ask_of, asks_in, up_to_asks, said, rooms_behind, NoneFailed, Answers}
 
-by_test : {P : Type 0} (b : Bool) → (b ≡ true → P) → (b ≡ false → P) → P
+pub by_test : {P : Type 0} (b : Bool) → (b ≡ true → P) → (b ≡ false → P) → P
 by_test true f g = f refl
 by_test false f g = g refl
 
@@ -92,14 +93,6 @@ rooms_append m (line ∷ rest) ys ps rooms os e = by_test (is_too_long line)
     ∙ ap (λ (r : List Room). rooms_behind m r ys ps) (sym (rooms_long m rooms line rest os t)))
     (λ f. rooms_append_one m rooms line rest ys os ps f e (rooms_append m rest ys ps))
 
--- where no ask changes the rooms, they are the same behind all lines
-pub rooms_still : (m : Manner) (rooms : List Room) (ls : List (List ℕ)) (os : List Outcome) → IsStill m rooms → rooms_behind m rooms ls os ≡ rooms
-rooms_still m rooms [] os s = refl
-rooms_still m rooms (line ∷ rest) [] s = by_test (is_too_long line) (λ t. rooms_long m rooms line rest [] t ∙ rooms_still m rooms rest [] s) (λ f. rw f refl)
-rooms_still m rooms (line ∷ rest) (o ∷ os) s = by_test (is_too_long line)
-    (λ t. rooms_long m rooms line rest (o ∷ os) t ∙ rooms_still m rooms rest (o ∷ os) s)
-    (λ f. rooms_one m rooms line rest o os f ∙ ap (λ (r : List Room). rooms_behind m r rest os) (s (ask_of line) o) ∙ rooms_still m rooms rest os s)
-
 up_to_none : (n : ℕ) → up_to_asks n [] ≡ []
 up_to_none zero = refl
 up_to_none (suc n) = refl
@@ -120,10 +113,17 @@ none_failed_append : (os ps : List Outcome) → NoneFailed os → NoneFailed ps 
 none_failed_append [] ps h k = k
 none_failed_append (o ∷ os) ps h k = (h.0, none_failed_append os ps h.1 k)
 
+-- a count that rose stays so
+rises_on : (a b c : ℕ) → Rose a b → b ≤ c → Rose a c
+rises_on a b c rose later = omega (arith, rose, later)
+
+rises_before : (a b c : ℕ) → a ≤ b → Rose b c → Rose a c
+rises_before a b c later rose = omega (arith, rose, later)
+
 -- ---- the laws
 
-pub none : {S : Type 0} (m : Manner) (rooms : List Room) (os : List Outcome) (room : ℕ) (s : S) → Answers m m rooms rooms os os room room s s [] []
-none m rooms os room s = record {
+pub none : (m : Manner) (rooms : List Room) (os : List Outcome) (room faults : ℕ) → Answers m m rooms rooms os os room room faults faults [] []
+none m rooms os room faults = record {
   manner = refl;
   added = [];
   outcomes_are = sym (append-nil os);
@@ -132,16 +132,14 @@ none m rooms os room s = record {
   text_is = refl;
   room_left = omega arith;
   within = up_to_none room;
-  still = λ h. (refl, tt);
+  later = omega arith;
+  calm = λ e. tt;
 }
 
-still_yet : (m m' : Manner) (rooms rooms' : List Room) → m' ≡ m → rooms' ≡ rooms → IsStill m rooms → IsStill m' rooms'
-still_yet m m' rooms rooms' e r s = rw (e, r) s
-
-pub onward : {S : Type 0} (m m' m'' : Manner) (rooms rooms' rooms'' : List Room) (os os' os'' : List Outcome) (room room' room'' : ℕ) (s s' s'' : S) (first more : List (List ℕ)) (text behind : List ℕ)
-    → Answers m m' rooms rooms' os os' room room' s s' first text → Answers m' m'' rooms' rooms'' os' os'' room' room'' s' s'' more behind
-    → Answers m m'' rooms rooms'' os os'' room room'' s s'' (first ++ more) (text ++ behind)
-onward m m' m'' rooms rooms' rooms'' os os' os'' room room' room'' s s' s'' first more text behind h k =
+pub onward : (m m' m'' : Manner) (rooms rooms' rooms'' : List Room) (os os' os'' : List Outcome) (room room' room'' faults faults' faults'' : ℕ) (first more : List (List ℕ)) (text behind : List ℕ)
+    → Answers m m' rooms rooms' os os' room room' faults faults' first text → Answers m' m'' rooms' rooms'' os' os'' room' room'' faults' faults'' more behind
+    → Answers m m'' rooms rooms'' os os'' room room'' faults faults'' (first ++ more) (text ++ behind)
+onward m m' m'' rooms rooms' rooms'' os os' os'' room room' room'' faults faults' faults'' first more text behind h k =
     let over : rooms_behind m' rooms' more k.added ≡ rooms_behind m (rooms_behind m rooms first h.added) more k.added =
     ap (λ (n : Manner). rooms_behind n rooms' more k.added) h.manner ∙ ap (λ (r : List Room). rooms_behind m r more k.added) h.rooms_are in
     let said_over : said m' rooms' more k.added ≡ said m (rooms_behind m rooms first h.added) more k.added =
@@ -155,13 +153,21 @@ onward m m' m'' rooms rooms' rooms'' os os' os'' room room' room'' s s' s'' firs
       text_is = ap (λ (l : List ℕ). l ++ behind) h.text_is ∙ ap (λ (l : List ℕ). said m rooms first h.added ++ l) (k.text_is ∙ said_over) ∙ sym (said_append m first more k.added rooms h.added h.matched);
       room_left = rw (asks_append first more) (omega (arith, h.room_left, k.room_left));
       within = up_to_over room room' first more h.within (sym h.room_left) ∙ ap (λ (l : List (List ℕ)). first ++ l) k.within;
-      still = λ e.
-          let one = h.still e in
-          let two = k.still (still_yet m m' rooms rooms' h.manner (h.rooms_are ∙ rooms_still m rooms first h.added e) e) in
-          (two.0 ∙ one.0, none_failed_append h.added k.added one.1 two.1);
+      later = omega (arith, h.later, k.later);
+      calm = λ none. none_failed_append h.added k.added (h.calm (λ rose. none (rises_on faults faults' faults'' rose k.later))) (k.calm (λ rose. none (rises_before faults faults' faults'' h.later rose)));
     }
 
-too_long : (line : List ℕ) → 65536 < length line → is_too_long line ≡ true
+pub none_adds : (m : Manner) (rooms : List Room) (os : List Outcome) (room faults : ℕ) → (none m rooms os room faults).added ≡ []
+unfolding none
+none_adds m rooms os room faults = refl
+
+pub onward_adds : (m m' m'' : Manner) (rooms rooms' rooms'' : List Room) (os os' os'' : List Outcome) (room room' room'' faults faults' faults'' : ℕ) (first more : List (List ℕ)) (text behind : List ℕ)
+    (h : Answers m m' rooms rooms' os os' room room' faults faults' first text) (k : Answers m' m'' rooms' rooms'' os' os'' room' room'' faults' faults'' more behind)
+    → (onward m m' m'' rooms rooms' rooms'' os os' os'' room room' room'' faults faults' faults'' first more text behind h k).added ≡ h.added ++ k.added
+unfolding onward
+onward_adds m m' m'' rooms rooms' rooms'' os os' os'' room room' room'' faults faults' faults'' first more text behind h k = refl
+
+pub too_long : (line : List ℕ) → 65536 < length line → is_too_long line ≡ true
 too_long line h = grind (arith, nat_tests)
 
 pub within_one : (room : ℕ) (line : List ℕ) → 1 ≤ room → up_to_asks room (line ∷ []) ≡ line ∷ []
@@ -172,9 +178,9 @@ has_room : (room : ℕ) (line : List ℕ) → up_to_asks room (line ∷ []) ≡ 
 has_room zero line e = cc
 has_room (suc n) line e = omega arith
 
-pub alike : {S : Type 0} (m m' : Manner) (rooms rooms' : List Room) (os os' : List Outcome) (room room' : ℕ) (s s' : S) (line other text : List ℕ) → 65536 < length line → 65536 < length other
-    → Answers m m' rooms rooms' os os' room room' s s' (line ∷ []) text → Answers m m' rooms rooms' os os' room room' s s' (other ∷ []) text
-alike m m' rooms rooms' os os' room room' s s' line other text h k a =
+pub alike : (m m' : Manner) (rooms rooms' : List Room) (os os' : List Outcome) (room room' faults faults' : ℕ) (line other text : List ℕ) → 65536 < length line → 65536 < length other
+    → Answers m m' rooms rooms' os os' room room' faults faults' (line ∷ []) text → Answers m m' rooms rooms' os os' room room' faults faults' (other ∷ []) text
+alike m m' rooms rooms' os os' room room' faults faults' line other text h k a =
     let l = too_long line h in
     let o = too_long other k in
     record {
@@ -186,5 +192,11 @@ alike m m' rooms rooms' os os' room room' s s' line other text h k a =
       text_is = a.text_is ∙ said_long m rooms line [] a.added l ∙ sym (said_long m rooms other [] a.added o);
       room_left = rw (asks_long other [] o) (rw (asks_long line [] l) at a.room_left);
       within = within_one room other (has_room room line a.within);
-      still = a.still;
+      later = a.later;
+      calm = a.calm;
     }
+
+pub alike_adds : (m m' : Manner) (rooms rooms' : List Room) (os os' : List Outcome) (room room' faults faults' : ℕ) (line other text : List ℕ) (h : 65536 < length line) (k : 65536 < length other)
+    (a : Answers m m' rooms rooms' os os' room room' faults faults' (line ∷ []) text) → (alike m m' rooms rooms' os os' room room' faults faults' line other text h k a).added ≡ a.added
+unfolding alike
+alike_adds m m' rooms rooms' os os' room room' faults faults' line other text h k a = refl

@@ -10,6 +10,7 @@ use Rattle.cube_model.specs.declared.outcome.Outcome.TheVariants as outcome
 use Rattle.cube_model.specs.declared.reply.Fixed.TheVariants.{TooLarge}
 use Rattle.cube_model.specs.declared.reply.Reply.TheVariants.{Fixed}
 use Rattle.cube_model.specs.Rooms.{Room}
+use Rattle.cube_io.specs.Causes.{Rose}
 use Rattle.cube_io.specs.Content.{AppendsPrefix}
 use Rattle.cube_io.specs.Desks.{Manner}
 use Rattle.cube_app.specs.Lines.{ended_lines}
@@ -68,18 +69,14 @@ talk m rooms ls os stated = said m rooms (up_to_asks stated ls) os
 
 -- ---- one who answers
 
--- no ask changes the rooms
-abbrev pub IsStill : Manner → List Room → Type 0
-IsStill m rooms = (ask : Ask) (o : Outcome) → m.next rooms ask o ≡ rooms
-
 -- the journal failed for none of the asks
 abbrev pub NoneFailed : List Outcome → Type 0
 NoneFailed [] = ⊤
 NoneFailed (o ∷ os) = (o ≢ outcome.JournalFault) × NoneFailed os
 
--- These lines were answered by this text, each ask with one outcome; all of them came while there was room. Where no ask changes the
--- rooms, the store was left alone.
-pub record Answers {S : Type 0} (m m' : Manner) (rooms rooms' : List Room) (outcomes outcomes' : List Outcome) (room room' : ℕ) (store store' : S) (ls : List (List ℕ)) (text : List ℕ) : Type 0 where
+-- These lines were answered by this text, each ask with one outcome; all of them came while there was room. The journal failed for
+-- some of them only where the store's count of faults rose.
+pub record Answers (m m' : Manner) (rooms rooms' : List Room) (outcomes outcomes' : List Outcome) (room room' faults faults' : ℕ) (ls : List (List ℕ)) (text : List ℕ) : Type 0 where
   pub manner : m' ≡ m
   pub added : List Outcome
   pub outcomes_are : outcomes' ≡ outcomes ++ added
@@ -88,7 +85,8 @@ pub record Answers {S : Type 0} (m m' : Manner) (rooms rooms' : List Room) (outc
   pub text_is : text ≡ said m rooms ls added
   pub room_left : room' + asks_in ls ≡ room
   pub within : up_to_asks room ls ≡ ls
-  pub still : IsStill m rooms → (store' ≡ store) × NoneFailed added
+  pub later : faults ≤ faults'
+  pub calm : ¬ Rose faults faults' → NoneFailed added
 
 -- ---- the whole
 
@@ -107,9 +105,14 @@ Says OutputFailed m rooms stated os text old new = AppendsPrefix old new (talk m
 Says NoMemory m rooms stated os text old new = ⊥
 Says Spent m rooms stated os text old new = IsSpent m rooms stated os text old new
 
--- Of the bytes that were taken of an input, the talk of a desk with these rooms and this room for asks was written.
+-- Of the bytes that were taken of an input, the talk of a desk with these rooms and this room for asks was written. The first of the
+-- lines were answered, and each ask among them has an outcome.
 pub record Talked (m : Manner) (rooms : List Room) (stated : ℕ) (ending : Ending) (os : List Outcome) (bytes : ℕ) (left left' written written' : Option (List ℕ)) : Type 0 where
   pub text : List ℕ
   pub taken : Consumes left left' text
   pub counted : bytes ≡ length text
+  pub first : List (List ℕ)
+  pub more : List (List ℕ)
+  pub split : lines text ≡ first ++ more
+  pub matched : length os ≡ asks_in first
   pub says : Says ending m rooms stated os text written written'

@@ -7,8 +7,12 @@ pub mod Sums
 pub mod SumLaws
 pub mod Asks
 pub mod AskLaws
+pub mod Crashes
+pub mod CrashLaws
 pub mod Examples
 pub mod Reports
 pub mod Opening
+pub mod Starting
 pub mod Summary
+pub mod Worlds
 pub mod Run

@@ -1,9 +1,10 @@
--- What the dimension file and the fact file of a command hold, read in turn.
+-- What the dimension file, the fact file and the policy file of a command hold, read in turn.
 use Rattle.std.specs.Prelude.{◌≡◌, ◌⊎◌, ℕ, nat_lt, List, [], ◌∷◌, ◌++◌, length, codes, if◌then◌else◌, IfSome, IsSomeAnd, IsOkAnd, IsOk, Result, Ok, Err, ℤ}
 use Rattle.std.specs.declared.option.Option.{Option}
 use Rattle.cube_model.specs.declared.shape.Shape.{Shape}
 use Rattle.cube_model.specs.Cores.{Core}
 use Rattle.cube_model.specs.Dims.{Dims}
+use Rattle.cube_model.specs.declared.policy.Policy.{Policy}
 use Rattle.cube_io.specs.Causes.{Rose}
 use Rattle.cube_io.specs.Files.{max_file, file_of}
 use Rattle.cube_dims.specs.DimsFile.{dims_of}
@@ -11,6 +12,8 @@ use Rattle.cube_dims.specs.Words as dims
 use Rattle.cube_facts.specs.FactFile.{filled_of}
 use Rattle.cube_facts.specs.Flat.{Flat, flat_of}
 use Rattle.cube_facts.specs.Words as facts
+use Rattle.cube_policy.specs.PolicyFile.{policy_of}
+use Rattle.cube_policy.specs.Words as policy
 use Rattle.cube_app.specs.Reports.{IsReport, NoRoom}
 use Rattle.cube_app.specs.declared.report.Report.{Report}
 
@@ -41,6 +44,9 @@ facts_said s bytes = unless_long (codes "facts") bytes (core_in s (faulted (λ f
 abbrev pub flat_said : List ℕ → Result Flat (List ℕ)
 flat_said bytes = unless_long (codes "facts") bytes (faulted (λ fault. fault_text (codes "facts") (facts.fault_words fault)) (flat_of bytes))
 
+abbrev pub policy_said : Dims → List ℕ → Result Policy (List ℕ)
+policy_said s bytes = unless_long (codes "policy") bytes (faulted (λ fault. fault_text (codes "policy") (policy.fault_words fault)) (policy_of s bytes))
+
 -- ---- one file
 
 -- the file of this name is there and says this
@@ -58,12 +64,15 @@ Unopened said name files before now r =
     ⊎ (IsReport 5 (unreadable_text name) r × Rose before now)
     ⊎ (IsReport 3 r.text r × IfSome files (λ known. Says said name known (Err r.text)))
 
+-- memory ran out, or the folder failed
+abbrev pub Failed : ℕ → ℕ → Report → Type 0
+Failed before now r = (r.status ≡ 7) ⊎ ((r.status ≡ 5) × Rose before now)
+
 -- the file's name was asked for; it may be lacking where memory ran out, or where the folder failed
 abbrev pub AsksOnce : List ℕ → Option (List (List ℕ)) → Option (List (List ℕ)) → ℕ → ℕ → Report → Type 0
-AsksOnce name old new before now r =
-    IfSome old (λ o. IsSomeAnd new (λ n. (n ≡ o ++ name ∷ []) ⊎ ((n ≡ o) × ((r.status ≡ 7) ⊎ ((r.status ≡ 5) × Rose before now)))))
+AsksOnce name old new before now r = IfSome old (λ o. IsSomeAnd new (λ n. (n ≡ o ++ name ∷ []) ⊎ ((n ≡ o) × Failed before now r)))
 
--- ---- both files
+-- ---- the dimension file and the fact file
 
 -- the dimension file and the fact file of these names are there and make this core
 abbrev pub Makes : List ℕ → List ℕ → Core → List (List ℕ × List ℕ) → Type 0
@@ -74,30 +83,52 @@ Makes dims_name facts_name core known =
 abbrev pub HasDims : List ℕ → List (List ℕ × List ℕ) → Type 0
 HasDims dims_name known = IsSomeAnd (file_of known dims_name) (λ bytes. IsOk (dims_said bytes))
 
--- one of the files is refused with this text, the fact file only where the dimension file is accepted
-abbrev pub Refuses : List ℕ → List ℕ → List ℕ → List (List ℕ × List ℕ) → Type 0
-Refuses dims_name facts_name text known =
-    Says dims_said dims_name known (Err text)
-    ⊎ IsSomeAnd (file_of known dims_name) (λ bytes. IsOkAnd (dims_said bytes) (λ s. Says (facts_said s) facts_name known (Err text)))
+-- the dimension file is accepted, and the fact file is refused with this text
+abbrev pub RefusesFacts : List ℕ → List ℕ → List ℕ → List (List ℕ × List ℕ) → Type 0
+RefusesFacts dims_name facts_name text known =
+    IsSomeAnd (file_of known dims_name) (λ bytes. IsOkAnd (dims_said bytes) (λ s. Says (facts_said s) facts_name known (Err text)))
 
--- how a run ends at the files
-abbrev pub EndsUnopened : List ℕ → List ℕ → Option (List (List ℕ × List ℕ)) → ℕ → ℕ → Report → Type 0
-EndsUnopened dims_name facts_name files before now r =
+-- how a run ends at these two files
+abbrev pub EndsTwo : List ℕ → List ℕ → Option (List (List ℕ × List ℕ)) → ℕ → ℕ → Report → Type 0
+EndsTwo dims_name facts_name files before now r =
     NoRoom r
     ⊎ IsReport 7 (codes "no memory\n") r
     ⊎ (IsReport 5 (unreadable_text dims_name) r × Rose before now)
     ⊎ (IsReport 5 (unreadable_text facts_name) r × Rose before now × IfSome files (HasDims dims_name))
-    ⊎ (IsReport 3 r.text r × IfSome files (Refuses dims_name facts_name r.text))
+    ⊎ (IsReport 3 r.text r × IfSome files (λ known. Says dims_said dims_name known (Err r.text)))
+    ⊎ (IsReport 3 r.text r × IfSome files (RefusesFacts dims_name facts_name r.text))
 
--- Both names were asked for, in turn. The second is lacking where the run ended at the first; and each may be lacking where memory
--- ran out, or where the folder failed.
-abbrev pub AsksBoth : List ℕ → List ℕ → Option (List (List ℕ × List ℕ)) → Option (List (List ℕ)) → Option (List (List ℕ)) → ℕ → ℕ → Report → Type 0
-AsksBoth dims_name facts_name files old new before now r =
-    IfSome old (λ o. IsSomeAnd new (λ n.
-    (n ≡ o ++ dims_name ∷ facts_name ∷ [])
-    ⊎ ((n ≡ o ++ dims_name ∷ []) × ((r.status ≡ 7) ⊎ ((r.status ≡ 5) × Rose before now) ⊎ ((r.status ≡ 3) × IfSome files (λ known. Says dims_said dims_name known (Err r.text)))))
-    ⊎ ((n ≡ o) × ((r.status ≡ 7) ⊎ ((r.status ≡ 5) × Rose before now)))))
+-- The names that were asked for where the run ended at these two files: up to that of the file that is refused, or that was to be
+-- read when memory ran out or the folder failed; there this name may be lacking.
+abbrev pub AsksTwo : List ℕ → List ℕ → Option (List (List ℕ × List ℕ)) → List (List ℕ) → List (List ℕ) → ℕ → ℕ → Report → Type 0
+AsksTwo dims_name facts_name files o n before now r =
+    ((n ≡ o) × Failed before now r)
+    ⊎ ((n ≡ o ++ dims_name ∷ []) × (Failed before now r ⊎ ((r.status ≡ 3) × IfSome files (λ known. Says dims_said dims_name known (Err r.text)))))
+    ⊎ ((n ≡ o ++ dims_name ∷ facts_name ∷ []) × (Failed before now r ⊎ ((r.status ≡ 3) × IfSome files (RefusesFacts dims_name facts_name r.text))))
 
--- both files are there and are accepted
-abbrev pub HasBoth : List ℕ → List ℕ → Option (List (List ℕ × List ℕ)) → Type 0
-HasBoth dims_name facts_name files = IsSomeAnd files (λ known. IsSomeAnd (file_of known dims_name) (λ bytes. IsOkAnd (dims_said bytes) (λ s. IsSomeAnd (file_of known facts_name) (λ more. IsOk (facts_said s more)))))
+-- ---- all three files
+
+-- the files of these names are there and make this core and this policy
+abbrev pub MakesAll : List ℕ → List ℕ → List ℕ → Core → Policy → List (List ℕ × List ℕ) → Type 0
+MakesAll dims_name facts_name policy_name core policy known = Makes dims_name facts_name core known × Says (policy_said core.dims) policy_name known (Ok policy)
+
+-- the dimension file and the fact file make a core, and the policy file is refused with this text
+abbrev pub RefusesPolicy : List ℕ → List ℕ → List ℕ → List ℕ → List (List ℕ × List ℕ) → Type 0
+RefusesPolicy dims_name facts_name policy_name text known = (core : Core) × (Makes dims_name facts_name core known × Says (policy_said core.dims) policy_name known (Err text))
+
+-- how a run ends at the files
+abbrev pub EndsUnopened : List ℕ → List ℕ → List ℕ → Option (List (List ℕ × List ℕ)) → ℕ → ℕ → Report → Type 0
+EndsUnopened dims_name facts_name policy_name files before now r =
+    EndsTwo dims_name facts_name files before now r
+    ⊎ (IsReport 5 (unreadable_text policy_name) r × Rose before now × IfSome files (λ known. (core : Core) × Makes dims_name facts_name core known))
+    ⊎ (IsReport 3 r.text r × IfSome files (RefusesPolicy dims_name facts_name policy_name r.text))
+
+-- All three names were asked for, in turn; where the run ended at a file, none behind it. The last may be lacking where memory ran
+-- out, or where the folder failed.
+abbrev pub AsksAll : List ℕ → List ℕ → List ℕ → Option (List (List ℕ × List ℕ)) → Option (List (List ℕ)) → Option (List (List ℕ)) → ℕ → ℕ → Report → Type 0
+AsksAll dims_name facts_name policy_name files old new before now r =
+    IfSome old (λ o. IsSomeAnd new (λ n. (n ≡ o ++ dims_name ∷ facts_name ∷ policy_name ∷ []) ⊎ AsksTwo dims_name facts_name files o n before now r))
+
+-- the files are there and are accepted
+abbrev pub HasAll : List ℕ → List ℕ → List ℕ → Option (List (List ℕ × List ℕ)) → Type 0
+HasAll dims_name facts_name policy_name files = IsSomeAnd files (λ known. (core : Core) × ((policy : Policy) × MakesAll dims_name facts_name policy_name core policy known))

@@ -1,23 +1,31 @@
 -- What a run of the program does.
-use Rattle.std.specs.Prelude.{◌≡◌, ◌⊎◌, ℕ, List, [], ◌++◌, codes, decimal, length, slice_index_or, unwrap_or, IfSome, IsSomeAnd, IsOk, Ok}
+use Rattle.std.specs.Prelude.{◌≡◌, ◌⊎◌, ℕ, Bool, IsTrue, List, [], ◌++◌, codes, decimal, length, slice_index_or, unwrap_or, IfSome, IsSomeAnd, IsOk, Ok}
 use Rattle.std.specs.declared.option.Option.{Option}
 use Rattle.cube_io.specs.Files.{file_of}
-use Rattle.cube_model.specs.Cores.{Core, world}
+use Rattle.cube_model.specs.Cores.{Core, shown, world}
+use Rattle.cube_model.specs.Verdicts.{IsAdmissible}
+use Rattle.cube_model.specs.declared.entry.Entry.{Entry}
+use Rattle.cube_io.specs.Causes.{Rose}
+use Rattle.cube_io.specs.States.{Log}
+use Rattle.cube_engine.specs.Kept.{history_of}
 use Rattle.cube_model.specs.Rooms.{alone}
+use Rattle.cube_model.specs.declared.policy.Policy.{Policy}
 use Rattle.cube_facts.specs.Flat.{Flat}
-use Rattle.cube_app.specs.Opening.{flat_said, Says, Makes}
-use Rattle.cube_engine.specs.Open.{open_policy}
+use Rattle.cube_app.specs.Opening.{flat_said, Says, MakesAll}
 use Rattle.cube_engine.specs.Steps.{manner}
+use Rattle.cube_engine.specs.Worlds.{first_history}
 use Rattle.cube_app.specs.Asks as asks
 use Rattle.cube_app.specs.Asks.{NoneFailed}
 use Rattle.cube_app.specs.Reports.{IsReport, Prints}
+use Rattle.cube_app.specs.Starting.{Survived}
 use Rattle.cube_app.specs.Summary.{check_text}
 use Rattle.cube_app.specs.Sums.{Talked}
 use Rattle.cube_app.specs.Words.{option_word, value_of}
+use Rattle.cube_app.specs.Worlds.{Hides}
 use Rattle.cube_app.specs.declared.report.Report.{Report}
 use Rattle.cube_app.specs.declared.talk.Ending.{Ending}
 use Rattle.cube_app.specs.declared.talk.Ending.TheVariants.{Ended, InputFailed, OutputFailed, NoMemory, Spent}
-use Rattle.cube_app.specs.declared.words.Setting.TheVariants.{Dims, Facts}
+use Rattle.cube_app.specs.declared.words.Setting.TheVariants as setting
 use Rattle.cube_app.specs.declared.words.Usage.{Usage}
 use Rattle.cube_app.specs.declared.words.Usage.TheVariants.{NoCommand, Wrong, Missing}
 
@@ -29,7 +37,7 @@ usage_text words (Wrong number) = codes "usage: " ++ slice_index_or words number
 usage_text words (Missing option) = codes "usage: missing " ++ option_word option ++ codes "\n"
 
 abbrev pub help_text : List ℕ
-help_text = codes "cube sum --facts FILE                               answers each line of the input by a sum over the file\ncube check --dims FILE --facts FILE                 says what the files hold\ncube ask --dims FILE --facts FILE [--requests N]    answers each line of the input as a query\ncube --help                                         prints this text\ncube --version                                      prints the version\n"
+help_text = codes "cube sum --facts FILE                                             answers each line of the input by a sum over the file\ncube check --dims FILE --facts FILE --policy FILE                 says what the files hold\ncube ask --dims FILE --facts FILE --policy FILE --journal FILE [--requests N]    answers each line of the input as a query\ncube --help                                                       prints this text\ncube --version                                                    prints the version\n"
 
 abbrev pub version_text : List ℕ
 version_text = codes "cube 0.1.0\n"
@@ -37,10 +45,16 @@ version_text = codes "cube 0.1.0\n"
 -- ---- sums over a flat file
 
 abbrev pub facts_name : List (List ℕ) → List ℕ
-facts_name words = unwrap_or (value_of Facts words) []
+facts_name words = unwrap_or (value_of setting.Facts words) []
 
 abbrev pub dims_name : List (List ℕ) → List ℕ
-dims_name words = unwrap_or (value_of Dims words) []
+dims_name words = unwrap_or (value_of setting.Dims words) []
+
+abbrev pub policy_name : List (List ℕ) → List ℕ
+policy_name words = unwrap_or (value_of setting.Policy words) []
+
+abbrev pub journal_name : List (List ℕ) → List ℕ
+journal_name words = unwrap_or (value_of setting.Journal words) []
 
 abbrev pub status_of : Ending → ℕ
 status_of Ended = 0
@@ -71,28 +85,36 @@ pub record Answered (name : List ℕ) (files : Option (List (List ℕ × List �
 abbrev pub HasFlat : List ℕ → Option (List (List ℕ × List ℕ)) → Type 0
 HasFlat name files = IsSomeAnd files (λ known. IsSomeAnd (file_of known name) (λ bytes. IsOk (flat_said bytes)))
 
--- ---- the summary of a core
+-- ---- the summary of a core and a policy
 
 -- the summary was printed, unless memory ran out
-abbrev pub Summarizes : Core → Option (List ℕ) → Option (List ℕ) → Report → Type 0
-Summarizes core written written' r = Prints (check_text core) written written' r ⊎ (IsReport 7 (codes "no memory\n") r × (written' ≡ written))
+abbrev pub Summarizes : Core → Policy → Option (List ℕ) → Option (List ℕ) → Report → Type 0
+Summarizes core policy written written' r = Prints (check_text core policy) written written' r ⊎ (IsReport 7 (codes "no memory\n") r × (written' ≡ written))
 
--- the summary of the core that the two files make was printed
-pub record Checked (dims_name facts_name : List ℕ) (files : Option (List (List ℕ × List ℕ))) (written written' : Option (List ℕ)) (r : Report) : Type 0 where
+-- the summary of the core and the policy that the files make was printed
+pub record Checked (dims_name facts_name policy_name : List ℕ) (files : Option (List (List ℕ × List ℕ))) (written written' : Option (List ℕ)) (r : Report) : Type 0 where
   pub core : Core
-  pub files_make : IfSome files (Makes dims_name facts_name core)
-  pub printed : Summarizes core written written' r
+  pub policy : Policy
+  pub files_make : IfSome files (MakesAll dims_name facts_name policy_name core policy)
+  pub printed : Summarizes core policy written written' r
 
 -- ---- asks of a cube
 
--- The asks of the input were answered over the core that the two files make, under the policy that leaves each measure open; what
--- became of them is reported.
-pub record Asked (dims_name facts_name : List ℕ) (stated : ℕ) (files : Option (List (List ℕ × List ℕ))) (left left' written written' : Option (List ℕ)) (r : Report) : Type 0 where
+-- The asks of the input were answered over the core that the files make, under their policy, from the history on that the journal
+-- recovers; what became of them is reported. What was written tells nothing of a protected cell, and the log kept what was answered. The
+-- journal failed for some asks only where the store's count of faults rose.
+pub record Asked (dims_name facts_name policy_name : List ℕ) (stated : ℕ) (files : Option (List (List ℕ × List ℕ))) (told : Bool) (old new : Log) (before now : ℕ) (left left' written written' : Option (List ℕ)) (r : Report) : Type 0 where
   pub core : Core
+  pub policy : Policy
+  pub history : List Entry
   pub ending : Ending
   pub bytes : ℕ
-  pub files_make : IfSome files (Makes dims_name facts_name core)
+  pub files_make : IfSome files (MakesAll dims_name facts_name policy_name core policy)
+  pub recovered : IsTrue told → history_of core policy old.state.now ≡ Ok history
+  pub admissible : IsAdmissible (shown core policy) history
   pub status : r.status ≡ status_of ending
   pub text : r.text ≡ ending_text ending (length r.outcomes) bytes
-  pub talked : asks.Talked (manner core.dims) (alone (world core (open_policy core.dims)) []) stated ending r.outcomes bytes left left' written written'
-  pub none_failed : NoneFailed r.outcomes
+  pub talked : asks.Talked (manner core.dims) (alone (world core policy) history) stated ending r.outcomes bytes left left' written written'
+  pub two_worlds : Hides core policy history stated ending r.outcomes bytes left left' written written'
+  pub survived : IsTrue told → Survived core policy history (first_history (asks.rooms_behind (manner core.dims) (alone (world core policy) history) talked.first r.outcomes)) r.outcomes old new
+  pub none_failed : ¬ Rose before now → NoneFailed r.outcomes

@@ -7,7 +7,7 @@ use Rattle.cube_text.specs.Units.{is_digits}
 use Rattle.cube_app.specs.declared.words.Command.{Command}
 use Rattle.cube_app.specs.declared.words.Command.TheVariants.{Help, Version, Sum, Check, Ask}
 use Rattle.cube_app.specs.declared.words.Setting.{Setting}
-use Rattle.cube_app.specs.declared.words.Setting.TheVariants.{Dims, Facts, Requests}
+use Rattle.cube_app.specs.declared.words.Setting.TheVariants.{Dims, Facts, Policy, Journal, Requests}
 use Rattle.cube_app.specs.declared.words.Usage.{Usage}
 use Rattle.cube_app.specs.declared.words.Usage.TheVariants.{NoCommand, Wrong, Missing}
 
@@ -21,6 +21,8 @@ command_word Ask = codes "ask"
 abbrev pub option_word : Setting → List ℕ
 option_word Dims = codes "--dims"
 option_word Facts = codes "--facts"
+option_word Policy = codes "--policy"
+option_word Journal = codes "--journal"
 option_word Requests = codes "--requests"
 
 abbrev pub commands : List Command
@@ -31,16 +33,16 @@ abbrev pub needed : Command → List Setting
 needed Help = []
 needed Version = []
 needed Sum = Facts ∷ []
-needed Check = Dims ∷ Facts ∷ []
-needed Ask = Dims ∷ Facts ∷ []
+needed Check = Dims ∷ Facts ∷ Policy ∷ []
+needed Ask = Dims ∷ Facts ∷ Policy ∷ Journal ∷ []
 
 -- the options that it may have
 abbrev pub allowed : Command → List Setting
 allowed Help = []
 allowed Version = []
 allowed Sum = Facts ∷ []
-allowed Check = Dims ∷ Facts ∷ []
-allowed Ask = Dims ∷ Facts ∷ Requests ∷ []
+allowed Check = Dims ∷ Facts ∷ Policy ∷ []
+allowed Ask = Dims ∷ Facts ∷ Policy ∷ Journal ∷ Requests ∷ []
 
 -- the command of a word
 abbrev pub command_of : List ℕ → Option Command

@@ -1,9 +1,10 @@
 // The lines of `ask`, each of which a desk answers.
 ghost use Rattle.std.specs.Prelude.{◌≡◌, ◌≢◌, ◌==◌, ◌≤◌, ◌∷◌, [], true, false, length};
 ghost use Rattle.cube_io.specs.Causes.{Rose};
-ghost use Rattle.cube_app.specs.Asks.{Answers, Talked, IsStill, NoneFailed};
+ghost use Rattle.cube_app.specs.Asks.{Talked, NoneFailed, rooms_behind};
+ghost use Rattle.cube_app.specs.Crashes.{Serves, Survives};
 ghost use Rattle.cube_app.specs.Replies.{reply_text};
-ghost use Rattle.cube_app.specs.AskLaws.{none, onward, alike};
+ghost use Rattle.cube_app.specs.CrashLaws.{serves_none, serves_onward, serves_alike};
 
 use crate::carry::Carry;
 use crate::replies::Said;
@@ -25,7 +26,8 @@ fn ask<S: Store, D: Desk<S>>(alloc: Global, desk: &mut D, store: &mut S, line: &
     requires short { length line.now ≤ 65536 }
     requires room { 1 ≤ D.room desk.old }
     requires fits { D.fits desk.old store.old }
-    ensures answers { Answers (D.manner desk.old) (D.manner desk.new) (D.rooms desk.old) (D.rooms desk.new) (D.outcomes desk.old) (D.outcomes desk.new) (D.room desk.old) (D.room desk.new) store.old store.new (line.now ∷ []) (reply_text result) }
+    ensures serves { Serves (D.manner desk.old) (D.manner desk.new) (D.rooms desk.old) (D.rooms desk.new) (D.outcomes desk.old) (D.outcomes desk.new) (D.room desk.old) (D.room desk.new) (S.faults store.old) (S.faults store.new)
+        (D.exact desk.old) (D.exact desk.new) (D.within desk.old) (D.within desk.new) (S.told store.old) (S.told store.new) (S.names store.old) (S.names store.new) (S.logs store.old) (S.logs store.new) (line.now ∷ []) (reply_text result) }
     ensures fits { D.fits desk.new store.new }
 {
     match Text::from_bytes(alloc, line) {
@@ -38,7 +40,8 @@ fn ask<S: Store, D: Desk<S>>(alloc: Global, desk: &mut D, store: &mut S, line: &
 }
 
 impl<S: Store, D: Desk<S> + Drop> Responder<S> for Asks<D> {
-    ghost says = { λ x s ls y t text. Answers (D.manner x.desk) (D.manner y.desk) (D.rooms x.desk) (D.rooms y.desk) (D.outcomes x.desk) (D.outcomes y.desk) (D.room x.desk) (D.room y.desk) s t ls text };
+    ghost says = { λ x s ls y t text. Serves (D.manner x.desk) (D.manner y.desk) (D.rooms x.desk) (D.rooms y.desk) (D.outcomes x.desk) (D.outcomes y.desk) (D.room x.desk) (D.room y.desk) (S.faults s) (S.faults t)
+        (D.exact x.desk) (D.exact y.desk) (D.within x.desk) (D.within y.desk) (S.told s) (S.told t) (S.names s) (S.names t) (S.logs s) (S.logs t) ls text };
 
     ghost stands = { λ x s. D.fits x.desk s };
 
@@ -46,12 +49,14 @@ impl<S: Store, D: Desk<S> + Drop> Responder<S> for Asks<D> {
 
     ghost lacks = { false };
 
-    ghost silent = { λ x s. none (D.manner x.desk) (D.rooms x.desk) (D.outcomes x.desk) (D.room x.desk) s };
+    ghost silent = { λ x s. serves_none (D.manner x.desk) (D.rooms x.desk) (D.outcomes x.desk) (D.room x.desk) (S.faults s) (D.exact x.desk) (D.within x.desk) (S.told s) (S.names s) (S.logs s) };
 
-    ghost onward = { λ x y z s t u first more text behind. onward (D.manner x.desk) (D.manner y.desk) (D.manner z.desk) (D.rooms x.desk) (D.rooms y.desk) (D.rooms z.desk)
-        (D.outcomes x.desk) (D.outcomes y.desk) (D.outcomes z.desk) (D.room x.desk) (D.room y.desk) (D.room z.desk) s t u first more text behind };
+    ghost onward = { λ x y z s t u first more text behind. serves_onward (D.manner x.desk) (D.manner y.desk) (D.manner z.desk) (D.rooms x.desk) (D.rooms y.desk) (D.rooms z.desk)
+        (D.outcomes x.desk) (D.outcomes y.desk) (D.outcomes z.desk) (D.room x.desk) (D.room y.desk) (D.room z.desk) (S.faults s) (S.faults t) (S.faults u)
+        (D.exact x.desk) (D.exact y.desk) (D.exact z.desk) (D.within x.desk) (D.within y.desk) (D.within z.desk) (S.told s) (S.told t) (S.told u) (S.names s) (S.names t) (S.names u) (S.logs s) (S.logs t) (S.logs u) first more text behind };
 
-    ghost alike = { λ x y s t line other text. alike (D.manner x.desk) (D.manner y.desk) (D.rooms x.desk) (D.rooms y.desk) (D.outcomes x.desk) (D.outcomes y.desk) (D.room x.desk) (D.room y.desk) s t line other text };
+    ghost alike = { λ x y s t line other text. serves_alike (D.manner x.desk) (D.manner y.desk) (D.rooms x.desk) (D.rooms y.desk) (D.outcomes x.desk) (D.outcomes y.desk) (D.room x.desk) (D.room y.desk) (S.faults s) (S.faults t)
+        (D.exact x.desk) (D.exact y.desk) (D.within x.desk) (D.within y.desk) (S.told s) (S.told t) (S.names s) (S.names t) (S.logs s) (S.logs t) line other text };
 
     fn answer(&mut self, alloc: Global, store: &mut S, line: &[u8]) -> Result<Said, NoMemory> {
         if line.len() > MAX_LINE {
@@ -79,8 +84,12 @@ pub fn converse_by_asks<S: Store, D: Desk<S> + Drop, I: Source, O: Sink>(
     requires fits { D.fits desk store.old }
     requires room { 1 ≤ D.room desk }
     requires fresh { D.outcomes desk ≡ [] }
-    ensures talked { Talked (D.manner desk) (D.rooms desk) (D.room desk) result.0.ending (D.outcomes result.1) result.0.bytes (I.left input.old) (I.left input.new) (O.written out.old) (O.written out.new) }
-    ensures still { IsStill (D.manner desk) (D.rooms desk) → (store.new ≡ store.old) × NoneFailed (D.outcomes result.1) }
+    ensures talked { (t : Talked (D.manner desk) (D.rooms desk) (D.room desk) result.0.ending (D.outcomes result.1) result.0.bytes (I.left input.old) (I.left input.new) (O.written out.old) (O.written out.new))
+        × (D.rooms result.1 ≡ rooms_behind (D.manner desk) (D.rooms desk) t.first (D.outcomes result.1))
+        × Survives (D.manner desk) (D.rooms desk) (D.rooms result.1) (D.outcomes result.1) (D.exact desk) (D.exact result.1) (D.within desk) (D.within result.1)
+        (S.told store.old) (S.told store.new) (S.names store.old) (S.names store.new) (S.logs store.old) (S.logs store.new) t.first }
+    ensures later { S.faults store.old ≤ S.faults store.new }
+    ensures calm { ¬ Rose (S.faults store.old) (S.faults store.new) → NoneFailed (D.outcomes result.1) }
     ensures memory { result.0.ending ≢ Ending.NoMemory }
     ensures ended { result.0.ending ≡ Ending.Ended → I.ended input.new ≡ true }
     ensures input { result.0.ending ≡ Ending.InputFailed → Rose (I.faults input.old) (I.faults input.new) }

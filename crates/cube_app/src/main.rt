@@ -8,6 +8,7 @@ mod replies;
 mod report;
 mod responder;
 mod run;
+mod starting;
 mod summary;
 mod sums;
 mod talk;
@@ -15,8 +16,8 @@ mod talk;
 mod tests;
 mod words;
 
-use cube_edge::{FileFolder, ReaderSource, WriterSink};
-use cube_io::{NullStore, NullWire};
+use cube_edge::{FileFolder, FileStore, ReaderSource, WriterSink};
+use cube_io::NullWire;
 use cube_model::{Items, Text, Texts};
 use run::run;
 use std::env::{Env, FillError};
@@ -49,7 +50,9 @@ fn main(rt: HostRuntime) -> ExitCode {
         return ExitCode::from(7);
     };
     let mut files = FileFolder::new(&rt);
-    let mut store = NullStore::new();
+    let Ok(mut store) = FileStore::new(rt.alloc(), &rt) else {
+        return ExitCode::from(7);
+    };
     let mut input = ReaderSource::new(rt.reader());
     let mut out = WriterSink::new(io::writer(&rt));
     let mut wire = NullWire;

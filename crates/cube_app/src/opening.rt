@@ -6,15 +6,19 @@ ghost use Rattle.cube_dims.specs.Words as dims_words;
 ghost use Rattle.cube_dims.specs.declared.fault.DimsFault.TheVariants as dims_faults;
 ghost use Rattle.cube_facts.specs.Words as facts_words;
 ghost use Rattle.cube_facts.specs.declared.fault.FactsFault.TheVariants as facts_faults;
+ghost use Rattle.cube_policy.specs.Words as policy_words;
+ghost use Rattle.cube_policy.specs.declared.fault.PolicyFault.TheVariants as policy_faults;
+ghost use Rattle.cube_model.specs.Policies.{IsPolicy};
 ghost use Rattle.cube_app.specs.Reports.{IsReport, NoRoom};
-ghost use Rattle.cube_app.specs.Opening.{fault_text, unreadable_text as unreadable_words, dims_said, facts_said, flat_said, Says, Unopened, AsksOnce, Makes, HasDims, EndsUnopened, AsksBoth};
+ghost use Rattle.cube_app.specs.Opening.{fault_text, unreadable_text as unreadable_words, dims_said, facts_said, policy_said, flat_said, Says, Unopened, AsksOnce, Makes, MakesAll, HasDims, EndsTwo, AsksTwo, EndsUnopened, AsksAll};
 
 use crate::report::{Report, Room, no_room, with_text};
 use cube_core::Core;
 use cube_dims::{DimsFault, read_dims};
 use cube_facts::{FactsFault, Flat, read_facts, read_flat};
 use cube_io::{FileFault, Folder};
-use cube_model::{Dims, NoMemory, Text};
+use cube_model::{Dims, NoMemory, Policy, Text};
+use cube_policy::{PolicyFault, read_policy};
 use std::alloc::Global;
 
 fn unreadable_text(alloc: Global, name: &Text) -> Result<Text, NoMemory>
@@ -33,6 +37,15 @@ pub struct Opened<T> {
     pub room: Room,
     /// What the file holds.
     pub value: T,
+}
+
+/// A core, and the policy over it.
+#[derive(Drop)]
+pub struct Guarded {
+    /// The core.
+    pub core: Core,
+    /// How each measure is controlled, and what is protected.
+    pub policy: Policy,
 }
 
 // Reads the bytes of a file of a kind, as `dims`.
@@ -110,6 +123,20 @@ fn refuse_facts(alloc: Global, room: Room, fault: FactsFault) -> Report
         FactsFault::NoMemory => room.with(b"no memory\n").close(alloc, 7),
         other => match cube_facts::fault_text(alloc, &other) {
             Ok(words) => refuse(alloc, b"facts", &words),
+            Err(_) => no_room(alloc),
+        },
+    }
+}
+
+// The report on a fault of a policy file.
+fn refuse_policy(alloc: Global, room: Room, fault: PolicyFault) -> Report
+    requires { room ≡ [] }
+    ensures { NoRoom result ⊎ IsReport 7 (codes "no memory\n") result ⊎ ((fault ≢ policy_faults.NoMemory) × IsReport 3 (fault_text (codes "policy") (policy_words.fault_words fault)) result) }
+{
+    match fault {
+        PolicyFault::NoMemory => room.with(b"no memory\n").close(alloc, 7),
+        other => match cube_policy::fault_text(alloc, &other) {
+            Ok(words) => refuse(alloc, b"policy", &words),
             Err(_) => no_room(alloc),
         },
     }
@@ -213,8 +240,8 @@ pub fn open_flat<F: Folder>(
     }
 }
 
-/// Reads the dimension file and then the fact file.
-pub fn open_core<F: Folder>(
+// Reads the dimension file and then the fact file.
+fn open_core<F: Folder>(
     alloc: Global,
     room: Room,
     dims_name: &Text,
@@ -223,9 +250,9 @@ pub fn open_core<F: Folder>(
 ) -> Result<Opened<Core>, Report>
     requires { room ≡ [] }
     ensures ok { IfOk result (λ opened. (opened.room ≡ []) × IfSome (F.files files.old) (Makes dims_name.now facts_name.now opened.value)) }
-    ensures err { IfErr result (λ r. EndsUnopened dims_name.now facts_name.now (F.files files.old) (F.faults files.old) (F.faults files.new) r) }
+    ensures err { IfErr result (λ r. EndsTwo dims_name.now facts_name.now (F.files files.old) (F.faults files.old) (F.faults files.new) r) }
     ensures asks_ok { OnOk result (IfSome (F.asked files.old) (λ o. IsSomeAnd (F.asked files.new) (λ n. n ≡ o ++ dims_name.now ∷ facts_name.now ∷ []))) }
-    ensures asks_err { IfErr result (λ r. AsksBoth dims_name.now facts_name.now (F.files files.old) (F.asked files.old) (F.asked files.new) (F.faults files.old) (F.faults files.new) r) }
+    ensures asks_err { IfErr result (λ r. IfSome (F.asked files.old) (λ o. IsSomeAnd (F.asked files.new) (λ n. AsksTwo dims_name.now facts_name.now (F.files files.old) o n (F.faults files.old) (F.faults files.new) r))) }
     ensures files { F.files files.new ≡ F.files files.old }
     ensures steady { OnOk result (F.faults files.new ≡ F.faults files.old) }
     ensures steady_err { IfErr result (λ r. r.status ≢ 5 → F.faults files.new ≡ F.faults files.old) }
@@ -235,4 +262,66 @@ pub fn open_core<F: Folder>(
         Err(report) => return Err(report),
     };
     open_facts(alloc, opened.room, facts_name, opened.value, files)
+}
+
+// Reads the policy file under dimensions and measures.
+fn open_policy<F: Folder>(
+    alloc: Global,
+    room: Room,
+    name: &Text,
+    dims: &Dims,
+    files: &mut F,
+) -> Result<Opened<Policy>, Report>
+    requires { room ≡ [] }
+    ensures ok { IfOk result (λ opened. (opened.room ≡ []) × IfSome (F.files files.old) (λ known. Says (policy_said dims.now) name.now known (Ok opened.value))) }
+    ensures rules { IfOk result (λ opened. IsPolicy dims.now opened.value) }
+    ensures err { IfErr result (λ r. Unopened (policy_said dims.now) name.now (F.files files.old) (F.faults files.old) (F.faults files.new) r) }
+    ensures asks_ok { OnOk result (IfSome (F.asked files.old) (λ o. IsSomeAnd (F.asked files.new) (λ n. n ≡ o ++ name.now ∷ []))) }
+    ensures asks_err { IfErr result (λ r. AsksOnce name.now (F.asked files.old) (F.asked files.new) (F.faults files.old) (F.faults files.new) r) }
+    ensures files { F.files files.new ≡ F.files files.old }
+    ensures steady { OnOk result (F.faults files.new ≡ F.faults files.old) }
+    ensures steady_err { IfErr result (λ r. r.status ≢ 5 → F.faults files.new ≡ F.faults files.old) }
+{
+    let opened = match read_bytes(alloc, room, b"policy", name, files) {
+        Ok(opened) => opened,
+        Err(report) => return Err(report),
+    };
+    match read_policy(alloc, dims, opened.value.as_slice()) {
+        Ok(value) => Ok(Opened {
+            room: opened.room,
+            value,
+        }),
+        Err(fault) => Err(refuse_policy(alloc, opened.room, fault)),
+    }
+}
+
+/// Reads the dimension file, the fact file and the policy file, in turn.
+pub fn open_guarded<F: Folder>(
+    alloc: Global,
+    room: Room,
+    dims_name: &Text,
+    facts_name: &Text,
+    policy_name: &Text,
+    files: &mut F,
+) -> Result<Opened<Guarded>, Report>
+    requires { room ≡ [] }
+    ensures ok { IfOk result (λ opened. (opened.room ≡ []) × IfSome (F.files files.old) (MakesAll dims_name.now facts_name.now policy_name.now opened.value.core opened.value.policy)) }
+    ensures rules { IfOk result (λ opened. IsPolicy opened.value.core.dims opened.value.policy) }
+    ensures err { IfErr result (λ r. EndsUnopened dims_name.now facts_name.now policy_name.now (F.files files.old) (F.faults files.old) (F.faults files.new) r) }
+    ensures asks_ok { OnOk result (IfSome (F.asked files.old) (λ o. IsSomeAnd (F.asked files.new) (λ n. n ≡ o ++ dims_name.now ∷ facts_name.now ∷ policy_name.now ∷ []))) }
+    ensures asks_err { IfErr result (λ r. AsksAll dims_name.now facts_name.now policy_name.now (F.files files.old) (F.asked files.old) (F.asked files.new) (F.faults files.old) (F.faults files.new) r) }
+    ensures files { F.files files.new ≡ F.files files.old }
+    ensures steady { OnOk result (F.faults files.new ≡ F.faults files.old) }
+    ensures steady_err { IfErr result (λ r. r.status ≢ 5 → F.faults files.new ≡ F.faults files.old) }
+{
+    let (room, core) = match open_core(alloc, room, dims_name, facts_name, files) {
+        Ok(opened) => (opened.room, opened.value),
+        Err(report) => return Err(report),
+    };
+    let (room, policy) = match open_policy(alloc, room, policy_name, core.dims(), files) {
+        Ok(opened) => (opened.room, opened.value),
+        Err(report) => return Err(report),
+    };
+    let value = Guarded { core, policy };
+    Ok(Opened { room, value })
 }

@@ -1,32 +1,29 @@
 // The top call: all that the program does.
-ghost use Rattle.std.specs.Prelude.{◌≡◌, ◌≢◌, ◌⊎◌, ◌≤◌, ◌++◌, [], true, length, decimal, codes, Some, IfErr, IsErr, IfOk, IsTrue, Ok};
+ghost use Rattle.std.specs.Prelude.{◌≡◌, ◌≢◌, ◌⊎◌, ◌≤◌, ◌+◌, ◌++◌, [], true, length, decimal, codes, Some, IfErr, IsErr, IfOk, IsTrue, Ok};
 ghost use Rattle.cube_io.specs.Causes.{Rose};
 ghost use Rattle.cube_app.specs.Words.{orders_of as orders_in, stated as stated_in};
-ghost use Rattle.cube_engine.specs.Engines.{rooms_of};
-ghost use Rattle.cube_engine.specs.Open.{open_policy};
-ghost use Rattle.cube_engine.specs.Steps.{manner};
-ghost use Rattle.cube_app.specs.Asks.{IsStill};
 ghost use Rattle.cube_app.specs.Reports.{IsReport, NoRoom, Prints};
-ghost use Rattle.cube_app.specs.Opening.{flat_said, Unopened, AsksOnce, EndsUnopened, AsksBoth, HasBoth};
-ghost use Rattle.cube_app.specs.Run.{usage_text as usage_words, help_text, version_text, dims_name, facts_name, status_of as status_in, ending_text, Answered, HasFlat, Checked, Asked};
+ghost use Rattle.cube_app.specs.Opening.{flat_said, Unopened, AsksOnce, EndsUnopened, AsksAll, HasAll};
+ghost use Rattle.cube_app.specs.Starting.{EndsUnstarted, AsksStore, HasJournal};
+ghost use Rattle.cube_app.specs.Run.{usage_text as usage_words, help_text, version_text, dims_name, facts_name, policy_name, journal_name, status_of as status_in, ending_text, Answered, HasFlat, Checked, Asked};
 ghost use Rattle.cube_app.specs.declared.words.Command.TheVariants as orders;
 
 use crate::asks::converse_by_asks;
 use crate::carry::Carry;
-use crate::opening::{open_core, open_flat};
+use crate::opening::{Guarded, open_flat, open_guarded};
 use crate::report::{Report, Room, no_room, with_text};
+use crate::starting::open_engine;
 use crate::summary::check_text;
 use crate::sums::converse_by_sums;
 use crate::talk::{Ending, TalkEnd};
 use crate::words::{Command, Setting, Usage, needed_value, orders_of, stated};
-use cube_core::Core;
-use cube_engine::{Engine, open_policy as make_open};
+use cube_engine::Engine;
 use cube_io::{Folder, Sink, Source, Store, Wire};
 use cube_model::{NoMemory, Text};
 use std::alloc::Global;
 
 const HELP: &[u8] =
-    b"cube sum --facts FILE                               answers each line of the input by a sum over the file\ncube check --dims FILE --facts FILE                 says what the files hold\ncube ask --dims FILE --facts FILE [--requests N]    answers each line of the input as a query\ncube --help                                         prints this text\ncube --version                                      prints the version\n";
+    b"cube sum --facts FILE                                             answers each line of the input by a sum over the file\ncube check --dims FILE --facts FILE --policy FILE                 says what the files hold\ncube ask --dims FILE --facts FILE --policy FILE --journal FILE [--requests N]    answers each line of the input as a query\ncube --help                                                       prints this text\ncube --version                                                    prints the version\n";
 
 const VERSION: &[u8] = b"cube 0.1.0\n";
 
@@ -152,44 +149,36 @@ fn sum<F: Folder, S: Store, I: Source, O: Sink>(
     report_talk(alloc, opened.room, end, lines)
 }
 
-// The summary of what a dimension file and a fact file hold.
+// The summary of what the files of a cube hold.
 fn check<F: Folder, O: Sink>(
     alloc: Global,
     room: Room,
     dims_name: &Text,
     facts_name: &Text,
+    policy_name: &Text,
     files: &mut F,
     out: &mut O,
 ) -> Report
     requires { room ≡ [] }
-    ensures checks { (EndsUnopened dims_name.now facts_name.now (F.files files.old) (F.faults files.old) (F.faults files.new) result × (out.new ≡ out.old))
-        ⊎ (Checked dims_name.now facts_name.now (F.files files.old) (O.written out.old) (O.written out.new) result × (F.faults files.new ≡ F.faults files.old)) }
-    ensures asks { AsksBoth dims_name.now facts_name.now (F.files files.old) (F.asked files.old) (F.asked files.new) (F.faults files.old) (F.faults files.new) result }
+    ensures checks { (EndsUnopened dims_name.now facts_name.now policy_name.now (F.files files.old) (F.faults files.old) (F.faults files.new) result × (out.new ≡ out.old))
+        ⊎ (Checked dims_name.now facts_name.now policy_name.now (F.files files.old) (O.written out.old) (O.written out.new) result × (F.faults files.new ≡ F.faults files.old)) }
+    ensures asks { AsksAll dims_name.now facts_name.now policy_name.now (F.files files.old) (F.asked files.old) (F.asked files.new) (F.faults files.old) (F.faults files.new) result }
     ensures unreadable { result.status ≡ 5 → Rose (F.faults files.old) (F.faults files.new) }
     ensures output { result.status ≡ 6 → Rose (O.faults out.old) (O.faults out.new) }
     ensures steady { result.status ≢ 5 → F.faults files.new ≡ F.faults files.old }
     ensures output_steady { result.status ≢ 6 → O.faults out.new ≡ O.faults out.old }
-    ensures complete { HasBoth dims_name.now facts_name.now (F.files files.old) → ¬ Rose (F.faults files.old) (F.faults files.new) → ¬ Rose (O.faults out.old) (O.faults out.new) → (result.status ≡ 0) ⊎ (result.status ≡ 7) }
+    ensures complete { HasAll dims_name.now facts_name.now policy_name.now (F.files files.old) → ¬ Rose (F.faults files.old) (F.faults files.new) → ¬ Rose (O.faults out.old) (O.faults out.new) → (result.status ≡ 0) ⊎ (result.status ≡ 7) }
     ensures words { result.status ≢ 2 }
     ensures outcomes { result.outcomes ≡ [] }
 {
-    let opened = match open_core(alloc, room, dims_name, facts_name, files) {
+    let opened = match open_guarded(alloc, room, dims_name, facts_name, policy_name, files) {
         Ok(opened) => opened,
         Err(report) => return report,
     };
-    match check_text(alloc, &opened.value) {
+    match check_text(alloc, &opened.value.core, &opened.value.policy) {
         Ok(text) => print(alloc, opened.room, text.as_slice(), out),
         Err(_) => opened.room.with(b"no memory\n").close(alloc, 7),
     }
-}
-
-// An engine over a core, under the policy that leaves each measure open.
-fn start_engine(alloc: Global, core: Core, stated: u64) -> Result<Engine, NoMemory>
-    ensures engine { IfOk result (λ engine. engine ≡ record { core = core; policy = open_policy core.dims; history = []; outcomes = []; left = stated }) }
-    ensures still { IfOk result (λ engine. IsStill (manner core.dims) (rooms_of engine)) }
-{
-    let policy = make_open(alloc, core.dims())?;
-    Engine::start(alloc, core, policy, stated)
 }
 
 fn report_asks(room: Room, end: TalkEnd, engine: Engine) -> Report
@@ -208,6 +197,8 @@ fn ask<F: Folder, S: Store, I: Source, O: Sink>(
     room: Room,
     dims_name: &Text,
     facts_name: &Text,
+    policy_name: &Text,
+    journal_name: &Text,
     stated: u64,
     files: &mut F,
     store: &mut S,
@@ -216,31 +207,47 @@ fn ask<F: Folder, S: Store, I: Source, O: Sink>(
 ) -> Report
     requires room { room ≡ [] }
     requires stated { 1 ≤ stated }
-    ensures answers { (EndsUnopened dims_name.now facts_name.now (F.files files.old) (F.faults files.old) (F.faults files.new) result × (input.new ≡ input.old) × (out.new ≡ out.old))
-        ⊎ (Asked dims_name.now facts_name.now stated (F.files files.old) (I.left input.old) (I.left input.new) (O.written out.old) (O.written out.new) result × (F.faults files.new ≡ F.faults files.old)) }
-    ensures asks { AsksBoth dims_name.now facts_name.now (F.files files.old) (F.asked files.old) (F.asked files.new) (F.faults files.old) (F.faults files.new) result }
+    ensures answers { (EndsUnopened dims_name.now facts_name.now policy_name.now (F.files files.old) (F.faults files.old) (F.faults files.new) result × (store.new ≡ store.old) × (input.new ≡ input.old) × (out.new ≡ out.old))
+        ⊎ (EndsUnstarted dims_name.now facts_name.now policy_name.now (F.files files.old) (S.told store.old) (S.logs store.old 0) (S.logs store.new 0) (S.faults store.old) (S.faults store.new) result × (F.faults files.new ≡ F.faults files.old) × (input.new ≡ input.old) × (out.new ≡ out.old))
+        ⊎ (Asked dims_name.now facts_name.now policy_name.now stated (F.files files.old) (S.told store.old) (S.logs store.old 0) (S.logs store.new 0) (S.faults store.old) (S.faults store.new) (I.left input.old) (I.left input.new) (O.written out.old) (O.written out.new) result × (F.faults files.new ≡ F.faults files.old)) }
+    ensures asks { AsksAll dims_name.now facts_name.now policy_name.now (F.files files.old) (F.asked files.old) (F.asked files.new) (F.faults files.old) (F.faults files.new) result }
+    ensures names { (store.new ≡ store.old) ⊎ AsksStore journal_name.now (S.told store.old) (S.names store.old) (S.names store.new) result }
+    ensures unkept { result.status ≡ 9 → Rose (S.faults store.old) (S.faults store.new) × (result.outcomes ≡ []) }
+    ensures calls { result.status ≡ 9 → IsTrue (S.told store.old) → S.calls store.new ≤ S.calls store.old + 7 }
+    ensures told { S.told store.new ≡ S.told store.old }
     ensures ended { result.status ≡ 0 → I.ended input.new ≡ true }
     ensures unreadable { result.status ≡ 5 → (Rose (F.faults files.old) (F.faults files.new) × (I.faults input.new ≡ I.faults input.old)) ⊎ (Rose (I.faults input.old) (I.faults input.new) × (F.faults files.new ≡ F.faults files.old)) }
     ensures output { result.status ≡ 6 → Rose (O.faults out.old) (O.faults out.new) }
     ensures memory { result.status ≡ 7 → (input.new ≡ input.old) × (out.new ≡ out.old) × (result.outcomes ≡ []) }
     ensures steady { result.status ≢ 5 → (F.faults files.new ≡ F.faults files.old) × (I.faults input.new ≡ I.faults input.old) }
     ensures output_steady { result.status ≢ 6 → O.faults out.new ≡ O.faults out.old }
-    ensures complete { HasBoth dims_name.now facts_name.now (F.files files.old) → result.status ≢ 10 → ¬ Rose (F.faults files.old) (F.faults files.new) → ¬ Rose (I.faults input.old) (I.faults input.new) → ¬ Rose (O.faults out.old) (O.faults out.new) → (result.status ≡ 0) ⊎ (result.status ≡ 7) }
+    ensures complete { HasAll dims_name.now facts_name.now policy_name.now (F.files files.old) → HasJournal dims_name.now facts_name.now policy_name.now (F.files files.old) (S.told store.old) (S.logs store.old 0).state.now → result.status ≢ 10
+        → ¬ Rose (F.faults files.old) (F.faults files.new) → (result.outcomes ≡ [] → ¬ Rose (S.faults store.old) (S.faults store.new)) → ¬ Rose (I.faults input.old) (I.faults input.new) → ¬ Rose (O.faults out.old) (O.faults out.new) → (result.status ≡ 0) ⊎ (result.status ≡ 7) }
     ensures words { result.status ≢ 2 }
-    ensures store { store.new ≡ store.old }
 {
-    let opened = match open_core(alloc, room, dims_name, facts_name, files) {
+    let opened = match open_guarded(alloc, room, dims_name, facts_name, policy_name, files) {
         Ok(opened) => opened,
         Err(report) => return report,
     };
-    let Ok(engine) = start_engine(alloc, opened.value, stated) else {
-        return opened.room.with(b"no memory\n").close(alloc, 7);
+    let Guarded { core, policy } = opened.value;
+    let _rules = core.dims();
+    let started = match open_engine(
+        alloc,
+        opened.room,
+        core,
+        policy,
+        journal_name,
+        stated,
+        store,
+    ) {
+        Ok(started) => started,
+        Err(report) => return report,
     };
     let Ok(carry) = Carry::new(alloc) else {
-        return opened.room.with(b"no memory\n").close(alloc, 7);
+        return started.room.with(b"no memory\n").close(alloc, 7);
     };
-    let (end, engine) = converse_by_asks(alloc, carry, engine, store, input, out);
-    report_asks(opened.room, end, engine)
+    let (end, engine) = converse_by_asks(alloc, carry, started.value, store, input, out);
+    report_asks(started.room, end, engine)
 }
 
 // Does what a command asks for.
@@ -266,21 +273,25 @@ fn obey<F: Folder, S: Store, I: Source, O: Sink>(
     ensures asks { command ≡ orders.Sum → AsksOnce (facts_name words.now) (F.asked files.old) (F.asked files.new) (F.faults files.old) (F.faults files.new) result }
     ensures ended { command ≡ orders.Sum → result.status ≡ 0 → I.ended input.new ≡ true }
 
-    // The summary of the two files is put on the sink, unless the run ended before.
-    ensures check { command ≡ orders.Check → (EndsUnopened (dims_name words.now) (facts_name words.now) (F.files files.old) (F.faults files.old) (F.faults files.new) result × (out.new ≡ out.old))
-        ⊎ (Checked (dims_name words.now) (facts_name words.now) (F.files files.old) (O.written out.old) (O.written out.new) result × (F.faults files.new ≡ F.faults files.old)) }
-    ensures asks_both { command ≡ orders.Check → AsksBoth (dims_name words.now) (facts_name words.now) (F.files files.old) (F.asked files.old) (F.asked files.new) (F.faults files.old) (F.faults files.new) result }
+    // The summary of the files is put on the sink, unless the run ended before.
+    ensures check { command ≡ orders.Check → (EndsUnopened (dims_name words.now) (facts_name words.now) (policy_name words.now) (F.files files.old) (F.faults files.old) (F.faults files.new) result × (out.new ≡ out.old))
+        ⊎ (Checked (dims_name words.now) (facts_name words.now) (policy_name words.now) (F.files files.old) (O.written out.old) (O.written out.new) result × (F.faults files.new ≡ F.faults files.old)) }
+    ensures asks_all { command ≡ orders.Check → AsksAll (dims_name words.now) (facts_name words.now) (policy_name words.now) (F.files files.old) (F.asked files.old) (F.asked files.new) (F.faults files.old) (F.faults files.new) result }
 
-    // The asks of the input are answered by the cube of the two files, unless the run ended before.
-    ensures ask { command ≡ orders.Ask → (EndsUnopened (dims_name words.now) (facts_name words.now) (F.files files.old) (F.faults files.old) (F.faults files.new) result × (input.new ≡ input.old) × (out.new ≡ out.old))
-        ⊎ (Asked (dims_name words.now) (facts_name words.now) (stated_in words.now) (F.files files.old) (I.left input.old) (I.left input.new) (O.written out.old) (O.written out.new) result × (F.faults files.new ≡ F.faults files.old)) }
-    ensures ask_asks { command ≡ orders.Ask → AsksBoth (dims_name words.now) (facts_name words.now) (F.files files.old) (F.asked files.old) (F.asked files.new) (F.faults files.old) (F.faults files.new) result }
+    // The asks of the input are answered by the cube of the files, unless the run ended before.
+    ensures ask { command ≡ orders.Ask → (EndsUnopened (dims_name words.now) (facts_name words.now) (policy_name words.now) (F.files files.old) (F.faults files.old) (F.faults files.new) result × (store.new ≡ store.old) × (input.new ≡ input.old) × (out.new ≡ out.old))
+        ⊎ (EndsUnstarted (dims_name words.now) (facts_name words.now) (policy_name words.now) (F.files files.old) (S.told store.old) (S.logs store.old 0) (S.logs store.new 0) (S.faults store.old) (S.faults store.new) result × (F.faults files.new ≡ F.faults files.old) × (input.new ≡ input.old) × (out.new ≡ out.old))
+        ⊎ (Asked (dims_name words.now) (facts_name words.now) (policy_name words.now) (stated_in words.now) (F.files files.old) (S.told store.old) (S.logs store.old 0) (S.logs store.new 0) (S.faults store.old) (S.faults store.new) (I.left input.old) (I.left input.new) (O.written out.old) (O.written out.new) result × (F.faults files.new ≡ F.faults files.old)) }
+    ensures ask_names { command ≡ orders.Ask → (store.new ≡ store.old) ⊎ AsksStore (journal_name words.now) (S.told store.old) (S.names store.old) (S.names store.new) result }
+    ensures ask_calls { command ≡ orders.Ask → result.status ≡ 9 → IsTrue (S.told store.old) → S.calls store.new ≤ S.calls store.old + 7 }
+    ensures ask_asks { command ≡ orders.Ask → AsksAll (dims_name words.now) (facts_name words.now) (policy_name words.now) (F.files files.old) (F.asked files.old) (F.asked files.new) (F.faults files.old) (F.faults files.new) result }
     ensures ask_ended { command ≡ orders.Ask → result.status ≡ 0 → I.ended input.new ≡ true }
     ensures ask_memory { command ≡ orders.Ask → result.status ≡ 7 → (input.new ≡ input.old) × (out.new ≡ out.old) × (result.outcomes ≡ []) }
 
     // A fault is answered only where it was counted in this call, and at most one count rises.
     ensures unreadable { result.status ≡ 5 → (Rose (F.faults files.old) (F.faults files.new) × (I.faults input.new ≡ I.faults input.old)) ⊎ (Rose (I.faults input.old) (I.faults input.new) × (F.faults files.new ≡ F.faults files.old)) }
     ensures output { result.status ≡ 6 → Rose (O.faults out.old) (O.faults out.new) }
+    ensures unkept { result.status ≡ 9 → Rose (S.faults store.old) (S.faults store.new) × (result.outcomes ≡ []) }
     ensures steady { result.status ≢ 5 → (F.faults files.new ≡ F.faults files.old) × (I.faults input.new ≡ I.faults input.old) }
     ensures output_steady { result.status ≢ 6 → O.faults out.new ≡ O.faults out.old }
 
@@ -288,17 +299,17 @@ fn obey<F: Folder, S: Store, I: Source, O: Sink>(
     ensures complete { command ≡ orders.Sum → HasFlat (facts_name words.now) (F.files files.old) → result.status ≢ 10
         → ¬ Rose (F.faults files.old) (F.faults files.new) → ¬ Rose (I.faults input.old) (I.faults input.new) → ¬ Rose (O.faults out.old) (O.faults out.new) → (result.status ≡ 0) ⊎ (result.status ≡ 7) }
 
-    ensures check_complete { command ≡ orders.Check → HasBoth (dims_name words.now) (facts_name words.now) (F.files files.old)
+    ensures check_complete { command ≡ orders.Check → HasAll (dims_name words.now) (facts_name words.now) (policy_name words.now) (F.files files.old)
         → ¬ Rose (F.faults files.old) (F.faults files.new) → ¬ Rose (O.faults out.old) (O.faults out.new) → (result.status ≡ 0) ⊎ (result.status ≡ 7) }
 
-    ensures ask_complete { command ≡ orders.Ask → HasBoth (dims_name words.now) (facts_name words.now) (F.files files.old) → result.status ≢ 10
-        → ¬ Rose (F.faults files.old) (F.faults files.new) → ¬ Rose (I.faults input.old) (I.faults input.new) → ¬ Rose (O.faults out.old) (O.faults out.new) → (result.status ≡ 0) ⊎ (result.status ≡ 7) }
+    ensures ask_complete { command ≡ orders.Ask → HasAll (dims_name words.now) (facts_name words.now) (policy_name words.now) (F.files files.old) → HasJournal (dims_name words.now) (facts_name words.now) (policy_name words.now) (F.files files.old) (S.told store.old) (S.logs store.old 0).state.now → result.status ≢ 10
+        → ¬ Rose (F.faults files.old) (F.faults files.new) → (result.outcomes ≡ [] → ¬ Rose (S.faults store.old) (S.faults store.new)) → ¬ Rose (I.faults input.old) (I.faults input.new) → ¬ Rose (O.faults out.old) (O.faults out.new) → (result.status ≡ 0) ⊎ (result.status ≡ 7) }
 
     // What a command doesn't use is as at entry.
     ensures unread { command ≢ orders.Sum → command ≢ orders.Ask → input.new ≡ input.old }
     ensures unused { command ≢ orders.Sum → command ≢ orders.Check → command ≢ orders.Ask → files.new ≡ files.old }
     ensures words { result.status ≢ 2 }
-    ensures store { store.new ≡ store.old }
+    ensures store { command ≢ orders.Ask → store.new ≡ store.old }
     ensures outcomes { command ≢ orders.Ask → result.outcomes ≡ [] }
 {
     match command {
@@ -311,16 +322,21 @@ fn obey<F: Folder, S: Store, I: Source, O: Sink>(
         Command::Check => {
             let dims = needed_value(words, command, Setting::Dims);
             let facts = needed_value(words, command, Setting::Facts);
-            check(alloc, room, dims, facts, files, out)
+            let policy = needed_value(words, command, Setting::Policy);
+            check(alloc, room, dims, facts, policy, files, out)
         }
         Command::Ask => {
             let dims = needed_value(words, command, Setting::Dims);
             let facts = needed_value(words, command, Setting::Facts);
+            let policy = needed_value(words, command, Setting::Policy);
+            let journal = needed_value(words, command, Setting::Journal);
             ask(
                 alloc,
                 room,
                 dims,
                 facts,
+                policy,
+                journal,
                 stated(words),
                 files,
                 store,
@@ -357,21 +373,25 @@ pub fn run<F: Folder, S: Store, I: Source, O: Sink, W: Wire>(
     ensures asks { orders_in words.now ≡ Ok orders.Sum → AsksOnce (facts_name words.now) (F.asked files.old) (F.asked files.new) (F.faults files.old) (F.faults files.new) result }
     ensures ended { orders_in words.now ≡ Ok orders.Sum → result.status ≡ 0 → I.ended input.new ≡ true }
 
-    // The summary of the two files is put on the sink, unless the run ended before.
-    ensures check { orders_in words.now ≡ Ok orders.Check → (EndsUnopened (dims_name words.now) (facts_name words.now) (F.files files.old) (F.faults files.old) (F.faults files.new) result × (out.new ≡ out.old))
-        ⊎ (Checked (dims_name words.now) (facts_name words.now) (F.files files.old) (O.written out.old) (O.written out.new) result × (F.faults files.new ≡ F.faults files.old)) }
-    ensures asks_both { orders_in words.now ≡ Ok orders.Check → AsksBoth (dims_name words.now) (facts_name words.now) (F.files files.old) (F.asked files.old) (F.asked files.new) (F.faults files.old) (F.faults files.new) result }
+    // The summary of the files is put on the sink, unless the run ended before.
+    ensures check { orders_in words.now ≡ Ok orders.Check → (EndsUnopened (dims_name words.now) (facts_name words.now) (policy_name words.now) (F.files files.old) (F.faults files.old) (F.faults files.new) result × (out.new ≡ out.old))
+        ⊎ (Checked (dims_name words.now) (facts_name words.now) (policy_name words.now) (F.files files.old) (O.written out.old) (O.written out.new) result × (F.faults files.new ≡ F.faults files.old)) }
+    ensures asks_all { orders_in words.now ≡ Ok orders.Check → AsksAll (dims_name words.now) (facts_name words.now) (policy_name words.now) (F.files files.old) (F.asked files.old) (F.asked files.new) (F.faults files.old) (F.faults files.new) result }
 
-    // The asks of the input are answered by the cube of the two files, unless the run ended before.
-    ensures ask { orders_in words.now ≡ Ok orders.Ask → (EndsUnopened (dims_name words.now) (facts_name words.now) (F.files files.old) (F.faults files.old) (F.faults files.new) result × (input.new ≡ input.old) × (out.new ≡ out.old))
-        ⊎ (Asked (dims_name words.now) (facts_name words.now) (stated_in words.now) (F.files files.old) (I.left input.old) (I.left input.new) (O.written out.old) (O.written out.new) result × (F.faults files.new ≡ F.faults files.old)) }
-    ensures ask_asks { orders_in words.now ≡ Ok orders.Ask → AsksBoth (dims_name words.now) (facts_name words.now) (F.files files.old) (F.asked files.old) (F.asked files.new) (F.faults files.old) (F.faults files.new) result }
+    // The asks of the input are answered by the cube of the files, unless the run ended before.
+    ensures ask { orders_in words.now ≡ Ok orders.Ask → (EndsUnopened (dims_name words.now) (facts_name words.now) (policy_name words.now) (F.files files.old) (F.faults files.old) (F.faults files.new) result × (store.new ≡ store.old) × (input.new ≡ input.old) × (out.new ≡ out.old))
+        ⊎ (EndsUnstarted (dims_name words.now) (facts_name words.now) (policy_name words.now) (F.files files.old) (S.told store.old) (S.logs store.old 0) (S.logs store.new 0) (S.faults store.old) (S.faults store.new) result × (F.faults files.new ≡ F.faults files.old) × (input.new ≡ input.old) × (out.new ≡ out.old))
+        ⊎ (Asked (dims_name words.now) (facts_name words.now) (policy_name words.now) (stated_in words.now) (F.files files.old) (S.told store.old) (S.logs store.old 0) (S.logs store.new 0) (S.faults store.old) (S.faults store.new) (I.left input.old) (I.left input.new) (O.written out.old) (O.written out.new) result × (F.faults files.new ≡ F.faults files.old)) }
+    ensures ask_names { orders_in words.now ≡ Ok orders.Ask → (store.new ≡ store.old) ⊎ AsksStore (journal_name words.now) (S.told store.old) (S.names store.old) (S.names store.new) result }
+    ensures ask_calls { orders_in words.now ≡ Ok orders.Ask → result.status ≡ 9 → IsTrue (S.told store.old) → S.calls store.new ≤ S.calls store.old + 7 }
+    ensures ask_asks { orders_in words.now ≡ Ok orders.Ask → AsksAll (dims_name words.now) (facts_name words.now) (policy_name words.now) (F.files files.old) (F.asked files.old) (F.asked files.new) (F.faults files.old) (F.faults files.new) result }
     ensures ask_ended { orders_in words.now ≡ Ok orders.Ask → result.status ≡ 0 → I.ended input.new ≡ true }
     ensures ask_memory { orders_in words.now ≡ Ok orders.Ask → result.status ≡ 7 → (input.new ≡ input.old) × (out.new ≡ out.old) × (result.outcomes ≡ []) }
 
     // A fault is answered only where it was counted in this call, and at most one count rises.
     ensures unreadable { result.status ≡ 5 → (Rose (F.faults files.old) (F.faults files.new) × (I.faults input.new ≡ I.faults input.old)) ⊎ (Rose (I.faults input.old) (I.faults input.new) × (F.faults files.new ≡ F.faults files.old)) }
     ensures output { result.status ≡ 6 → Rose (O.faults out.old) (O.faults out.new) }
+    ensures unkept { result.status ≡ 9 → Rose (S.faults store.old) (S.faults store.new) × (result.outcomes ≡ []) }
     ensures steady { result.status ≢ 5 → (F.faults files.new ≡ F.faults files.old) × (I.faults input.new ≡ I.faults input.old) }
     ensures output_steady { result.status ≢ 6 → O.faults out.new ≡ O.faults out.old }
 
@@ -379,16 +399,16 @@ pub fn run<F: Folder, S: Store, I: Source, O: Sink, W: Wire>(
     ensures complete { orders_in words.now ≡ Ok orders.Sum → HasFlat (facts_name words.now) (F.files files.old) → result.status ≢ 10
         → ¬ Rose (F.faults files.old) (F.faults files.new) → ¬ Rose (I.faults input.old) (I.faults input.new) → ¬ Rose (O.faults out.old) (O.faults out.new) → (result.status ≡ 0) ⊎ (result.status ≡ 7) }
 
-    ensures check_complete { orders_in words.now ≡ Ok orders.Check → HasBoth (dims_name words.now) (facts_name words.now) (F.files files.old)
+    ensures check_complete { orders_in words.now ≡ Ok orders.Check → HasAll (dims_name words.now) (facts_name words.now) (policy_name words.now) (F.files files.old)
         → ¬ Rose (F.faults files.old) (F.faults files.new) → ¬ Rose (O.faults out.old) (O.faults out.new) → (result.status ≡ 0) ⊎ (result.status ≡ 7) }
 
-    ensures ask_complete { orders_in words.now ≡ Ok orders.Ask → HasBoth (dims_name words.now) (facts_name words.now) (F.files files.old) → result.status ≢ 10
-        → ¬ Rose (F.faults files.old) (F.faults files.new) → ¬ Rose (I.faults input.old) (I.faults input.new) → ¬ Rose (O.faults out.old) (O.faults out.new) → (result.status ≡ 0) ⊎ (result.status ≡ 7) }
+    ensures ask_complete { orders_in words.now ≡ Ok orders.Ask → HasAll (dims_name words.now) (facts_name words.now) (policy_name words.now) (F.files files.old) → HasJournal (dims_name words.now) (facts_name words.now) (policy_name words.now) (F.files files.old) (S.told store.old) (S.logs store.old 0).state.now → result.status ≢ 10
+        → ¬ Rose (F.faults files.old) (F.faults files.new) → (result.outcomes ≡ [] → ¬ Rose (S.faults store.old) (S.faults store.new)) → ¬ Rose (I.faults input.old) (I.faults input.new) → ¬ Rose (O.faults out.old) (O.faults out.new) → (result.status ≡ 0) ⊎ (result.status ≡ 7) }
 
     // What a command doesn't use is as at entry.
     ensures unread { orders_in words.now ≢ Ok orders.Sum → orders_in words.now ≢ Ok orders.Ask → input.new ≡ input.old }
     ensures unused { orders_in words.now ≢ Ok orders.Sum → orders_in words.now ≢ Ok orders.Check → orders_in words.now ≢ Ok orders.Ask → files.new ≡ files.old }
-    ensures store { store.new ≡ store.old }
+    ensures store { orders_in words.now ≢ Ok orders.Ask → store.new ≡ store.old }
     ensures wire { wire.new ≡ wire.old }
     ensures outcomes { orders_in words.now ≢ Ok orders.Ask → result.outcomes ≡ [] }
 {

@@ -1,11 +1,14 @@
-// What `check` prints of a core.
+// What `check` prints of a core and a policy.
 ghost use Rattle.std.specs.Prelude.{◌≡◌, ◌≤◌, ◌++◌, ◌*◌, length, drop, map, sum, IfOk, OnOk};
 ghost use Rattle.cube_model.specs.Cubes.{cuboid_count};
 ghost use Rattle.cube_model.specs.Dims.{plain, plains};
-ghost use Rattle.cube_app.specs.Summary.{count_line, check_text as check_words};
+ghost use Rattle.cube_model.specs.Policies.{IsPolicy};
+ghost use Rattle.cube_app.specs.Summary.{count_line, digest_line as digest_words, protected_count, core_text as core_words, check_text as check_words};
 
 use cube_core::Core;
-use cube_model::{Dims, NoMemory, Text};
+use cube_journal::{digest_of, public_text};
+use cube_model::{Dims, NoMemory, Policy, Text};
+use cube_source::count_protected;
 use std::alloc::Global;
 
 // How many cuboids there are: each dimension has its named levels and `all`.
@@ -19,6 +22,19 @@ fn count_cuboids(dims: &Dims) -> u64
     count
 }
 
+// How many protected cells all measures have.
+fn count_all(alloc: Global, core: &Core, policy: &Policy) -> Result<u64, NoMemory>
+    requires { IsPolicy core.now.dims policy.now }
+    ensures { IfOk result (λ count. count ≡ protected_count core.now policy.now) }
+{
+    let _rules = core.dims();
+    let mut total = 0;
+    'measures: for measure in 0..policy.methods.len() {
+        total += count_protected(alloc, core, policy, measure as u32)?;
+    }
+    Ok(total)
+}
+
 fn push_count(text: &mut Text, word: &[u8], number: u64) -> Result<(), NoMemory>
     ensures { OnOk result (text.new ≡ text.old ++ count_line word.now number) }
 {
@@ -28,9 +44,9 @@ fn push_count(text: &mut Text, word: &[u8], number: u64) -> Result<(), NoMemory>
     text.extend(b"\n")
 }
 
-/// The summary of a core, a line for each of its numbers.
-pub fn check_text(alloc: Global, core: &Core) -> Result<Text, NoMemory>
-    ensures { IfOk result (λ text. text ≡ check_words core.now) }
+// The lines on a core.
+fn core_text(alloc: Global, core: &Core) -> Result<Text, NoMemory>
+    ensures { IfOk result (λ text. text ≡ core_words core.now) }
 {
     let dims = core.dims();
     let mut text = Text::new(alloc);
@@ -44,5 +60,31 @@ pub fn check_text(alloc: Global, core: &Core) -> Result<Text, NoMemory>
         text.extend(b"full no\n")?;
     }
     push_count(&mut text, b"cuboids", count_cuboids(dims))?;
+    Ok(text)
+}
+
+// The line with the digest of what is public.
+fn digest_line(alloc: Global, core: &Core, policy: &Policy) -> Result<Text, NoMemory>
+    requires { IsPolicy core.now.dims policy.now }
+    ensures { IfOk result (λ text. text ≡ digest_words core.now policy.now) }
+{
+    let _rules = core.dims();
+    let public = public_text(alloc, core.dims(), policy, core.shape())?;
+    let digest = digest_of(public.as_slice());
+    let mut text = Text::from_bytes(alloc, b"digest ")?;
+    text.extend(digest.digits())?;
+    text.extend(b"\n")?;
+    Ok(text)
+}
+
+/// The summary of a core and a policy, a line for each of their numbers and one for their digest.
+pub fn check_text(alloc: Global, core: &Core, policy: &Policy) -> Result<Text, NoMemory>
+    requires { IsPolicy core.now.dims policy.now }
+    ensures { IfOk result (λ text. text ≡ check_words core.now policy.now) }
+{
+    let mut text = core_text(alloc, core)?;
+    let number = count_all(alloc, core, policy)?;
+    push_count(&mut text, b"protected", number)?;
+    text.extend(digest_line(alloc, core, policy)?.as_slice())?;
     Ok(text)
 }

@@ -1,9 +1,11 @@
 // Runs over objects in memory, some of whose calls fail.
 mod ask;
 mod check;
+mod journal;
+mod policy;
 
 use crate::run::run;
-use cube_io::{MemFolder, MemSink, MemSource, NullStore, NullWire};
+use cube_io::{MemFolder, MemSink, MemSource, NullStore, NullWire, Store};
 use cube_model::{Items, Text, Texts};
 use std::alloc::Global;
 use std::test::Fail;
@@ -14,12 +16,17 @@ const FILE: &[u8] = b"f";
 
 const DIMS: &[u8] = b"d";
 
-// What a run is given: the contents of the files `d` and `f`, the input in pieces of at most so many bytes, and the numbers of
-// the calls that fail.
+const POLICY: &[u8] = b"p";
+
+const LOG: &[u8] = b"log";
+
+// What a run is given: the contents of the files `d`, `f` and `p`, the input in pieces of at most so many bytes, and the numbers
+// of the calls that fail.
 #[derive(Clone, Copy)]
 struct Given<'a> {
     dims: &'a [u8],
     facts: &'a [u8],
+    policy: &'a [u8],
     input: &'a [u8],
     piece: usize,
     bad_files: &'a [u64],
@@ -40,6 +47,7 @@ fn world<'a>(facts: &'a [u8], input: &'a [u8]) -> Given<'a> {
     Given {
         dims: b"",
         facts,
+        policy: b"",
         input,
         piece: 3,
         bad_files: &[],
@@ -57,6 +65,15 @@ fn texts(alloc: Global, words: &[&[u8]]) -> Result<Texts, Fail> {
 }
 
 fn ran(alloc: Global, words: &[&[u8]], given: &Given<'_>) -> Result<Got, Fail> {
+    ran_over(alloc, words, given, &mut NullStore::new())
+}
+
+fn ran_over<S: Store>(
+    alloc: Global,
+    words: &[&[u8]],
+    given: &Given<'_>,
+    store: &mut S,
+) -> Result<Got, Fail> {
     let words = texts(alloc, words)?;
     let mut named = Vec::new(alloc);
     named.push((
@@ -66,6 +83,10 @@ fn ran(alloc: Global, words: &[&[u8]], given: &Given<'_>) -> Result<Got, Fail> {
     named.push((
         Text::from_bytes(alloc, FILE)?,
         Text::from_bytes(alloc, given.facts)?,
+    ))?;
+    named.push((
+        Text::from_bytes(alloc, POLICY)?,
+        Text::from_bytes(alloc, given.policy)?,
     ))?;
     let mut files = MemFolder::new(alloc, named, given.bad_files.to_vec(alloc)?);
     let mut source = MemSource::new(
@@ -78,7 +99,7 @@ fn ran(alloc: Global, words: &[&[u8]], given: &Given<'_>) -> Result<Got, Fail> {
         alloc,
         words.as_slice(),
         &mut files,
-        &mut NullStore::new(),
+        store,
         &mut source,
         &mut sink,
         &mut NullWire,
@@ -145,7 +166,7 @@ fn a_refused_file_is_named_with_its_fault(rt: HostRuntime) -> Result<(), Fail> {
 
 #[test]
 fn wrong_words_are_named(rt: HostRuntime) -> Result<(), Fail> {
-    let cases: [(&[&[u8]], &[u8]); 15] = [
+    let cases: [(&[&[u8]], &[u8]); 17] = [
         (&[], b"usage: no command\n"),
         (&[b"ask", b"--dims"], b"usage: --dims\n"),
         (&[b"ask", b"--facts", b"f"], b"usage: missing --dims\n"),
@@ -155,6 +176,14 @@ fn wrong_words_are_named(rt: HostRuntime) -> Result<(), Fail> {
         (&[b"check", b"--requests", b"1"], b"usage: --requests\n"),
         (&[b"check"], b"usage: missing --dims\n"),
         (&[b"check", b"--dims", b"d"], b"usage: missing --facts\n"),
+        (
+            &[b"check", b"--facts", b"f", b"--dims", b"d"],
+            b"usage: missing --policy\n",
+        ),
+        (
+            &[b"ask", b"--dims", b"d", b"--facts", b"f"],
+            b"usage: missing --policy\n",
+        ),
         (&[b"sum"], b"usage: missing --facts\n"),
         (
             &[b"sum", b"--facts", b"a", b"--facts", b"b"],

@@ -18,7 +18,7 @@ pub enum Command {
     Version,
     /// Answer lines over a flat fact file.
     Sum,
-    /// Say what a dimension file and a fact file hold.
+    /// Say what the files of a cube hold.
     Check,
     /// Answer lines as asks of a cube.
     Ask,
@@ -31,6 +31,10 @@ pub enum Setting {
     Dims,
     /// The fact file.
     Facts,
+    /// The policy file.
+    Policy,
+    /// The journal.
+    Journal,
     /// The most asks that are answered.
     Requests,
 }
@@ -78,8 +82,13 @@ impl Command {
             Command::Help => &[],
             Command::Version => &[],
             Command::Sum => &[Setting::Facts],
-            Command::Check => &[Setting::Dims, Setting::Facts],
-            Command::Ask => &[Setting::Dims, Setting::Facts],
+            Command::Check => &[Setting::Dims, Setting::Facts, Setting::Policy],
+            Command::Ask => &[
+                Setting::Dims,
+                Setting::Facts,
+                Setting::Policy,
+                Setting::Journal,
+            ],
         }
     }
 
@@ -90,8 +99,14 @@ impl Command {
             Command::Help => &[],
             Command::Version => &[],
             Command::Sum => &[Setting::Facts],
-            Command::Check => &[Setting::Dims, Setting::Facts],
-            Command::Ask => &[Setting::Dims, Setting::Facts, Setting::Requests],
+            Command::Check => &[Setting::Dims, Setting::Facts, Setting::Policy],
+            Command::Ask => &[
+                Setting::Dims,
+                Setting::Facts,
+                Setting::Policy,
+                Setting::Journal,
+                Setting::Requests,
+            ],
         }
     }
 }
@@ -104,6 +119,8 @@ impl Setting {
         match self {
             Setting::Dims => b"--dims",
             Setting::Facts => b"--facts",
+            Setting::Policy => b"--policy",
+            Setting::Journal => b"--journal",
             Setting::Requests => b"--requests",
         }
     }

@@ -17,7 +17,8 @@ use Rattle.cube_model.proofs.Members.{IsIn-filter, IsIn-map, IsIn-count_from, Is
 use Rattle.cube_model.proofs.Sources.{Each-get_or}
 use Rattle.cube_core.proofs.Fitting.{lengths_fit}
 use Rattle.cube_core.proofs.Points.{length-point, leaf_below, dimension_of}
-use Rattle.cube_engine.specs.AnswerText.{KeyFits, RowFits, IsThere, IsAnswer}
+use Rattle.cube_text.specs.Keys.{KeyFits}
+use Rattle.cube_engine.specs.AnswerText.{RowFits, IsThere, IsAnswer}
 use Rattle.cube_engine.specs.Sums.{row_sum}
 use Rattle.cube_engine.specs.VerdictText.{unprotected, CellFits}
 
@@ -64,7 +65,7 @@ each_of P [] h = tt
 each_of P (x ∷ xs) h = (h 0 x (omega arith), each_of P xs (λ k d l. h (suc k) d (omega (arith, l))))
 
 -- a place is that of a point
-point_at : (core : Core) (p : Policy) (i : ℕ) → IsCore core → IsIn i (places (shown core p)) → IsPoint (plains core.dims) (point (shown core p) i)
+pub point_at : (core : Core) (p : Policy) (i : ℕ) → IsCore core → IsIn i (places (shown core p)) → IsPoint (plains core.dims) (point (shown core p) i)
 point_at core p i ok h =
     let below = (IsIn-count_from i 0 (length core.shape.points) h).1 in
     Each-get_or (IsPoint (plains core.dims)) core.shape.points i [] ok.points (omega (arith, below))

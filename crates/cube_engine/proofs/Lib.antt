@@ -1,5 +1,7 @@
 pub mod Alone
 pub mod Keys
-pub mod Lines
-pub mod Opened
+pub mod Named
 pub mod Valid
+pub mod Worlds
+mod Preparing
+mod Logs

@@ -1,18 +1,36 @@
--- A book: one cube with the policy that it is asked under and what its history holds.
-use Rattle.std.specs.Prelude.{List}
+-- A book: one cube with the policy that it is asked under, what its history holds, and where that is kept.
+use Rattle.std.specs.Prelude.{◌≡◌, ℕ, List, [], ◌∷◌, Bool, true, false, Some, None}
+use Rattle.std.specs.declared.option.Option.{Option}
 use Rattle.cube_model.specs.declared.ask.Inner.{Inner}
 use Rattle.cube_model.specs.declared.entry.Entry.{Entry}
+use Rattle.cube_model.specs.declared.entry.Entry.TheVariants.{Asked}
 use Rattle.cube_model.specs.declared.outcome.Outcome.{Outcome}
 use Rattle.cube_model.specs.declared.policy.Policy.{Policy}
 use Rattle.cube_model.specs.declared.reply.Reply.{Reply}
+use Rattle.cube_model.specs.declared.request.Request.{Request}
+use Rattle.cube_model.specs.declared.verdict.Verdict.{Verdict}
+use Rattle.cube_model.specs.declared.verdict.Verdict.TheVariants.{Answer, Full, SourceWould, Pair, Single}
 use Rattle.cube_model.specs.Cores.{Core, shown, world}
 use Rattle.cube_model.specs.Rooms.{Room, alone}
+use Rattle.cube_journal.specs.Keeping.{Journal}
+use Rattle.cube_journal.specs.RequestLines.{request_line}
+use Rattle.cube_engine.specs.Kept.{MayEnter}
 use Rattle.cube_engine.specs.Steps.{inner_reply, inner_history}
 
 pub record Book : Type 0 where
   pub core : Core
   pub policy : Policy
   pub history : List Entry
+  pub waiting : Option Request
+  pub journal : Journal
+
+-- the verdict is an answer
+abbrev pub is_answer : Verdict → Bool
+is_answer (Answer fresh) = true
+is_answer (Full held) = false
+is_answer (SourceWould c t) = false
+is_answer (Pair k i j t) = false
+is_answer (Single k i t) = false
 
 -- the reply to what is asked of a book, by what became of it
 abbrev pub book_reply : Outcome → Book → Inner → Reply
@@ -25,3 +43,22 @@ book_history o b a = inner_history o b.core.dims (shown b.core b.policy) b.histo
 -- the one room that a book is, with the empty name
 abbrev pub book_rooms : Book → List Room
 book_rooms b = alone (world b.core b.policy) b.history
+
+-- the book where this waits
+abbrev pub with_waiting : Option Request → Book → Book
+with_waiting waits b = record { core = b.core; policy = b.policy; history = b.history; waiting = waits; journal = b.journal }
+
+-- the entry that waits, if any
+abbrev pub entry_of : Option Request → List Entry
+entry_of None = []
+entry_of (Some r) = Asked r ∷ []
+
+abbrev pub entry_waiting : Book → List Entry
+entry_waiting b = entry_of b.waiting
+
+-- a request waits that may enter, and this is its line
+pub record IsWaiting (b : Book) (line : List ℕ) : Type 0 where
+  pub request : Request
+  pub waits : b.waiting ≡ Some request
+  pub may : MayEnter b.core b.policy b.history request
+  pub is_line : line ≡ request_line b.core.dims request

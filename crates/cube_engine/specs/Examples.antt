@@ -4,12 +4,14 @@ use Rattle.cube_model.specs.declared.answer.AnswerRow.{AnswerRow}
 use Rattle.cube_model.specs.declared.cell.Cell.{Cell}
 use Rattle.cube_model.specs.declared.request.Request.{Request}
 use Rattle.cube_model.specs.declared.request.What.{What}
+use Rattle.cube_model.specs.declared.request.What.TheVariants.{Measure}
 use Rattle.cube_model.specs.Cores.{world}
 use Rattle.cube_model.specs.Dims.{Dims, NamedDimension}
 use Rattle.cube_model.specs.Rooms.{Room, alone}
 use Rattle.cube_core.specs.Worked.{pay_core}
-use Rattle.cube_dims.specs.Examples.{pay_dims}
-use Rattle.cube_engine.specs.Open.{open_policy}
+use Rattle.cube_model.specs.declared.entry.Entry.{Entry}
+use Rattle.cube_model.specs.declared.policy.Method.TheVariants.{Plain, Lattice}
+use Rattle.cube_model.specs.declared.policy.Policy.{Policy}
 
 -- what is asked, grouped by these levels of the two dimensions
 abbrev pub grouped : What → ℕ → ℕ → Request
@@ -44,6 +46,17 @@ odd_request what = record { what = what; group = 0 ∷ []; picks = None ∷ [] }
 abbrev pub odd_row : ℕ → ℤ → AnswerRow
 odd_row a sum = record { key = a ∷ []; sum = sum }
 
--- the pay cube with each measure open, as the one room of a desk
-abbrev pub pay_rooms : List Room
-pay_rooms = alone (world pay_core (open_policy pay_dims)) []
+-- pay is under the source rule, and each cell of a city in a month is protected; hours are open
+abbrev pub pay_policy : Policy
+pay_policy = record {
+  methods = Lattice ∷ Plain ∷ [];
+  objects = record { measure = 0; levels = 0 ∷ 0 ∷ []; slice = [] } ∷ [];
+}
+
+-- the pay cube behind a history, as the one room of a desk
+abbrev pub pay_rooms : List Entry → List Room
+pay_rooms h = alone (world pay_core pay_policy) h
+
+-- pay by month
+abbrev pub months : Request
+months = grouped (Measure 0) 2 0

@@ -3,7 +3,10 @@ pub mod Books
 pub mod Constant
 pub mod Engines
 pub mod Examples
-pub mod Open
 pub mod Steps
 pub mod Sums
 pub mod VerdictText
+pub mod Worlds
+pub mod Kept
+pub mod Opening
+pub mod Prepared

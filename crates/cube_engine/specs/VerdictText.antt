@@ -9,7 +9,7 @@ use Rattle.cube_model.specs.Dims.{Dims, NamedDimension, plains}
 use Rattle.cube_model.specs.Protection.{core_cell}
 use Rattle.cube_model.specs.Requests.{is_grouped}
 use Rattle.cube_query.specs.Canonical.{level_text, member_text, by_texts, behind}
-use Rattle.cube_engine.specs.AnswerText.{KeyFits}
+use Rattle.cube_text.specs.Keys.{KeyFits}
 
 -- the levels of a cuboid that are not `all`, or the word `all`
 abbrev pub cuboid_text : Dims → List ℕ → List ℕ

@@ -1,59 +1,12 @@
 // The text of an answer: CSV with a header.
-ghost use Rattle.std.specs.Prelude.{◌≡◌, ◌<◌, ◌++◌, ◌∷◌, length, flat_map, IfOk, OnOk};
+ghost use Rattle.std.specs.Prelude.{◌≡◌, ◌++◌, length, flat_map, IfOk, OnOk};
 ghost use Rattle.std.specs.List.{All};
 ghost use Rattle.cube_text.specs.Quoting.{field};
-ghost use Rattle.cube_engine.specs.AnswerText.{closed, level_head, heads, key_names, what_name, sum_text, header_line, row_line, answer_text as answer_words, KeyFits, RowFits, IsThere, IsAnswer};
+ghost use Rattle.cube_engine.specs.AnswerText.{what_name, sum_text, header_line, row_line, answer_text as answer_words, RowFits, IsThere, IsAnswer};
 
-use cube_model::{Answer, AnswerRow, Dimension, Dims, NoMemory, Request, Text, What};
-use cube_text::{push_field, write_units};
+use cube_model::{Answer, AnswerRow, Dims, NoMemory, Request, Text, What};
+use cube_text::{push_field, push_heads, push_key, write_units};
 use std::alloc::Global;
-
-// A level of a dimension as a field.
-fn push_head(
-    alloc: Global,
-    text: &mut Text,
-    dimension: &Dimension,
-    level: u32,
-) -> Result<(), NoMemory>
-    requires { level < length dimension.now.levels }
-    ensures { OnOk result (text.new ≡ text.old ++ field (level_head dimension.now level)) }
-{
-    let mut head = Text::from_bytes(alloc, dimension.name())?;
-    head.push(b'.')?;
-    head.extend(dimension.levels()[level as usize].as_slice())?;
-    push_field(text, head.as_slice())
-}
-
-// The grouping levels that are not `all`, each with a comma behind it.
-fn push_heads(alloc: Global, text: &mut Text, dims: &Dims, levels: &[u32]) -> Result<(), NoMemory>
-    requires { length levels.now ≡ length dims.now.dimensions }
-    ensures { OnOk result (text.new ≡ text.old ++ flat_map closed (heads dims.now.dimensions levels.now)) }
-{
-    for (d, dimension) in dims.dimensions().iter().enumerate() {
-        if (levels[d] as usize) < dimension.levels().len() {
-            push_head(alloc, text, dimension, levels[d])?;
-            text.push(b',')?;
-        }
-    }
-    Ok(())
-}
-
-// The names of the members of a key at these levels, each with a comma behind it.
-fn push_key(text: &mut Text, dims: &Dims, levels: &[u32], key: &[u32]) -> Result<(), NoMemory>
-    requires levels { length levels.now ≡ length dims.now.dimensions }
-    requires key { length key.now ≡ length dims.now.dimensions }
-    requires there { KeyFits dims.now levels.now key.now }
-    ensures { OnOk result (text.new ≡ text.old ++ flat_map closed (key_names dims.now.dimensions levels.now key.now)) }
-{
-    for (d, dimension) in dims.dimensions().iter().enumerate() {
-        if (levels[d] as usize) < dimension.levels().len() {
-            let members = dimension.members(levels[d] as usize);
-            push_field(text, members.name(key[d] as usize))?;
-            text.push(b',')?;
-        }
-    }
-    Ok(())
-}
 
 fn push_what(text: &mut Text, dims: &Dims, what: What) -> Result<(), NoMemory>
     requires { IsThere dims.now what }
@@ -76,7 +29,7 @@ fn sum_of(alloc: Global, dims: &Dims, what: What, sum: i64) -> Result<Text, NoMe
     }
 }
 
-#[tactic(auto, using(crate::proofs::Lines::lines_behind))]
+#[tactic(auto, using(cube_text::proofs::Lines::lines_behind))]
 fn push_header(
     alloc: Global,
     text: &mut Text,
@@ -92,7 +45,7 @@ fn push_header(
     text.push(b'\n')
 }
 
-#[tactic(auto, using(crate::proofs::Lines::lines_behind))]
+#[tactic(auto, using(cube_text::proofs::Lines::lines_behind))]
 fn push_row(
     alloc: Global,
     text: &mut Text,

@@ -1,164 +1,211 @@
-// One cube with its policy and its history.
-ghost use Rattle.std.specs.Prelude.{◌≡◌, ◌≢◌, [], true, List, IfOk};
+// One cube with its policy, its history, and the log that keeps it.
+ghost use Rattle.std.specs.Prelude.{◌≡◌, ◌≢◌, ◌≤◌, ◌+◌, ◌^◌, ◌++◌, ◌∷◌, [], true, false, ℕ, None, Ok, length, IsTrue, IfOk, OnOk, IfErr, OnErr, if◌then◌else◌};
 ghost use Rattle.cube_model.specs.declared.ask.Inner.TheVariants as inner;
-ghost use Rattle.cube_model.specs.declared.entry.Entry.{Entry};
-ghost use Rattle.cube_model.specs.declared.outcome.Outcome.TheVariants as outcome;
-ghost use Rattle.cube_model.specs.declared.policy.Policy.{Policy};
-ghost use Rattle.cube_model.specs.Cores.{world};
-ghost use Rattle.cube_model.specs.Requests.{answer as answer_of};
-ghost use Rattle.cube_query.specs.Canonical.{is_request};
-ghost use Rattle.cube_engine.specs.AnswerText.{answer_text as answer_words};
-ghost use Rattle.cube_engine.specs.Books.{book_reply, book_history};
-ghost use Rattle.cube_engine.specs.Open.{IsOpen};
-ghost use Rattle.cube_engine.specs.Steps.{inner_reply};
+ghost use Rattle.cube_model.specs.Cores.{shown, world};
+ghost use Rattle.cube_model.specs.Policies.{IsPolicy};
+ghost use Rattle.cube_admit.specs.States.{StandsFor};
+ghost use Rattle.cube_io.specs.Causes.{HasCause};
+ghost use Rattle.cube_io.specs.States.{Gained};
+ghost use Rattle.cube_io.specs.Told.{OthersStay};
+ghost use Rattle.cube_journal.specs.Keeping.{IsInRecovery};
+ghost use Rattle.cube_engine.specs.Books.{IsWaiting, entry_waiting, with_waiting};
+ghost use Rattle.cube_engine.specs.Kept.{history_of, IsKept, IsExact, IsWithin};
+ghost use Rattle.cube_engine.specs.Opening.{StartCause, IsStartFault};
+ghost use Rattle.cube_engine.specs.Prepared.{InnerComes};
+ghost use Rattle.cube_engine.specs.Worlds.{IsRuled};
 
-use crate::{answer, answer_text};
+use crate::EngineFault;
+use crate::opening::open_log;
+use crate::prepared::{Prepared, prepare_query};
+use cube_admit::State;
 use cube_core::{Core, Steps};
-use cube_model::{Fixed, Inner, Kind, NoMemory, Outcome, Policy, Reply, Request, Text};
-use cube_query::{RequestFault, read_request};
+use cube_io::{Failed, Store};
+use cube_journal::{Journal, Line};
+use cube_model::{Fixed, Inner, Outcome, Policy, Reply};
 use std::alloc::Global;
 use std::marker::Model;
 use std::sync::ledger::Ledger;
 
-// The answer to a request that was read, in words.
-#[tactic(auto, using(crate::proofs::Valid::valid_fits, crate::proofs::Valid::valid_measure))]
-fn answer_request<L: Ledger>(
-    alloc: Global,
-    core: &Core,
-    request: &Request,
-    steps: &mut Steps<L>,
-) -> Result<Text, NoMemory>
-    requires { is_request core.now.dims request.now ≡ true }
-    ensures { IfOk result (λ text. (p : Policy) → text ≡ answer_words core.now.dims request.now (answer_of (world core.now p) request.now)) }
-{
-    let answer = answer(alloc, core, request, steps)?;
-    answer_text(alloc, core.dims(), request, &answer)
-}
-
-// The reply to a query where each measure is open: its answer, or its fault.
-fn reply_to_query<L: Ledger>(
-    alloc: Global,
-    core: &Core,
-    query: &[u8],
-    steps: &mut Steps<L>,
-) -> Result<Reply, NoMemory>
-    ensures { IfOk result (λ reply. (p : Policy) (h : List Entry) → IsOpen core.now.dims p → reply ≡ inner_reply outcome.Given core.now.dims (world core.now p) h (inner.Query query.now)) }
-{
-    match read_request(alloc, core.dims(), query) {
-        Ok(request) => Ok(Reply::Made {
-            status: 200,
-            kind: Kind::Csv,
-            body: answer_request(alloc, core, &request, steps)?,
-        }),
-        Err(RequestFault::NoMemory) => Err(NoMemory),
-        Err(fault) => Ok(Reply::Made {
-            status: fault.status(),
-            kind: Kind::Plain,
-            body: fault.body(alloc)?,
-        }),
-    }
-}
-
-/// One cube with its policy and its history, without outcomes.
-///
-/// Each measure is open today, and what is open enters no history: it stays empty.
+/// One cube with its policy and its history, and the journal of that. A request that is answered first waits, and
+/// enters the history once its line is kept.
 #[derive(Drop)]
 pub struct Book {
     core: Core,
     policy: Policy,
+    state: State,
+    journal: Journal,
 }
 
 impl Model for Book {
-    ghost use Rattle.std.specs.Prelude.{[]};
+    ghost use Rattle.std.specs.Prelude.{◌≡◌, ◌≤◌, ◌+◌, ◌*◌, ◌^◌, length};
+    ghost use Rattle.cube_model.specs.Cores.{shown};
+    ghost use Rattle.cube_model.specs.Entries.{requests};
+    ghost use Rattle.cube_model.specs.Policies.{IsPolicy};
+    ghost use Rattle.cube_admit.specs.States.{waiting as waiting_in, StandsFor};
     ghost use Rattle.cube_engine.specs.Books as said;
-    ghost use Rattle.cube_engine.specs.Open.{IsOpen};
 
     ghost Value = { said.Book };
 
-    ghost view = { λ b. record { core = b.core; policy = b.policy; history = [] } };
+    ghost view = { λ b. record { core = b.core; policy = b.policy; history = b.state.history; waiting = waiting_in b.state; journal = b.journal } };
 
-    ghost invariant = { λ b. IsOpen b.core.dims b.policy };
+    // A journal has at most 2^14 bytes for each request, behind those that it was opened with.
+    ghost invariant = { λ b. IsPolicy b.core.dims b.policy × StandsFor (shown b.core b.policy) b.state × (b.journal.kept ≤ 2 ^ 28 + 2 ^ 14 * length (requests b.state.history)) };
 }
 
 impl Book {
-    /// The book of a core under a policy that leaves each measure open.
-    pub fn start(core: Core, policy: Policy) -> Book
-        requires { IsOpen core.dims policy }
-        ensures { result ≡ record { core = core; policy = policy; history = [] } }
+    /// The book of a core under a policy, with the history that the log recovers.
+    pub fn start<S: Store>(
+        alloc: Global,
+        core: Core,
+        policy: Policy,
+        store: &mut S,
+        log: u32,
+    ) -> Result<Book, EngineFault>
+        requires attached { IsTrue (S.attached store.old) }
+        requires policy { IsPolicy core.dims policy }
+        ensures cause { StartCause (S.faults store.old) (S.faults store.new) result }
+        ensures told { S.told store.new ≡ S.told store.old }
+        ensures names { IsTrue (S.told store.old) → S.names store.new ≡ S.names store.old }
+        ensures stays { IsTrue (S.attached store.new) }
+        ensures others { OthersStay (S.told store.old) log (S.logs store.old) (S.logs store.new) }
+        ensures calls { IsTrue (S.told store.old) → S.calls store.new ≤ S.calls store.old + 6 }
+        ensures history { IsTrue (S.told store.old) → IfOk result (λ book. history_of core policy (S.logs store.old log).state.now ≡ Ok book.history) }
+        ensures fault { IsTrue (S.told store.old) → IfErr result (IsStartFault (history_of core policy (S.logs store.old log).state.now) (S.logs store.old log).state.now) }
+        ensures kept { IsTrue (S.told store.old) → IfOk result (λ book. IsKept core policy book.history book.journal (S.logs store.new log).state) }
+        ensures exact { IsTrue (S.told store.old) → IfOk result (λ book. IsExact core policy book.history (S.logs store.new log).state) }
+        ensures crash { IsTrue (S.told store.old) → Gained (IsInRecovery (history_of core policy) (S.logs store.old log).state) (S.logs store.old log) (S.logs store.new log) }
+        ensures log { IfOk result (λ book. book.journal.log ≡ log) }
+        ensures core { IfOk result (λ book. book.core ≡ core) }
+        ensures policy { IfOk result (λ book. book.policy ≡ policy) }
+        ensures none { IfOk result (λ book. book.waiting ≡ None) }
     {
-        Book { core, policy }
+        match open_log(alloc, &core, &policy, store, log) {
+            Ok((journal, state)) => Ok(Book {
+                core,
+                policy,
+                state,
+                journal,
+            }),
+            Err(fault) => Err(fault),
+        }
     }
 
     /// The core.
     pub fn core(&self) -> &Core
         ensures core { result.now ≡ self.now.core }
-        ensures rules { IsOpen self.now.core.dims self.now.policy }
+        ensures rules { IsRuled self.now }
     {
+        let _state = &self.state;
+        let _rules = self.core.dims();
         &self.core
     }
 
     /// The policy.
     pub fn policy(&self) -> &Policy
         ensures policy { result.now ≡ self.now.policy }
-        ensures rules { IsOpen self.now.core.dims self.now.policy }
+        ensures rules { IsPolicy self.now.core.dims self.now.policy }
     {
         &self.policy
     }
 
-    /// Replies to a query, by its text.
-    pub fn query<L: Ledger>(
+    /// The history and what is kept of it.
+    pub fn state(&self) -> &State
+        ensures history { result.now.history ≡ self.now.history }
+        ensures stands { StandsFor (shown self.now.core self.now.policy) result.now }
+    {
+        &self.state
+    }
+
+    // What a query comes to.
+    pub(crate) fn query<L: Ledger>(
         &mut self,
         alloc: Global,
         text: &[u8],
         steps: &mut Steps<L>,
-    ) -> (Reply, Outcome)
-        ensures reply { result.0 ≡ book_reply result.1 self.old (inner.Query text.now) }
-        ensures history { self.new.history ≡ book_history result.1 self.old (inner.Query text.now) }
-        ensures same { self.new ≡ self.old }
-        ensures outcome { result.1 ≢ outcome.JournalFault }
+    ) -> Prepared
+        requires { self.old.waiting ≡ None }
+        ensures comes { InnerComes self.old.core.dims (world self.old.core self.old.policy) self.old.history (inner.Query text.now) self.new.waiting result }
+        ensures same { self.new ≡ with_waiting self.new.waiting self.old }
     {
-        match reply_to_query(alloc, &self.core, text, steps) {
-            Ok(reply) => (reply, Outcome::Given),
-            Err(_) => (Reply::Fixed(Fixed::NoMemory), Outcome::NoMemory),
-        }
+        prepare_query(
+            alloc,
+            &self.core,
+            &self.policy,
+            &mut self.state,
+            text,
+            steps,
+        )
     }
 
-    /// Replies to a question for the changes that hide a cell, by the cell's text. There is no path to it yet.
-    pub fn witness(&mut self, _text: &[u8]) -> (Reply, Outcome)
-        ensures reply { result.0 ≡ book_reply result.1 self.old (inner.Witness _text.now) }
-        ensures history { self.new.history ≡ book_history result.1 self.old (inner.Witness _text.now) }
-        ensures same { self.new ≡ self.old }
-        ensures outcome { result.1 ≢ outcome.JournalFault }
+    // What a question for the changes that hide a cell comes to. There is no path to it yet.
+    pub(crate) fn witness(&mut self, _text: &[u8]) -> Prepared
+        requires { self.old.waiting ≡ None }
+        ensures comes { InnerComes self.old.core.dims (world self.old.core self.old.policy) self.old.history (inner.Witness _text.now) self.new.waiting result }
+        ensures same { self.new ≡ with_waiting self.new.waiting self.old }
     {
-        (Reply::Fixed(Fixed::NoPath), Outcome::Given)
+        Prepared::Said(Reply::Fixed(Fixed::NoPath), Outcome::Given)
     }
 
-    /// Replies to a question for the public shape. There is no path to it yet.
-    pub fn shape(&mut self) -> (Reply, Outcome)
-        ensures reply { result.0 ≡ book_reply result.1 self.old inner.Shape }
-        ensures history { self.new.history ≡ book_history result.1 self.old inner.Shape }
-        ensures same { self.new ≡ self.old }
-        ensures outcome { result.1 ≢ outcome.JournalFault }
+    // What a question for the public shape comes to. There is no path to it yet.
+    pub(crate) fn shape(&mut self) -> Prepared
+        requires { self.old.waiting ≡ None }
+        ensures comes { InnerComes self.old.core.dims (world self.old.core self.old.policy) self.old.history inner.Shape self.new.waiting result }
+        ensures same { self.new ≡ with_waiting self.new.waiting self.old }
     {
-        (Reply::Fixed(Fixed::NoPath), Outcome::Given)
+        Prepared::Said(Reply::Fixed(Fixed::NoPath), Outcome::Given)
     }
 
-    /// Replies to what is asked of the cube.
-    pub fn answer<L: Ledger>(
+    // What is asked of the cube comes to.
+    pub(crate) fn prepare<L: Ledger>(
         &mut self,
         alloc: Global,
         ask: &Inner,
         steps: &mut Steps<L>,
-    ) -> (Reply, Outcome)
-        ensures reply { result.0 ≡ book_reply result.1 self.old ask.now }
-        ensures history { self.new.history ≡ book_history result.1 self.old ask.now }
-        ensures same { self.new ≡ self.old }
-        ensures outcome { result.1 ≢ outcome.JournalFault }
+    ) -> Prepared
+        requires { self.old.waiting ≡ None }
+        ensures comes { InnerComes self.old.core.dims (world self.old.core self.old.policy) self.old.history ask.now self.new.waiting result }
+        ensures same { self.new ≡ with_waiting self.new.waiting self.old }
     {
         match ask {
             Inner::Query(text) => self.query(alloc, text.as_slice(), steps),
             Inner::Witness(text) => self.witness(text.as_slice()),
             Inner::Shape => self.shape(),
+        }
+    }
+
+    // Keeps the line of the request that waits, and only then lets it enter the history. After a failure it waits no longer.
+    pub(crate) fn keep<S: Store>(&mut self, store: &mut S, line: &Line) -> Result<(), Failed>
+        requires attached { IsTrue (S.attached store.old) }
+        requires kept { IsTrue (S.told store.old) → IsKept self.old.core self.old.policy self.old.history self.old.journal (S.logs store.old self.old.journal.log).state }
+        requires waits { IsWaiting self.old line.now }
+        ensures cause { HasCause (S.faults store.old) (S.faults store.new) result }
+        ensures told { S.told store.new ≡ S.told store.old }
+        ensures names { IsTrue (S.told store.old) → S.names store.new ≡ S.names store.old }
+        ensures stays { IsTrue (S.attached store.new) }
+        ensures others { OthersStay (S.told store.old) self.old.journal.log (S.logs store.old) (S.logs store.new) }
+        ensures calls { IsTrue (S.told store.old) → S.calls store.new ≤ S.calls store.old + (if self.old.journal.failed then 4 else 2) }
+        ensures ok { OnOk result (self.new.history ≡ self.old.history ++ entry_waiting self.old) }
+        ensures err { OnErr result (self.new.history ≡ self.old.history) }
+        ensures core { self.new.core ≡ self.old.core }
+        ensures policy { self.new.policy ≡ self.old.policy }
+        ensures log { self.new.journal.log ≡ self.old.journal.log }
+        ensures none { self.new.waiting ≡ None }
+        ensures kept { IsTrue (S.told store.old) → IsKept self.old.core self.old.policy self.new.history self.new.journal (S.logs store.new self.old.journal.log).state }
+        ensures exact { IsTrue (S.told store.old) → OnOk result (IsExact self.old.core self.old.policy self.new.history (S.logs store.new self.old.journal.log).state) }
+        ensures crash { IsTrue (S.told store.old) → Gained (IsWithin self.old.core self.old.policy self.old.history) (S.logs store.old self.old.journal.log) (S.logs store.new self.old.journal.log) }
+    {
+        let _rules = self.core.dims();
+        let _few = self.state.history();
+        let _short = line.as_slice();
+        match self.journal.keep(store, line) {
+            Ok(()) => {
+                self.state.commit();
+                Ok(())
+            }
+            Err(failed) => {
+                self.state.drop_pending();
+                Err(failed)
+            }
         }
     }
 }

@@ -1,8 +1,10 @@
-// The desk of an engine that keeps no log.
-ghost use Rattle.std.specs.Prelude.{◌≡◌, ⊤};
+// The desk of an engine: one room, kept in one log of a store.
+ghost use Rattle.std.specs.Prelude.{◌≡◌, ◌≢◌, ◌⊎◌, ◌↔◌, IsTrue};
 ghost use Rattle.cube_engine.specs.Constant.{manner_is_constant};
 ghost use Rattle.cube_engine.specs.Engines.{rooms_of};
+ghost use Rattle.cube_engine.specs.Kept.{IsKept, IsExact, IsWithin};
 ghost use Rattle.cube_engine.specs.Steps as steps;
+ghost use Rattle.cube_engine.specs.Worlds.{first_history};
 
 use crate::Engine;
 use cube_io::{Desk, Store};
@@ -20,16 +22,15 @@ impl<S: Store> Desk<S> for Engine {
 
     ghost room = { λ e. e.left };
 
-    // Without a journal it belongs to every store.
-    ghost fits = { λ e store. ⊤ };
+    ghost fits = { λ e store. IsTrue (S.attached store) × (IsTrue (S.told store) → IsKept e.core e.policy e.history e.journal (S.logs store e.journal.log).state) };
 
-    // No log is its own, so a crash takes nothing of it.
-    ghost exact = { λ e rooms log state. ⊤ };
+    // Its log is the one of its journal; of another it says nothing.
+    ghost exact = { λ e rooms log state. (log ≡ e.journal.log) × IsExact e.core e.policy (first_history rooms) state };
 
-    ghost within = { λ e rooms log state. ⊤ };
+    ghost within = { λ e rooms log state. (log ≡ e.journal.log) × IsWithin e.core e.policy (first_history rooms) state };
 
-    fn answer(&mut self, alloc: Global, _store: &mut S, ask: &Ask) -> Reply {
-        self.answer_uncounted::<Brand>(alloc, ask, Blank::new(1))
+    fn answer(&mut self, alloc: Global, store: &mut S, ask: &Ask) -> Reply {
+        self.answer_uncounted::<S, Brand>(alloc, store, ask, Blank::new(1))
     }
 
     fn miss(&mut self) -> Reply {

@@ -1,30 +1,39 @@
 // A book that counts what became of its asks.
-ghost use Rattle.std.specs.Prelude.{◌≡◌, ◌≢◌, ◌≤◌, ◌+◌, ◌-◌, ◌<◌, ◌++◌, ◌∷◌, ℕ, List, [], Some, IfOk};
-ghost use Rattle.cube_model.specs.declared.ask.Ask.{Ask};
+ghost use Rattle.std.specs.Prelude.{◌≡◌, ◌≢◌, ◌≤◌, ◌<◌, ◌+◌, ◌-◌, ◌++◌, ◌∷◌, ℕ, List, [], None, Some, Ok, IsTrue, IfOk, IfErr};
 ghost use Rattle.cube_model.specs.declared.ask.Ask.TheVariants as asked;
-ghost use Rattle.cube_model.specs.declared.outcome.Outcome.{Outcome};
 ghost use Rattle.cube_model.specs.declared.outcome.Outcome.TheVariants as outcome;
+ghost use Rattle.cube_model.specs.Cores.{shown, world};
+ghost use Rattle.cube_model.specs.Policies.{IsPolicy};
+ghost use Rattle.cube_admit.specs.States.{StandsFor};
 ghost use Rattle.cube_io.specs.Desks.{Answered};
-ghost use Rattle.cube_engine.specs.Books.{book_rooms};
-ghost use Rattle.cube_engine.specs.Engines.{rooms_of};
-ghost use Rattle.cube_engine.specs.Open.{IsOpen};
-ghost use Rattle.cube_engine.specs.Steps.{manner, missed_by, reply_in, next_in};
+ghost use Rattle.cube_io.specs.States.{Gained};
+ghost use Rattle.cube_io.specs.Told.{OthersStay};
+ghost use Rattle.cube_journal.specs.Keeping.{IsInRecovery};
+ghost use Rattle.cube_engine.specs.Books.{book_rooms, with_waiting};
+ghost use Rattle.cube_engine.specs.Engines.{book_of, rooms_of};
+ghost use Rattle.cube_engine.specs.Kept.{history_of, IsKept, IsExact, IsWithin};
+ghost use Rattle.cube_engine.specs.Opening.{StartCause, IsStartFault};
+ghost use Rattle.cube_engine.specs.Prepared.{AskComes, IsMissed, SettleCause};
+ghost use Rattle.cube_engine.specs.Steps.{manner, reply_in, next_in};
+ghost use Rattle.cube_engine.specs.Worlds.{IsRuled, Opens};
 
-use crate::Book;
+use crate::prepared::Prepared;
 use crate::turns::Turns;
+use crate::{Book, EngineFault};
+use cube_admit::State;
 use cube_core::{Core, Steps};
-use cube_model::{Ask, Fixed, Inner, Kind, NoMemory, Outcome, Outcomes, Policy, Reply, Text};
+use cube_io::Store;
+use cube_model::{Ask, Fixed, Inner, Kind, Outcome, Outcomes, Policy, Reply, Text};
 use std::alloc::Global;
 use std::marker::Model;
 use std::sync::ledger::{Blank, Ledger};
 
-// The reply to an ask of a group that there is none of.
-fn unknown_group(alloc: Global) -> (Reply, Outcome)
-    ensures reply { (name : List ℕ) → result.0 ≡ missed_by result.1 (Some name) }
-    ensures outcome { result.1 ≢ outcome.JournalFault }
+// What an ask of a group that there is none of comes to.
+fn unknown_group(alloc: Global) -> Prepared
+    ensures { (name : List ℕ) → IsMissed (Some name) result }
 {
     match Text::from_bytes(alloc, b"unknown group\n") {
-        Ok(body) => (
+        Ok(body) => Prepared::Said(
             Reply::Made {
                 status: 404,
                 kind: Kind::Plain,
@@ -32,49 +41,79 @@ fn unknown_group(alloc: Global) -> (Reply, Outcome)
             },
             Outcome::Given,
         ),
-        Err(_) => (Reply::Fixed(Fixed::NoMemory), Outcome::NoMemory),
+        Err(_) => Prepared::Said(Reply::Fixed(Fixed::NoMemory), Outcome::NoMemory),
     }
 }
 
-// The reply to an ask of a group: a book has the empty name, and no other.
-#[tactic(auto, using(crate::proofs::Alone::same_reply, crate::proofs::Alone::other_reply, crate::proofs::Alone::other_rooms, crate::proofs::Alone::same_rooms))]
-fn reply_to_group<L: Ledger>(
+// What an ask of a group comes to: a book has the empty name, and no other.
+#[tactic(auto, using(crate::proofs::Alone::group_comes, crate::proofs::Alone::other_comes))]
+fn prepare_group<L: Ledger>(
     alloc: Global,
     book: &mut Book,
     name: &[u8],
     ask: &Inner,
     steps: &mut Steps<L>,
-) -> (Reply, Outcome)
-    ensures reply { result.0 ≡ reply_in book.old.core.dims (book_rooms book.old) (asked.Group name.now ask.now) result.1 }
-    ensures rooms { book_rooms book.new ≡ next_in book.old.core.dims (book_rooms book.old) (asked.Group name.now ask.now) result.1 }
-    ensures same { book.new ≡ book.old }
-    ensures outcome { result.1 ≢ outcome.JournalFault }
+) -> Prepared
+    requires { book.old.waiting ≡ None }
+    ensures comes { AskComes book.old.core.dims (world book.old.core book.old.policy) book.old.history (asked.Group name.now ask.now) book.new.waiting result }
+    ensures same { book.new ≡ with_waiting book.new.waiting book.old }
 {
     if name.is_empty() {
-        book.answer(alloc, ask, steps)
+        book.prepare(alloc, ask, steps)
     } else {
         unknown_group(alloc)
     }
 }
 
-// The reply to an ask.
-#[tactic(auto, using(crate::proofs::Alone::plain_query, crate::proofs::Alone::plain_witness, crate::proofs::Alone::plain_shape))]
-fn reply_to<L: Ledger>(
-    alloc: Global,
-    book: &mut Book,
-    ask: &Ask,
-    steps: &mut Steps<L>,
-) -> (Reply, Outcome)
-    ensures reply { result.0 ≡ reply_in book.old.core.dims (book_rooms book.old) ask.now result.1 }
-    ensures rooms { book_rooms book.new ≡ next_in book.old.core.dims (book_rooms book.old) ask.now result.1 }
-    ensures same { book.new ≡ book.old }
-    ensures outcome { result.1 ≢ outcome.JournalFault }
+// What an ask comes to.
+#[tactic(auto, using(crate::proofs::Alone::query_comes, crate::proofs::Alone::witness_comes, crate::proofs::Alone::shape_comes))]
+fn prepare<L: Ledger>(alloc: Global, book: &mut Book, ask: &Ask, steps: &mut Steps<L>) -> Prepared
+    requires { book.old.waiting ≡ None }
+    ensures comes { AskComes book.old.core.dims (world book.old.core book.old.policy) book.old.history ask.now book.new.waiting result }
+    ensures same { book.new ≡ with_waiting book.new.waiting book.old }
 {
     match ask {
         Ask::Query(text) => book.query(alloc, text.as_slice(), steps),
         Ask::Witness(text) => book.witness(text.as_slice()),
         Ask::Shape => book.shape(),
-        Ask::Group { name, ask } => reply_to_group(alloc, book, name.as_slice(), ask, steps),
+        Ask::Group { name, ask } => prepare_group(alloc, book, name.as_slice(), ask, steps),
+    }
+}
+
+// Keeps what is to be kept of an ask, behind which its reply stands.
+fn settle<S: Store>(
+    book: &mut Book,
+    store: &mut S,
+    ask: &Ask,
+    prepared: Prepared,
+) -> (Reply, Outcome)
+    requires attached { IsTrue (S.attached store.old) }
+    requires kept { IsTrue (S.told store.old) → IsKept book.old.core book.old.policy book.old.history book.old.journal (S.logs store.old book.old.journal.log).state }
+    requires comes { AskComes book.old.core.dims (world book.old.core book.old.policy) book.old.history ask.now book.old.waiting prepared }
+    ensures reply { result.0 ≡ reply_in book.old.core.dims (book_rooms book.old) ask.now result.1 }
+    ensures rooms { book_rooms book.new ≡ next_in book.old.core.dims (book_rooms book.old) ask.now result.1 }
+    ensures core { book.new.core ≡ book.old.core }
+    ensures policy { book.new.policy ≡ book.old.policy }
+    ensures log { book.new.journal.log ≡ book.old.journal.log }
+    ensures none { book.new.waiting ≡ None }
+    ensures cause { SettleCause result.1 (next_in book.old.core.dims (book_rooms book.old) ask.now outcome.Given ≢ book_rooms book.old) (S.faults store.old) (S.faults store.new) }
+    ensures untouched { next_in book.old.core.dims (book_rooms book.old) ask.now outcome.Given ≡ book_rooms book.old → (store.new ≡ store.old) × (book.new.journal ≡ book.old.journal) }
+    ensures told { S.told store.new ≡ S.told store.old }
+    ensures names { IsTrue (S.told store.old) → S.names store.new ≡ S.names store.old }
+    ensures stays { IsTrue (S.attached store.new) }
+    ensures others { OthersStay (S.told store.old) book.old.journal.log (S.logs store.old) (S.logs store.new) }
+    ensures calls { IsTrue (S.told store.old) → S.calls store.new ≤ S.calls store.old + 4 }
+    ensures kept { IsTrue (S.told store.old) → IsKept book.old.core book.old.policy book.new.history book.new.journal (S.logs store.new book.old.journal.log).state }
+    ensures exact { IsTrue (S.told store.old) → result.1 ≢ outcome.JournalFault → IsExact book.old.core book.old.policy book.old.history (S.logs store.old book.old.journal.log).state → IsExact book.old.core book.old.policy book.new.history (S.logs store.new book.old.journal.log).state }
+    ensures crash { IsTrue (S.told store.old) → Gained (IsWithin book.old.core book.old.policy book.old.history) (S.logs store.old book.old.journal.log) (S.logs store.new book.old.journal.log) }
+{
+    let _ask = ask;
+    match prepared {
+        Prepared::Said(reply, outcome) => (reply, outcome),
+        Prepared::Waits(reply, line) => match book.keep(store, &line) {
+            Ok(()) => (reply, Outcome::Given),
+            Err(_) => (Reply::Fixed(Fixed::JournalFault), Outcome::JournalFault),
+        },
     }
 }
 
@@ -86,30 +125,59 @@ pub struct Engine {
 }
 
 impl Model for Engine {
+    ghost use Rattle.std.specs.Prelude.{◌≡◌, None};
     ghost use Rattle.cube_engine.specs.Engines as said;
 
     ghost Value = { said.Engine };
 
-    ghost view = { λ e. record { core = e.book.core; policy = e.book.policy; history = e.book.history; outcomes = e.turns.outcomes; left = e.turns.left } };
+    ghost view = { λ e. record { core = e.book.core; policy = e.book.policy; history = e.book.history; journal = e.book.journal; outcomes = e.turns.outcomes; left = e.turns.left } };
+
+    ghost invariant = { λ e. e.book.waiting ≡ None };
 }
 
 impl Engine {
-    /// An engine over a core, under a policy that leaves each measure open, with room for so many asks.
-    pub fn start(alloc: Global, core: Core, policy: Policy, room: u64) -> Result<Engine, NoMemory>
-        requires { IsOpen core.dims policy }
-        ensures engine { IfOk result (λ engine. engine ≡ record { core = core; policy = policy; history = []; outcomes = []; left = room }) }
-        ensures still { IfOk result (λ engine. (ask : Ask) (o : Outcome) → next_in core.dims (rooms_of engine) ask o ≡ rooms_of engine) }
+    /// An engine over a core under a policy, with room for so many asks and the history that a log of the store recovers.
+    pub fn start<S: Store>(
+        alloc: Global,
+        core: Core,
+        policy: Policy,
+        store: &mut S,
+        log: u32,
+        room: u64,
+    ) -> Result<Engine, EngineFault>
+        requires attached { IsTrue (S.attached store.old) }
+        requires policy { IsPolicy core.dims policy }
+        ensures cause { StartCause (S.faults store.old) (S.faults store.new) result }
+        ensures told { S.told store.new ≡ S.told store.old }
+        ensures names { IsTrue (S.told store.old) → S.names store.new ≡ S.names store.old }
+        ensures stays { IsTrue (S.attached store.new) }
+        ensures others { OthersStay (S.told store.old) log (S.logs store.old) (S.logs store.new) }
+        ensures calls { IsTrue (S.told store.old) → S.calls store.new ≤ S.calls store.old + 6 }
+
+        // The history is that of the bytes, and each fault comes by them.
+        ensures history { IsTrue (S.told store.old) → IfOk result (λ engine. history_of core policy (S.logs store.old log).state.now ≡ Ok engine.history) }
+        ensures fault { IsTrue (S.told store.old) → IfErr result (IsStartFault (history_of core policy (S.logs store.old log).state.now) (S.logs store.old log).state.now) }
+
+        // The engine belongs to the log as it stands, of which every crash leaves just the history.
+        ensures kept { IsTrue (S.told store.old) → IfOk result (λ engine. IsKept core policy engine.history engine.journal (S.logs store.new log).state) }
+        ensures exact { IsTrue (S.told store.old) → IfOk result (λ engine. IsExact core policy engine.history (S.logs store.new log).state) }
+
+        // At each moment of the call the log is as at entry, or each image recovers what the log recovered at entry.
+        ensures crash { IsTrue (S.told store.old) → Gained (IsInRecovery (history_of core policy) (S.logs store.old log).state) (S.logs store.old log) (S.logs store.new log) }
+        ensures engine { IfOk result (λ engine. engine ≡ record { core = core; policy = policy; history = engine.history; journal = engine.journal; outcomes = []; left = room }) }
+        ensures log { IfOk result (λ engine. engine.journal.log ≡ log) }
     {
-        Ok(Engine {
-            book: Book::start(core, policy),
-            turns: Turns::new(alloc, room)?,
-        })
+        let turns = Turns::new(alloc, room)?;
+        match Book::start(alloc, core, policy, store, log) {
+            Ok(book) => Ok(Engine { book, turns }),
+            Err(fault) => Err(fault),
+        }
     }
 
     /// The core.
     pub fn core(&self) -> &Core
         ensures core { result.now ≡ self.now.core }
-        ensures rules { IsOpen self.now.core.dims self.now.policy }
+        ensures rules { IsRuled (book_of self.now) }
     {
         self.book.core()
     }
@@ -117,9 +185,17 @@ impl Engine {
     /// The policy.
     pub fn policy(&self) -> &Policy
         ensures policy { result.now ≡ self.now.policy }
-        ensures rules { IsOpen self.now.core.dims self.now.policy }
+        ensures rules { IsPolicy self.now.core.dims self.now.policy }
     {
         self.book.policy()
+    }
+
+    /// The history and what is kept of it.
+    pub fn state(&self) -> &State
+        ensures history { result.now.history ≡ self.now.history }
+        ensures stands { StandsFor (shown self.now.core self.now.policy) result.now }
+    {
+        self.book.state()
     }
 
     /// What became of the asks so far, in turn.
@@ -136,29 +212,53 @@ impl Engine {
         self.turns.finish()
     }
 
-    /// Answers an ask, and counts what is read of the cube.
-    #[tactic(auto, using(crate::proofs::Alone::turned))]
-    pub fn answer_counted<L: Ledger>(
+    /// Answers an ask, and counts what is read of the cube: the request is judged, all memory for the reply is taken, a
+    /// request that enters the history is kept in the journal, and only then it enters. The answer tells nothing of a
+    /// protected cell: with the changes for the cell by the history behind it, the same reply comes.
+    pub fn answer_counted<S: Store, L: Ledger>(
         &mut self,
         alloc: Global,
+        store: &mut S,
         ask: &Ask,
         steps: &mut Steps<L>,
     ) -> Reply
-        requires { 1 ≤ self.old.left }
-        ensures answered { (faults : ℕ) → Answered (manner self.old.core.dims) ask.now (rooms_of self.old) (rooms_of self.new) self.old.outcomes self.new.outcomes faults faults result }
+        requires left { 1 ≤ self.old.left }
+        requires attached { IsTrue (S.attached store.old) }
+        requires kept { IsTrue (S.told store.old) → IsKept self.old.core self.old.policy self.old.history self.old.journal (S.logs store.old self.old.journal.log).state }
+        ensures answered { Answered (manner self.old.core.dims) ask.now (rooms_of self.old) (rooms_of self.new) self.old.outcomes self.new.outcomes (S.faults store.old) (S.faults store.new) result }
+        ensures two_worlds { Opens self.old self.new ask.now result }
         ensures core { self.new.core ≡ self.old.core }
         ensures policy { self.new.policy ≡ self.old.policy }
         ensures left { self.new.left + 1 ≡ self.old.left }
+        ensures log { self.new.journal.log ≡ self.old.journal.log }
+        ensures told { S.told store.new ≡ S.told store.old }
+        ensures names { IsTrue (S.told store.old) → S.names store.new ≡ S.names store.old }
+        ensures stays { IsTrue (S.attached store.new) }
+        ensures others { OthersStay (S.told store.old) self.old.journal.log (S.logs store.old) (S.logs store.new) }
+        ensures calls { IsTrue (S.told store.old) → S.calls store.new ≤ S.calls store.old + 4 }
+
+        // An ask that adds nothing to the history leaves the store alone.
+        ensures untouched { next_in self.old.core.dims (rooms_of self.old) ask.now outcome.Given ≡ rooms_of self.old → store.new ≡ store.old }
+
+        // The engine belongs to the log as it stands. Where no keep failed, every crash leaves just the history behind it; at
+        // each moment of the call the history before it, alone or with one more request.
+        ensures kept { IsTrue (S.told store.old) → IsKept self.old.core self.old.policy self.new.history self.new.journal (S.logs store.new self.old.journal.log).state }
+        ensures exact { IsTrue (S.told store.old) → self.new.outcomes ≢ self.old.outcomes ++ outcome.JournalFault ∷ [] → IsExact self.old.core self.old.policy self.old.history (S.logs store.old self.old.journal.log).state → IsExact self.old.core self.old.policy self.new.history (S.logs store.new self.old.journal.log).state }
+        ensures within { IsTrue (S.told store.old) → IsWithin self.old.core self.old.policy self.new.history (S.logs store.new self.old.journal.log).state }
+        ensures crash { IsTrue (S.told store.old) → Gained (IsWithin self.old.core self.old.policy self.old.history) (S.logs store.old self.old.journal.log) (S.logs store.new self.old.journal.log) }
     {
-        let (reply, outcome) = reply_to(alloc, &mut self.book, ask, steps);
+        let prepared = prepare(alloc, &mut self.book, ask, steps);
+        let (reply, outcome) = settle(&mut self.book, store, ask, prepared);
+        let _rules = self.book.core();
         self.turns.record(outcome);
         reply
     }
 
     // Answers an ask with a count that is dropped.
-    pub(crate) fn answer_uncounted<L: Ledger>(
+    pub(crate) fn answer_uncounted<S: Store, L: Ledger>(
         &mut self,
         alloc: Global,
+        store: &mut S,
         ask: &Ask,
         blank: Blank,
     ) -> Reply
@@ -166,19 +266,30 @@ impl Engine {
         requires parts { blank.parts ≡ L.parts }
         requires some { 0 < L.parts }
         requires left { 1 ≤ self.old.left }
-        ensures answered { (faults : ℕ) → Answered (manner self.old.core.dims) ask.now (rooms_of self.old) (rooms_of self.new) self.old.outcomes self.new.outcomes faults faults result }
+        requires attached { IsTrue (S.attached store.old) }
+        requires kept { IsTrue (S.told store.old) → IsKept self.old.core self.old.policy self.old.history self.old.journal (S.logs store.old self.old.journal.log).state }
+        ensures answered { Answered (manner self.old.core.dims) ask.now (rooms_of self.old) (rooms_of self.new) self.old.outcomes self.new.outcomes (S.faults store.old) (S.faults store.new) result }
         ensures core { self.new.core ≡ self.old.core }
         ensures policy { self.new.policy ≡ self.old.policy }
         ensures left { self.new.left + 1 ≡ self.old.left }
+        ensures log { self.new.journal.log ≡ self.old.journal.log }
+        ensures told { S.told store.new ≡ S.told store.old }
+        ensures names { IsTrue (S.told store.old) → S.names store.new ≡ S.names store.old }
+        ensures stays { IsTrue (S.attached store.new) }
+        ensures untouched { next_in self.old.core.dims (rooms_of self.old) ask.now outcome.Given ≡ rooms_of self.old → store.new ≡ store.old }
+        ensures kept { IsTrue (S.told store.old) → IsKept self.old.core self.old.policy self.new.history self.new.journal (S.logs store.new self.old.journal.log).state }
+        ensures exact { IsTrue (S.told store.old) → self.new.outcomes ≢ self.old.outcomes ++ outcome.JournalFault ∷ [] → IsExact self.old.core self.old.policy self.old.history (S.logs store.old self.old.journal.log).state → IsExact self.old.core self.old.policy self.new.history (S.logs store.new self.old.journal.log).state }
+        ensures within { IsTrue (S.told store.old) → IsWithin self.old.core self.old.policy self.new.history (S.logs store.new self.old.journal.log).state }
+        ensures crash { IsTrue (S.told store.old) → Gained (IsWithin self.old.core self.old.policy self.old.history) (S.logs store.old self.old.journal.log) (S.logs store.new self.old.journal.log) }
     {
         let mut steps = Steps::<L>::new(blank);
-        self.answer_counted(alloc, ask, &mut steps)
+        self.answer_counted(alloc, store, ask, &mut steps)
     }
 
     // Takes down an ask that found no memory.
     pub(crate) fn record_miss(&mut self)
         requires { 1 ≤ self.old.left }
-        ensures { self.new ≡ record { core = self.old.core; policy = self.old.policy; history = self.old.history; outcomes = self.old.outcomes ++ outcome.NoMemory ∷ []; left = self.old.left - 1 } }
+        ensures { self.new ≡ record { core = self.old.core; policy = self.old.policy; history = self.old.history; journal = self.old.journal; outcomes = self.old.outcomes ++ outcome.NoMemory ∷ []; left = self.old.left - 1 } }
     {
         self.turns.record(Outcome::NoMemory);
     }

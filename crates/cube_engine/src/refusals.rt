@@ -4,7 +4,7 @@ ghost use Rattle.cube_model.specs.declared.policy.Policy.{Policy};
 ghost use Rattle.cube_model.specs.Cores.{shown};
 ghost use Rattle.cube_model.specs.Protection.{core_cell};
 ghost use Rattle.cube_query.specs.Canonical.{behind};
-ghost use Rattle.cube_engine.specs.AnswerText.{KeyFits};
+ghost use Rattle.cube_text.specs.Keys.{KeyFits};
 ghost use Rattle.cube_engine.specs.VerdictText.{cuboid_text, key_texts, cell_text, place_text, bracketed, verdict_text as verdict_words, unprotected, CellFits, IsVerdict};
 
 use cube_core::Core;

@@ -2,6 +2,7 @@
 ghost use Rattle.std.specs.Prelude.{◌≡◌, ◌++◌, [], ◌∷◌, codes, pos, neg_ℤ};
 ghost use Rattle.cube_model.specs.declared.ask.Ask.TheVariants.{Query, Group};
 ghost use Rattle.cube_model.specs.declared.ask.Inner.TheVariants.{Shape};
+ghost use Rattle.cube_model.specs.declared.entry.Entry.TheVariants.{Asked};
 ghost use Rattle.cube_model.specs.declared.outcome.Outcome.TheVariants.{Given, NoMemory};
 ghost use Rattle.cube_model.specs.declared.reply.Fixed.TheVariants as constant;
 ghost use Rattle.cube_model.specs.declared.reply.Kind.TheVariants.{Csv, Plain};
@@ -12,7 +13,7 @@ ghost use Rattle.cube_core.specs.Worked.{pay_core};
 ghost use Rattle.cube_dims.specs.Examples.{pay_dims};
 ghost use Rattle.cube_engine.specs.AnswerText.{answer_text};
 ghost use Rattle.cube_engine.specs.VerdictText.{unprotected, verdict_text};
-ghost use Rattle.cube_engine.specs.Examples.{cell, grouped, row, odd_dims, odd_request, odd_row, pay_rooms};
+ghost use Rattle.cube_engine.specs.Examples.{cell, grouped, row, odd_dims, odd_request, odd_row, pay_rooms, months};
 ghost use Rattle.cube_engine.specs.Steps.{reply_in, next_in};
 
 /// What the definitions write for some answers.
@@ -36,14 +37,19 @@ pub fn worked_refusals()
     ensures single { verdict_text pay_dims (unprotected pay_core) (Single 2 2 0) ≡ codes "single: link 2, (region.city=Nice, time.month=Jan), fixes the cell (region.city=Lyon, time.month=Jan)\n" }
 {}
 
-/// What the definitions reply to some asks of the pay cube where each measure is open.
+/// What the definitions reply to some asks of the pay cube, where each cell of a city in a month is protected.
 pub fn worked_asks()
-    ensures sum { reply_in pay_dims pay_rooms (Query (codes "cell pay")) Given ≡ Made 200 Csv (codes "pay\n150\n") }
-    ensures areas { reply_in pay_dims pay_rooms (Query (codes "slice pay by region.area")) Given ≡ Made 200 Csv (codes "region.area,pay\nSouth,60\nNorth,90\n") }
-    ensures word { reply_in pay_dims pay_rooms (Query (codes "cel pay")) Given ≡ Made 400 Plain (codes "syntax at byte 3\n") }
-    ensures member { reply_in pay_dims pay_rooms (Query (codes "cell pay region.city=Rome")) Given ≡ Made 404 Plain (codes "unknown member at byte 21\n") }
-    ensures backwards { reply_in pay_dims pay_rooms (Query (codes "range hours time.month=Feb..Jan")) Given ≡ Made 400 Plain (codes "backwards at byte 23\n") }
-    ensures group { reply_in pay_dims pay_rooms (Group (codes "none") Shape) Given ≡ Made 404 Plain (codes "unknown group\n") }
-    ensures memory { reply_in pay_dims pay_rooms (Query (codes "cell pay")) NoMemory ≡ Fixed constant.NoMemory }
-    ensures stays { next_in pay_dims pay_rooms (Query (codes "cell pay")) Given ≡ pay_rooms }
+    ensures sum { reply_in pay_dims (pay_rooms []) (Query (codes "cell pay")) Given ≡ Made 200 Csv (codes "pay\n150\n") }
+    ensures months { reply_in pay_dims (pay_rooms []) (Query (codes "slice pay by time.month")) Given ≡ Made 200 Csv (codes "time.month,pay\nJan,80\nFeb,70\n") }
+    ensures enters { next_in pay_dims (pay_rooms []) (Query (codes "slice pay by time.month")) Given ≡ pay_rooms (Asked months ∷ []) }
+    ensures areas { reply_in pay_dims (pay_rooms []) (Query (codes "slice pay by region.area")) Given ≡ Made 200 Csv (codes "region.area,pay\nSouth,60\nNorth,90\n") }
+    ensures areas_after_months { reply_in pay_dims (pay_rooms (Asked months ∷ [])) (Query (codes "slice pay by region.area")) Given ≡ Made 403 Plain (codes "source: the cuboid (region.area, time.month) does not cut the cell (region.city=Lyon, time.month=Feb)\n") }
+    ensures refused_stays { next_in pay_dims (pay_rooms (Asked months ∷ [])) (Query (codes "slice pay by region.area")) Given ≡ pay_rooms (Asked months ∷ []) }
+    ensures quarter_stays { next_in pay_dims (pay_rooms (Asked months ∷ [])) (Query (codes "slice pay by time.quarter")) Given ≡ pay_rooms (Asked months ∷ []) }
+    ensures word { reply_in pay_dims (pay_rooms []) (Query (codes "cel pay")) Given ≡ Made 400 Plain (codes "syntax at byte 3\n") }
+    ensures member { reply_in pay_dims (pay_rooms []) (Query (codes "cell pay region.city=Rome")) Given ≡ Made 404 Plain (codes "unknown member at byte 21\n") }
+    ensures backwards { reply_in pay_dims (pay_rooms []) (Query (codes "range hours time.month=Feb..Jan")) Given ≡ Made 400 Plain (codes "backwards at byte 23\n") }
+    ensures group { reply_in pay_dims (pay_rooms []) (Group (codes "none") Shape) Given ≡ Made 404 Plain (codes "unknown group\n") }
+    ensures memory { reply_in pay_dims (pay_rooms []) (Query (codes "slice pay by time.month")) NoMemory ≡ Fixed constant.NoMemory }
+    ensures memory_stays { next_in pay_dims (pay_rooms []) (Query (codes "slice pay by time.month")) NoMemory ≡ pay_rooms [] }
 {}

@@ -6,12 +6,13 @@ ghost use Rattle.cube_app.specs.Examples.{echo};
 ghost use Rattle.cube_app.specs.Words.{is_requests};
 
 use super::check::{PAY_DIMS, PAY_FACTS, files};
-use super::{DIMS, FILE, Given, Got, ran};
+use super::{DIMS, FILE, Given, Got, LOG, POLICY, ran, ran_over};
+use cube_io::{NullStore, Store};
 use std::alloc::Global;
 use std::test::Fail;
 
-// The pay cube, asked these lines.
-fn lines<'a>(input: &'a [u8]) -> Given<'a> {
+/// The pay cube, asked these lines.
+pub fn lines<'a>(input: &'a [u8]) -> Given<'a> {
     let mut given = files(PAY_DIMS, PAY_FACTS);
     given.input = input;
     given
@@ -30,7 +31,27 @@ fn worked_talk()
 {}
 
 fn asked(alloc: Global, given: &Given<'_>) -> Result<Got, Fail> {
-    ran(alloc, &[b"ask", b"--dims", DIMS, b"--facts", FILE], given)
+    asked_over(alloc, given, &mut NullStore::new())
+}
+
+/// What is asked over a store.
+pub fn asked_over<S: Store>(alloc: Global, given: &Given<'_>, store: &mut S) -> Result<Got, Fail> {
+    ran_over(
+        alloc,
+        &[
+            b"ask",
+            b"--dims",
+            DIMS,
+            b"--facts",
+            FILE,
+            b"--policy",
+            POLICY,
+            b"--journal",
+            LOG,
+        ],
+        given,
+        store,
+    )
 }
 
 #[test]
@@ -92,9 +113,9 @@ fn cells_without_facts_and_with_a_sum_of_0_differ(rt: HostRuntime) -> Result<(),
             b"200 6\ncount\n200 16\nregion.city,pay\n",
         ),
         (
-            b"city,month,pay,hours\nLyon,Jan,5,0\nLyon,Jan,-5,0\n",
-            b"slice pay by region.city\ncell count region.city=Lyon\n",
-            b"200 23\nregion.city,pay\nLyon,0\n200 8\ncount\n2\n",
+            b"city,month,pay,hours\nLyon,Jan,0,5\nLyon,Jan,0,-5\n",
+            b"slice hours by region.city\ncell count region.city=Lyon\n",
+            b"200 25\nregion.city,hours\nLyon,0\n200 8\ncount\n2\n",
         ),
     ];
     for (facts, input, written) in cases {
@@ -158,6 +179,10 @@ fn no_more_asks_are_answered_than_are_stated(rt: HostRuntime) -> Result<(), Fail
                 DIMS,
                 b"--facts",
                 FILE,
+                b"--policy",
+                POLICY,
+                b"--journal",
+                LOG,
             ],
             &lines(b"cell pay\ncell pay\ncell pay\n"),
         )?;

@@ -1,17 +1,95 @@
-// An engine over the pay cube, asked through its desk.
+// Engines over small cubes under a policy, asked through their desk.
+ghost use Rattle.std.specs.Prelude.{IsTrue, IfOk};
+
 use super::{PAY, PAY_FACTS, core_of};
-use crate::{Engine, open_policy};
+use crate::Engine;
 use cube_io::{Desk, NullStore, Store};
 use cube_model::{Ask, Fixed, Inner, NoMemory, Outcome, Reply, Text};
+use cube_policy::read_policy;
 use std::alloc::Global;
 use std::process::Abort;
 use std::test::Fail;
 
-/// An engine over the pay cube, with room for so many asks.
-fn pay_engine(alloc: Global, room: u64) -> Result<Engine, Fail> {
-    let core = core_of(alloc, PAY, PAY_FACTS)?;
-    let policy = open_policy(alloc, core.dims())?;
-    Ok(Engine::start(alloc, core, policy, room)?)
+/// Pay is under the source rule, each cell of a city in a month is protected; hours are under the parity rule.
+const PAY_POLICY: &[u8] = b"[[measure]]
+name = \"pay\"
+method = \"lattice\"
+[[measure]]
+name = \"hours\"
+method = \"parity\"
+[[object]]
+measure = \"pay\"
+below = { region = \"city\", time = \"month\" }
+";
+
+/// The same, but that of the hours those in the South alone are protected.
+const SOUTH_POLICY: &[u8] = b"[[measure]]
+name = \"pay\"
+method = \"lattice\"
+[[measure]]
+name = \"hours\"
+method = \"parity\"
+[[object]]
+measure = \"pay\"
+below = { region = \"city\", time = \"month\" }
+[[object]]
+measure = \"hours\"
+below = { region = \"city\", time = \"month\" }
+slice = { region = { level = \"area\", members = [\"South\"] } }
+";
+
+const ROWS: &[u8] = b"[[dimension]]
+name = \"row\"
+levels = [\"r\"]
+paths = [[\"r0\"], [\"r1\"]]
+[[dimension]]
+name = \"col\"
+levels = [\"c\"]
+paths = [[\"c0\"], [\"c1\"], [\"c2\"]]
+[[measure]]
+name = \"v\"
+";
+
+const ROWS_POLICY: &[u8] = b"[[measure]]
+name = \"v\"
+method = \"parity\"
+";
+
+const SOME_FACTS: &[u8] = b"r,c,v\nr0,c1,7\nr1,c0,8\nr1,c2,9\n";
+
+const ALL_FACTS: &[u8] = b"r,c,v\nr0,c0,1\nr0,c1,2\nr0,c2,3\nr1,c0,4\nr1,c1,5\nr1,c2,6\n";
+
+/// A store that keeps nothing.
+fn null_store(alloc: Global) -> Result<NullStore, Fail>
+    ensures { IfOk result (λ store. IsTrue (⟦<NullStore as Store>⟧.attached store)) }
+{
+    let mut store = NullStore::new();
+    match store.attach(&Text::from_bytes(alloc, b"log")?) {
+        Ok(()) => Ok(store),
+        Err(_) => Err(Fail::from("no store")),
+    }
+}
+
+/// An engine over a cube under a policy, with room for so many asks.
+fn engine_of(
+    alloc: Global,
+    dims: &[u8],
+    facts: &[u8],
+    policy: &[u8],
+    store: &mut NullStore,
+    room: u64,
+) -> Result<Engine, Fail>
+    requires { IsTrue (⟦<NullStore as Store>⟧.attached store.old) }
+    ensures { IfOk result (λ engine. ⟦<Engine as Desk<NullStore>>⟧.fits engine store.new) }
+{
+    let core = core_of(alloc, dims, facts)?;
+    let Ok(policy) = read_policy(alloc, core.dims(), policy) else {
+        return Err(Fail::from("no policy"));
+    };
+    match Engine::start(alloc, core, policy, store, 0, room) {
+        Ok(engine) => Ok(engine),
+        Err(_) => Err(Fail::from("no engine")),
+    }
 }
 
 /// One ask, where there is room for it.
@@ -22,6 +100,7 @@ fn put<S: Store, D: Desk<S>>(
     ask: &Ask,
 ) -> Result<Reply, &'static str>
     requires { D.fits desk.old store.old }
+    ensures { D.fits desk.new store.new }
 {
     if desk.left() == 0 {
         return Err("no room");
@@ -58,10 +137,14 @@ fn check_made(
     rt: &impl Abort,
     alloc: Global,
     engine: &mut Engine,
+    store: &mut NullStore,
     ask: &Ask,
     wanted: (u16, &[u8]),
-) -> Result<(), Fail> {
-    match put(alloc, engine, &mut NullStore::new(), ask)? {
+) -> Result<(), Fail>
+    requires { ⟦<Engine as Desk<NullStore>>⟧.fits engine.old store.old }
+    ensures { ⟦<Engine as Desk<NullStore>>⟧.fits engine.new store.new }
+{
+    match put(alloc, engine, store, ask)? {
         Reply::Made { status, body, .. } => {
             assert_eq!(rt; status, wanted.0);
             assert_eq!(rt; body.as_slice(), wanted.1);
@@ -78,9 +161,45 @@ const CASES: &[Case] = &[
     (None, b"cell pay", 200, b"pay\n150\n"),
     (
         None,
-        b"slice pay by region.area",
+        b"slice pay by region.city",
+        403,
+        b"source: the cuboid (region.city) does not cut the cell (region.city=Nice, time.month=Jan)\n",
+    ),
+    (
+        None,
+        b"slice pay by time.month",
         200,
-        b"region.area,pay\nSouth,60\nNorth,90\n",
+        b"time.month,pay\nJan,80\nFeb,70\n",
+    ),
+    (
+        None,
+        b"slice pay by time.month",
+        200,
+        b"time.month,pay\nJan,80\nFeb,70\n",
+    ),
+    (
+        None,
+        b"slice pay by time.quarter",
+        200,
+        b"time.quarter,pay\nQ1,150\n",
+    ),
+    (
+        None,
+        b"slice pay by region.area",
+        403,
+        b"source: the cuboid (region.area, time.month) does not cut the cell (region.city=Lyon, time.month=Feb)\n",
+    ),
+    (
+        None,
+        b"range hours region.city=Lyon..Nice, time.month=Jan..Jan",
+        200,
+        b"hours\n4\n",
+    ),
+    (
+        None,
+        b"range hours region.city=Lyon..Nice, time.month=Jan..Feb",
+        403,
+        b"single: link 2, (region.city=Nice, time.month=Jan), fixes the cell (region.city=Lyon, time.month=Jan)\n",
     ),
     (None, b"cel pay", 400, b"syntax at byte 3\n"),
     (None, b"cell tax", 404, b"unknown measure at byte 5\n"),
@@ -110,46 +229,152 @@ fn check_cases(
     rt: &impl Abort,
     alloc: Global,
     engine: &mut Engine,
+    store: &mut NullStore,
     cases: &[Case],
-) -> Result<(), Fail> {
-    for (group, query, status, body) in cases {
+) -> Result<(), Fail>
+    requires { ⟦<Engine as Desk<NullStore>>⟧.fits engine.old store.old }
+    ensures { ⟦<Engine as Desk<NullStore>>⟧.fits engine.new store.new }
+{
+    'cases: for (group, query, status, body) in cases {
         let ask = ask_of(alloc, *group, query)?;
-        check_made(rt, alloc, engine, &ask, (*status, *body))?;
+        check_made(rt, alloc, engine, store, &ask, (*status, *body))?;
     }
     Ok(())
 }
 
 #[test]
 fn queries_get_their_answers_and_faults(rt: HostRuntime) -> Result<(), Fail> {
-    let mut engine = pay_engine(rt.alloc(), 11)?;
-    check_cases(&rt, rt.alloc(), &mut engine, CASES)?;
-    assert_eq!(&rt; engine.outcomes(), [Outcome::Given; 9].as_slice());
-    assert_eq!(&rt; room_left(&engine, &NullStore::new()), 2);
+    let mut store = null_store(rt.alloc())?;
+    let mut engine = engine_of(rt.alloc(), PAY, PAY_FACTS, PAY_POLICY, &mut store, 17)?;
+    check_cases(&rt, rt.alloc(), &mut engine, &mut store, CASES)?;
+    assert_eq!(&rt; engine.outcomes(), [Outcome::Given; 15].as_slice());
+    assert_eq!(&rt; room_left(&engine, &store), 2);
     Ok(())
 }
 
 /// The constant replies of an engine, and what became of the asks.
-fn check_constants(rt: &impl Abort, alloc: Global, engine: &mut Engine) -> Result<(), Fail> {
+fn check_constants(
+    rt: &impl Abort,
+    alloc: Global,
+    engine: &mut Engine,
+    store: &mut NullStore,
+) -> Result<(), Fail>
+    requires { ⟦<Engine as Desk<NullStore>>⟧.fits engine.old store.old }
+{
     let witness = Ask::Witness(Text::from_bytes(alloc, b"cell pay")?);
     let replies = [
-        put(alloc, engine, &mut NullStore::new(), &witness)?,
-        put(alloc, engine, &mut NullStore::new(), &Ask::Shape)?,
-        put_missed(engine, &NullStore::new())?,
+        put(alloc, engine, store, &witness)?,
+        put(alloc, engine, store, &Ask::Shape)?,
+        put_missed(engine, store)?,
     ];
     assert!(rt; matches!(replies[0], Reply::Fixed(Fixed::NoPath)));
     assert!(rt; matches!(replies[1], Reply::Fixed(Fixed::NoPath)));
     assert!(rt; matches!(replies[2], Reply::Fixed(Fixed::NoMemory)));
-    assert_eq!(rt; room_left(engine, &NullStore::new()), 0);
+    assert_eq!(rt; room_left(engine, store), 0);
     Ok(())
 }
 
 #[test]
 fn a_missed_ask_is_taken_down(rt: HostRuntime) -> Result<(), Fail> {
-    let mut engine = pay_engine(rt.alloc(), 3)?;
-    check_constants(&rt, rt.alloc(), &mut engine)?;
+    let mut store = null_store(rt.alloc())?;
+    let mut engine = engine_of(rt.alloc(), PAY, PAY_FACTS, PAY_POLICY, &mut store, 3)?;
+    check_constants(&rt, rt.alloc(), &mut engine, &mut store)?;
     assert_eq!(&rt;
         engine.finish().as_slice(),
         [Outcome::Given, Outcome::Given, Outcome::NoMemory].as_slice()
     );
     Ok(())
+}
+
+const AREAS: &[Case] = &[(
+    None,
+    b"slice pay by region.area",
+    200,
+    b"region.area,pay\nSouth,60\nNorth,90\n",
+)];
+
+const SOUTH: &[Case] = &[
+    (
+        None,
+        b"cell hours region.city=Paris, time.month=Jan",
+        200,
+        b"hours\n4\n",
+    ),
+    (
+        None,
+        b"range hours region.city=Nice..Paris, time.month=Jan..Jan",
+        403,
+        b"pair: link 1, (region.city=Nice, time.month=Jan) and (region.city=Paris, time.month=Jan), fixes the cell (region.city=Nice, time.month=Jan)\n",
+    ),
+    (
+        None,
+        b"cell hours region.area=South",
+        403,
+        b"single: link 2, (region.city=Nice, time.month=Jan), fixes the cell (region.city=Nice, time.month=Jan)\n",
+    ),
+];
+
+const TRIANGLE: &[Case] = &[
+    (None, b"range v col.c=c0..c1", 200, b"v\n15\n"),
+    (None, b"cell v row.r=r1", 200, b"v\n17\n"),
+    (
+        None,
+        b"range v col.c=c1..c2",
+        403,
+        b"pair: link 1, (row.r=r0, col.c=c1) and (row.r=r1, col.c=c2), fixes the cell (row.r=r0, col.c=c1)\n",
+    ),
+];
+
+const BOXES: &[Case] = &[
+    (None, b"range v col.c=c0..c0", 200, b"v\n5\n"),
+    (None, b"range v col.c=c1..c1", 200, b"v\n7\n"),
+    (None, b"range v col.c=c2..c2", 200, b"v\n9\n"),
+    (None, b"range v col.c=c0..c1", 200, b"v\n12\n"),
+    (None, b"range v col.c=c1..c2", 200, b"v\n16\n"),
+    (None, b"range v col.c=c0..c2", 200, b"v\n21\n"),
+    (None, b"range v row.r=r0..r0, col.c=c0..c1", 200, b"v\n3\n"),
+    (None, b"range v row.r=r0..r0, col.c=c1..c2", 200, b"v\n5\n"),
+    (None, b"range v row.r=r1..r1, col.c=c0..c1", 200, b"v\n9\n"),
+    (None, b"range v row.r=r1..r1, col.c=c1..c2", 200, b"v\n11\n"),
+    (
+        None,
+        b"cell v row.r=r0",
+        403,
+        b"single: link 2, (row.r=r0, col.c=c2), fixes the cell (row.r=r0, col.c=c0)\n",
+    ),
+];
+
+/// A new engine over these files answers these cases, one behind the other.
+fn check_history(
+    rt: &impl Abort,
+    alloc: Global,
+    dims: &[u8],
+    facts: &[u8],
+    policy: &[u8],
+    cases: &[Case],
+) -> Result<(), Fail> {
+    let mut store = null_store(alloc)?;
+    let room = cases.len() as u64;
+    let mut engine = engine_of(alloc, dims, facts, policy, &mut store, room)?;
+    check_cases(rt, alloc, &mut engine, &mut store, cases)
+}
+
+#[test]
+fn areas_are_answered_where_nothing_was(rt: HostRuntime) -> Result<(), Fail> {
+    check_history(&rt, rt.alloc(), PAY, PAY_FACTS, PAY_POLICY, AREAS)
+}
+
+#[test]
+fn hours_of_the_south_alone_are_protected(rt: HostRuntime) -> Result<(), Fail> {
+    check_history(&rt, rt.alloc(), PAY, PAY_FACTS, SOUTH_POLICY, SOUTH)
+}
+
+#[test]
+fn a_link_that_closes_a_triangle_is_refused(rt: HostRuntime) -> Result<(), Fail> {
+    check_history(&rt, rt.alloc(), ROWS, SOME_FACTS, ROWS_POLICY, TRIANGLE)
+}
+
+#[test]
+fn even_boxes_on_a_full_core_are_answered(rt: HostRuntime) -> Result<(), Fail> {
+    check_history(&rt, rt.alloc(), ROWS, ALL_FACTS, ROWS_POLICY, BOXES)
 }

@@ -1,13 +1,20 @@
 use Rattle.std.proofs.Common.{◌∙◌, inl, inr, subst}
 use Rattle.cube_app.specs.Reports.{Prints}
+use Rattle.cube_app.proofs.Opened.{all_accepted}
 use Rattle.cube_app.proofs.run.check.Goals as goal
 
 pub returns-in-Ok-check_text-clause-checks : goal.returns-in-Ok-check_text-clause-checks
 returns-in-Ok-check_text-clause-checks g c = inr (
   record {
-    core = c.in-Ok.opened.value;
+    core = c.in-Ok.opened.value.core;
+    policy = c.in-Ok.opened.value.policy;
     files_make = c.in-Ok.ensures.ok.1;
     printed = inl (subst (λ text. Prints text (g.O.Sink.written c.args.out.now) (g.O.Sink.written c.print.new.out) c.print.result) (c.as_slice.ensures ∙ c.in-Ok-check_text.ensures) c.print.ensures.prints);
   },
   c.in-Ok.ensures.steady,
 )
+
+pub returns-in-Err-clause-complete : goal.returns-in-Err-clause-complete
+returns-in-Err-clause-complete g c = λ all files out.
+    let before = g.F.Folder.faults c.args.files.now in
+    inr (all_accepted c.args.dims_name.now c.args.facts_name.now c.args.policy_name.now (g.F.Folder.files c.args.files.now) before (g.F.Folder.faults c.open_guarded.new.files) c.in-Err.report c.in-Err.ensures.err all files)

@@ -1,0 +1,127 @@
+-- Over a world with the changes for a protected cell the same talk is written.
+use Rattle.std.proofs.Common.{◌≡◌, ◌∙◌, refl, sym, ap, subst, ℕ, List, [], ◌∷◌, ◌++◌, inl, inr}
+use Rattle.std.specs.declared.option.Option.{Option}
+use Rattle.std.specs.Str.Lines.{lines}
+use Rattle.cube_model.specs.declared.ask.Inner.TheVariants.{Query}
+use Rattle.cube_model.specs.declared.cell.Cell.{Cell}
+use Rattle.cube_model.specs.declared.entry.Entry.{Entry}
+use Rattle.cube_model.specs.declared.outcome.Outcome.{Outcome}
+use Rattle.cube_model.specs.declared.policy.Policy.{Policy}
+use Rattle.cube_model.specs.Cores.{Core, IsCore, shown, world}
+use Rattle.cube_model.specs.Cubes.{World, IsWorld, IsIn}
+use Rattle.cube_model.specs.Dims.{Dims}
+use Rattle.cube_model.specs.Policies.{IsPolicy}
+use Rattle.cube_model.specs.Protection.{protected}
+use Rattle.cube_model.specs.Rooms.{Room, alone}
+use Rattle.cube_model.specs.Twins.{changes, twin}
+use Rattle.cube_model.specs.TwoWorlds.{Extends}
+use Rattle.cube_model.specs.Verdicts.{IsAdmissible}
+use Rattle.cube_model.proofs.Filled.{cores_are_worlds}
+use Rattle.cube_model.proofs.Growth.{extends_refl, extends_trans}
+use Rattle.std.specs.Io.KnownBytes.{Appends}
+use Rattle.cube_io.specs.Content.{AppendsPrefix}
+use Rattle.cube_engine.specs.Steps.{manner, next_in, reply_in, inner_history}
+use Rattle.cube_engine.specs.Worlds.{first_history}
+use Rattle.cube_engine.proofs.Worlds.{room_open, other_sum, inner_grows, inner_stays}
+use Rattle.cube_app.specs.AskLaws.{by_test, said_long, said_one, rooms_long, rooms_one}
+use Rattle.cube_app.specs.Asks.{is_too_long, too_large, ask_of, said, rooms_behind, up_to_asks, talk, Says, Talked}
+use Rattle.cube_app.specs.Lines.{ended_lines}
+use Rattle.cube_app.specs.Replies.{reply_text}
+use Rattle.cube_app.specs.Worlds.{history_behind, twin_behind, Hides}
+use Rattle.cube_app.specs.declared.talk.Ending.{Ending}
+use Rattle.cube_app.specs.declared.talk.Ending.TheVariants.{Ended, InputFailed, OutputFailed, NoMemory, Spent}
+
+-- ---- the history behind some lines
+
+abbrev behind : Dims → World → List Entry → List (List ℕ) → List Outcome → List Entry
+behind s w h ls os = first_history (rooms_behind (manner s) (alone w h) ls os)
+
+-- it has what the first has, where each ask keeps it
+behind_keeps : (P : List Entry → Type 0) (s : Dims) (w : World) → ((h : List Entry) (line : List ℕ) (o : Outcome) → P h → P (inner_history o s w.shown h (Query line))) → (h : List Entry) (ls : List (List ℕ)) (os : List Outcome) → P h → P (behind s w h ls os)
+behind_keeps P s w step h [] os p = p
+behind_keeps P s w step h (line ∷ rest) [] p = by_test (is_too_long line)
+    (λ long. subst (λ (rs : List Room). P (first_history rs)) (sym (rooms_long (manner s) (alone w h) line rest [] long)) (behind_keeps P s w step h rest [] p))
+    (λ short. rw short p)
+behind_keeps P s w step h (line ∷ rest) (o ∷ os) p = by_test (is_too_long line)
+    (λ long. subst (λ (rs : List Room). P (first_history rs)) (sym (rooms_long (manner s) (alone w h) line rest (o ∷ os) long)) (behind_keeps P s w step h rest (o ∷ os) p))
+    (λ short. subst (λ (rs : List Room). P (first_history rs)) (sym (rooms_one (manner s) (alone w h) line rest o os short)) (behind_keeps P s w step (inner_history o s w.shown h (Query line)) rest os (step h line o p)))
+
+pub behind_grows : (s : Dims) (w : World) (h : List Entry) (ls : List (List ℕ)) (os : List Outcome) → Extends h (behind s w h ls os)
+behind_grows s w h ls os = behind_keeps (λ (k : List Entry). Extends h k) s w (λ k line o more. extends_trans h k (inner_history o s w.shown k (Query line)) more (inner_grows s w.shown k (Query line) o)) h ls os (extends_refl h)
+
+behind_stays : (s : Dims) (w : World) (h : List Entry) (ls : List (List ℕ)) (os : List Outcome) → IsAdmissible w.shown h → IsAdmissible w.shown (behind s w h ls os)
+behind_stays s w h ls os adm = behind_keeps (IsAdmissible w.shown) s w (λ k line o adm. inner_stays s w.shown k (Query line) o adm) h ls os adm
+
+extends_by : (a a' b b' : List Room) → a ≡ a' → b ≡ b' → Extends (first_history a') (first_history b') → Extends (first_history a) (first_history b)
+extends_by a a' b b' e f x = subst (λ (rs : List Room). Extends (first_history rs) (first_history b)) (sym e) (subst (λ (rs : List Room). Extends (first_history a') (first_history rs)) (sym f) x)
+
+-- the history behind more lines has that behind the first of them
+pub behind_more : (s : Dims) (w : World) (h : List Entry) (first more : List (List ℕ)) (os : List Outcome) → Extends (first_history (rooms_behind (manner s) (alone w h) first os)) (first_history (rooms_behind (manner s) (alone w h) (first ++ more) os))
+behind_more s w h [] more os = behind_grows s w h more os
+behind_more s w h (line ∷ rest) more [] = by_test (is_too_long line)
+    (λ long. extends_by (rooms_behind (manner s) (alone w h) (line ∷ rest) []) (rooms_behind (manner s) (alone w h) rest []) (rooms_behind (manner s) (alone w h) (line ∷ rest ++ more) []) (rooms_behind (manner s) (alone w h) (rest ++ more) [])
+    (rooms_long (manner s) (alone w h) line rest [] long) (rooms_long (manner s) (alone w h) line (rest ++ more) [] long) (behind_more s w h rest more []))
+    (λ short. rw short (extends_refl h))
+behind_more s w h (line ∷ rest) more (o ∷ os) = by_test (is_too_long line)
+    (λ long. extends_by (rooms_behind (manner s) (alone w h) (line ∷ rest) (o ∷ os)) (rooms_behind (manner s) (alone w h) rest (o ∷ os)) (rooms_behind (manner s) (alone w h) (line ∷ rest ++ more) (o ∷ os)) (rooms_behind (manner s) (alone w h) (rest ++ more) (o ∷ os))
+    (rooms_long (manner s) (alone w h) line rest (o ∷ os) long) (rooms_long (manner s) (alone w h) line (rest ++ more) (o ∷ os) long) (behind_more s w h rest more (o ∷ os)))
+    (λ short.
+    let next = inner_history o s w.shown h (Query line) in
+    extends_by (rooms_behind (manner s) (alone w h) (line ∷ rest) (o ∷ os)) (rooms_behind (manner s) (alone w next) rest os) (rooms_behind (manner s) (alone w h) (line ∷ rest ++ more) (o ∷ os)) (rooms_behind (manner s) (alone w next) (rest ++ more) os)
+    (rooms_one (manner s) (alone w h) line rest o os short) (rooms_one (manner s) (alone w h) line (rest ++ more) o os short) (behind_more s w next rest more os))
+
+-- ---- what is said to them
+
+said_open : (s : Dims) (w : World) (h last : List Entry) (ls : List (List ℕ)) (os : List Outcome) (m : ℕ) (t : Cell) → IsWorld w → IsAdmissible w.shown last → Extends (behind s w h ls os) last → IsIn t (protected w.shown m)
+    → said (manner s) (alone (twin w m (changes w.shown last m t)) h) ls os ≡ said (manner s) (alone w h) ls os
+said_open s w h last [] os m t ok adm ext within = refl
+said_open s w h last (line ∷ rest) [] m t ok adm ext within = by_test (is_too_long line)
+    (λ long. let v = twin w m (changes w.shown last m t) in
+    said_long (manner s) (alone v h) line rest [] long
+    ∙ ap (λ (text : List ℕ). too_large ++ text) (said_open s w h last rest [] m t ok adm (subst (λ (rs : List Room). Extends (first_history rs) last) (rooms_long (manner s) (alone w h) line rest [] long) ext) within)
+    ∙ sym (said_long (manner s) (alone w h) line rest [] long))
+    (λ short. rw short refl)
+said_open s w h last (line ∷ rest) (o ∷ os) m t ok adm ext within = by_test (is_too_long line)
+    (λ long. let v = twin w m (changes w.shown last m t) in
+    said_long (manner s) (alone v h) line rest (o ∷ os) long
+    ∙ ap (λ (text : List ℕ). too_large ++ text) (said_open s w h last rest (o ∷ os) m t ok adm (subst (λ (rs : List Room). Extends (first_history rs) last) (rooms_long (manner s) (alone w h) line rest (o ∷ os) long) ext) within)
+    ∙ sym (said_long (manner s) (alone w h) line rest (o ∷ os) long))
+    (λ short.
+    let v = twin w m (changes w.shown last m t) in
+    let next = inner_history o s w.shown h (Query line) in
+    let there : Extends (behind s w next rest os) last = subst (λ (rs : List Room). Extends (first_history rs) last) (rooms_one (manner s) (alone w h) line rest o os short) ext in
+    let first = room_open s w h last (ask_of line) o m t ok adm (extends_trans next (behind s w next rest os) last (behind_grows s w next rest os) there) within in
+    let more = said_open s w next last rest os m t ok adm there within in
+    said_one (manner s) (alone v h) line rest o os short
+    ∙ ap (λ r. reply_text r ++ said (manner s) (next_in s (alone v h) (ask_of line) o) rest os) first
+    ∙ ap (λ (text : List ℕ). reply_text (reply_in s (alone w h) (ask_of line) o) ++ text) more
+    ∙ sym (said_one (manner s) (alone w h) line rest o os short))
+
+talk_open : (s : Dims) (w : World) (h : List Entry) (ls : List (List ℕ)) (os : List Outcome) (stated m : ℕ) (t : Cell) → IsWorld w → IsAdmissible w.shown h → IsIn t (protected w.shown m) → talk (manner s) (alone (twin_behind s w h stated ls os m t) h) ls os stated ≡ talk (manner s) (alone w h) ls os stated
+talk_open s w h ls os stated m t ok adm within = said_open s w h (history_behind s w h stated ls os) (up_to_asks stated ls) os m t ok (behind_stays s w h (up_to_asks stated ls) os adm) (extends_refl (history_behind s w h stated ls os)) within
+
+-- ---- what was written of it
+
+-- some lines, with the changes behind which the same was written
+record IsSaid (s : Dims) (w : World) (h : List Entry) (ending : Ending) (stated : ℕ) (os : List Outcome) (text : List ℕ) (old new : Option (List ℕ)) (m : ℕ) (t : Cell) : Type 0 where
+  ls : List (List ℕ)
+  says : Says ending (manner s) (alone (twin_behind s w h stated ls os m t) h) stated os text old new
+
+says_open : (s : Dims) (w : World) (h : List Entry) (ending : Ending) (stated : ℕ) (os : List Outcome) (text : List ℕ) (old new : Option (List ℕ)) (m : ℕ) (t : Cell) → IsWorld w → IsAdmissible w.shown h → IsIn t (protected w.shown m) → Says ending (manner s) (alone w h) stated os text old new → IsSaid s w h ending stated os text old new m t
+says_open s w h Ended stated os text old new m t ok adm within says = record { ls = lines text; says = (says.0, says.1, says.2, subst (Appends old new) (sym (talk_open s w h (lines text) os stated m t ok adm within)) says.3) }
+says_open s w h InputFailed stated os text old new m t ok adm within says = record { ls = ended_lines text; says = (says.0, says.1, says.2, subst (Appends old new) (sym (talk_open s w h (ended_lines text) os stated m t ok adm within)) says.3) }
+says_open s w h OutputFailed stated os text old new m t ok adm within says = record { ls = lines text; says = subst (AppendsPrefix old new) (sym (talk_open s w h (lines text) os stated m t ok adm within)) says }
+says_open s w h NoMemory stated os text old new m t ok adm within says = absurd says
+says_open s w h Spent stated os text old new m t ok adm within (inl all) = record { ls = lines text; says = inl (all.0, all.1, subst (Appends old new) (sym (talk_open s w h (lines text) os stated m t ok adm within)) all.2) }
+says_open s w h Spent stated os text old new m t ok adm within (inr full) = record { ls = ended_lines text; says = inr (full.0, full.1, full.2, subst (Appends old new) (sym (talk_open s w h (ended_lines text) os stated m t ok adm within)) full.3) }
+
+pub hidden : (core : Core) (policy : Policy) (h : List Entry) (stated : ℕ) (ending : Ending) (os : List Outcome) (bytes : ℕ) (left left' written written' : Option (List ℕ)) → IsCore core → IsPolicy core.dims policy → IsAdmissible (shown core policy) h
+    → Talked (manner core.dims) (alone (world core policy) h) stated ending os bytes left left' written written' → Hides core policy h stated ending os bytes left left' written written'
+hidden core policy h stated ending os bytes left left' written written' is_core is_policy adm talked m t within =
+    let ok : IsWorld (world core policy) = cores_are_worlds core policy is_core is_policy.methods in
+    let said = says_open core.dims (world core policy) h ending stated os talked.text written written' m t ok adm within talked.says in
+    record {
+      lines = said.ls;
+      talked = record { text = talked.text; taken = talked.taken; counted = talked.counted; first = talked.first; more = talked.more; split = talked.split; matched = talked.matched; says = said.says };
+      other_sum = other_sum (world core policy) (history_behind core.dims (world core policy) h stated said.ls os) m t ok (behind_stays core.dims (world core policy) h (up_to_asks stated said.ls) os adm) within;
+    }

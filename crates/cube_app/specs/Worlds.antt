@@ -1,0 +1,36 @@
+-- What `ask` writes tells nothing of a protected cell.
+use Rattle.std.specs.Prelude.{◌≡◌, ℕ, List, pos, ◌+ℤ◌}
+use Rattle.std.specs.declared.option.Option.{Option}
+use Rattle.cube_model.specs.declared.cell.Cell.{Cell}
+use Rattle.cube_model.specs.declared.entry.Entry.{Entry}
+use Rattle.cube_model.specs.declared.outcome.Outcome.{Outcome}
+use Rattle.cube_model.specs.declared.policy.Policy.{Policy}
+use Rattle.cube_model.specs.Cores.{Core, shown, world}
+use Rattle.cube_model.specs.Cubes.{World, IsIn}
+use Rattle.cube_model.specs.Dims.{Dims}
+use Rattle.cube_model.specs.Protection.{protected}
+use Rattle.cube_model.specs.Rooms.{alone}
+use Rattle.cube_model.specs.Twins.{changes, twin, sum_of}
+use Rattle.cube_engine.specs.Steps.{manner}
+use Rattle.cube_engine.specs.Worlds.{first_history}
+use Rattle.cube_app.specs.Asks.{rooms_behind, up_to_asks, Talked}
+use Rattle.cube_app.specs.declared.talk.Ending.{Ending}
+
+-- the history behind some lines, by what became of their asks
+abbrev pub history_behind : Dims → World → List Entry → ℕ → List (List ℕ) → List Outcome → List Entry
+history_behind s w h stated ls os = first_history (rooms_behind (manner s) (alone w h) (up_to_asks stated ls) os)
+
+-- the world with the changes for a cell by the history behind them
+abbrev pub twin_behind : Dims → World → List Entry → ℕ → List (List ℕ) → List Outcome → ℕ → Cell → World
+twin_behind s w h stated ls os m t = twin w m (changes w.shown (history_behind s w h stated ls os) m t)
+
+-- Over the other world the same would have been written, while the sum of the cell is greater by one there.
+pub record IsHidden (core : Core) (policy : Policy) (history : List Entry) (stated : ℕ) (ending : Ending) (os : List Outcome) (bytes : ℕ) (left left' written written' : Option (List ℕ)) (m : ℕ) (t : Cell) : Type 0 where
+  pub lines : List (List ℕ)
+  pub talked : Talked (manner core.dims) (alone (twin_behind core.dims (world core policy) history stated lines os m t) history) stated ending os bytes left left' written written'
+  pub other_sum : sum_of (twin_behind core.dims (world core policy) history stated lines os m t) m t ≡ sum_of (world core policy) m t +ℤ pos 1
+
+-- The two worlds: so it is for whatever protected cell of whatever measure.
+abbrev pub Hides : Core → Policy → List Entry → ℕ → Ending → List Outcome → ℕ → Option (List ℕ) → Option (List ℕ) → Option (List ℕ) → Option (List ℕ) → Type 0
+Hides core policy history stated ending os bytes left left' written written' =
+    (m : ℕ) (t : Cell) → IsIn t (protected (shown core policy) m) → IsHidden core policy history stated ending os bytes left left' written written' m t

@@ -1,0 +1,8 @@
+use Rattle.cube_engine.proofs.Logs.{log_within, log_crash}
+use Rattle.cube_engine.proofs.desk.EngineDesk.answer.Goals as goal
+
+pub returns-clause-passed : goal.returns-clause-passed
+returns-clause-passed g c = λ told log within. log_crash c.args.self.now.core c.args.self.now.policy c.args.self.now.history c.answer_uncounted.new.self.history (g.S.Store.logs c.args.store.now) (g.S.Store.logs c.answer_uncounted.new.store) c.args.self.now.journal.log log within.0 (c.answer_uncounted.ensures.crash told)
+
+pub returns-clause-within : goal.returns-clause-within
+returns-clause-within g c = λ told log within. log_within c.args.self.now.core c.answer_uncounted.new.self.core c.args.self.now.policy c.answer_uncounted.new.self.policy c.answer_uncounted.new.self.history (g.S.Store.logs c.answer_uncounted.new.store) c.args.self.now.journal.log c.answer_uncounted.new.self.journal.log log within.0 c.answer_uncounted.ensures.core c.answer_uncounted.ensures.policy c.answer_uncounted.ensures.log (c.answer_uncounted.ensures.within told)

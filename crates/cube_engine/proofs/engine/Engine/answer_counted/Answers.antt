@@ -1,0 +1,45 @@
+use Rattle.std.proofs.Common.{◌≡◌, ◌≢◌, ap, ◌∙◌, subst}
+use Rattle.cube_model.specs.declared.outcome.Outcome.TheVariants.{Given}
+use Rattle.cube_model.specs.Cores.{Core}
+use Rattle.cube_model.specs.Dims.{IsDims}
+use Rattle.cube_engine.specs.Books.{Book, book_rooms}
+use Rattle.cube_engine.specs.Engines.{Engine, rooms_of}
+use Rattle.cube_engine.specs.Kept.{IsWithin}
+use Rattle.cube_engine.specs.Prepared.{SettleCause}
+use Rattle.cube_engine.specs.Steps.{manner, reply_in, next_in}
+use Rattle.cube_engine.specs.Worlds.{Opens}
+use Rattle.cube_engine.proofs.Alone.{turned}
+use Rattle.cube_engine.proofs.Logs.{kept_within}
+use Rattle.cube_engine.proofs.Worlds.{opened}
+use Rattle.cube_engine.proofs.engine.Engine.answer_counted.Goals as goal
+
+pub returns-clause-two_worlds : goal.returns-clause-two_worlds
+returns-clause-two_worlds g c =
+    let x = c.self.inside in
+    let s = c.settle-reply in
+    let old : Engine = record { core = x.book.core; policy = x.book.policy; history = x.book.history; journal = x.book.journal; outcomes = x.turns.outcomes; left = x.turns.left } in
+    let new : Engine = record { core = s.new.book.core; policy = s.new.book.policy; history = s.new.book.history; journal = s.new.book.journal; outcomes = c.record.new.self.outcomes; left = c.record.new.self.left } in
+    let ask = c.args.ask.now in
+    let told = s.result.0 in
+    let o = s.result.1 in
+    let before = g.S.Store.faults c.args.store.now in
+    let now = g.S.Store.faults s.new.store in
+    let same = c.prepare-prepared.ensures.same in
+    let core : s.new.book.core ≡ x.book.core = s.ensures.core ∙ ap (λ (b : Book). b.core) same in
+    let policy : s.new.book.policy ≡ x.book.policy = s.ensures.policy ∙ ap (λ (b : Book). b.policy) same in
+    let cause = subst (λ (b : Book). SettleCause o (next_in b.core.dims (book_rooms b) ask Given ≢ book_rooms b) before now) same s.ensures.cause in
+    let reply = subst (λ (b : Book). told ≡ reply_in b.core.dims (book_rooms b) ask o) same s.ensures.reply in
+    let rooms = subst (λ (b : Book). book_rooms s.new.book ≡ next_in b.core.dims (book_rooms b) ask o) same s.ensures.rooms in
+    let answered = turned (manner old.core.dims) ask (rooms_of old) (rooms_of new) old.outcomes new.outcomes told o before now cause c.record.ensures.outcomes reply rooms in
+    let ruled = c.core-rules.ensures.rules in
+    subst (λ (e : Engine). Opens e new ask told) c.self.view_is (opened old new ask told before now (record { core = ruled.core; policy = ruled.policy; admissible = ruled.admissible }) core policy answered)
+
+pub returns-clause-within : goal.returns-clause-within
+returns-clause-within g c = λ told.
+    let s = c.settle-reply in
+    let b = c.prepare-prepared.new.book in
+    let logs = g.S.Store.logs s.new.store in
+    let dims = subst (λ (k : Core). IsDims k.dims) s.ensures.core c.core-rules.ensures.rules.core.dims in
+    let within = kept_within b.core b.policy s.new.book.history s.new.book.journal (logs b.journal.log).state dims (s.ensures.kept told) in
+    subst (λ (e : Engine). IsWithin e.core e.policy s.new.book.history (logs e.journal.log).state) c.self.view_is
+    (subst (λ (a : Book). IsWithin a.core a.policy s.new.book.history (logs a.journal.log).state) c.prepare-prepared.ensures.same within)

@@ -1,0 +1,198 @@
+// What an ask comes to, before anything is kept: the reply, and for a request that enters the history its line.
+ghost use Rattle.std.specs.Prelude.{◌≡◌, ◌≢◌, true, None, is_some, IfOk, OnOk, OnErr};
+ghost use Rattle.cube_model.specs.declared.ask.Inner.TheVariants as inner;
+ghost use Rattle.cube_model.specs.declared.policy.Policy.{Policy};
+ghost use Rattle.cube_model.specs.declared.reply.Kind.TheVariants as kind;
+ghost use Rattle.cube_model.specs.declared.reply.Reply.TheVariants as made;
+ghost use Rattle.cube_model.specs.Cores.{shown, world};
+ghost use Rattle.cube_model.specs.Policies.{IsPolicy};
+ghost use Rattle.cube_model.specs.Requests.{answer as answer_of};
+ghost use Rattle.cube_admit.specs.States.{waiting, StandsFor};
+ghost use Rattle.cube_journal.specs.RequestLines.{request_line};
+ghost use Rattle.cube_query.specs.Canonical.{is_request};
+ghost use Rattle.cube_engine.specs.AnswerText.{answer_text as answer_words};
+ghost use Rattle.cube_engine.specs.Books.{is_answer};
+ghost use Rattle.cube_engine.specs.Prepared.{given_as, Comes, InnerComes};
+ghost use Rattle.cube_engine.specs.VerdictText.{verdict_text as verdict_words, IsVerdict};
+
+use crate::{answer, answer_text, verdict_text};
+use cube_admit::State;
+use cube_core::{Core, Steps};
+use cube_journal::{Line, line_of};
+use cube_model::{Fixed, Kind, NoMemory, Outcome, Policy, Reply, Request, Text, Verdict};
+use cube_query::{RequestFault, read_request};
+use std::alloc::Global;
+use std::sync::ledger::Ledger;
+
+/// What an ask comes to.
+#[derive(Drop)]
+pub(crate) enum Prepared {
+    /// The reply, where nothing is to be kept, and what became of the ask.
+    Said(Reply, Outcome),
+    /// The reply to a request that waits to enter the history, and the line that keeps it.
+    Waits(Reply, Line),
+}
+
+// The answer to a request that was read, in words.
+#[tactic(auto, using(crate::proofs::Valid::valid_fits, crate::proofs::Valid::valid_measure))]
+fn answer_request<L: Ledger>(
+    alloc: Global,
+    core: &Core,
+    request: &Request,
+    steps: &mut Steps<L>,
+) -> Result<Text, NoMemory>
+    requires { is_request core.now.dims request.now ≡ true }
+    ensures { IfOk result (λ text. (p : Policy) → text ≡ answer_words core.now.dims request.now (answer_of (world core.now p) request.now)) }
+{
+    let answer = answer(alloc, core, request, steps)?;
+    answer_text(alloc, core.dims(), request, &answer)
+}
+
+// Whether the request is answered.
+fn answers(verdict: &Verdict) -> bool
+    ensures { result ≡ is_answer verdict.now }
+{
+    matches!(verdict, Verdict::Answer { .. })
+}
+
+// The reply to a refusal.
+fn refuse(alloc: Global, core: &Core, verdict: &Verdict) -> Result<Reply, NoMemory>
+    requires { IsVerdict core.now verdict.now }
+    ensures { IfOk result (λ reply. (p : Policy) → reply ≡ made.Made 403 kind.Plain (verdict_words core.now.dims (shown core.now p) verdict.now)) }
+{
+    Ok(Reply::Made {
+        status: 403,
+        kind: Kind::Plain,
+        body: verdict_text(alloc, core, verdict)?,
+    })
+}
+
+// The reply to a request that is answered, with its line where it waits.
+fn give<L: Ledger>(
+    alloc: Global,
+    core: &Core,
+    request: &Request,
+    waits: bool,
+    steps: &mut Steps<L>,
+) -> Result<Prepared, NoMemory>
+    requires { is_request core.now.dims request.now ≡ true }
+    ensures { IfOk result (λ prepared. (p : Policy) → prepared ≡ given_as waits (made.Made 200 kind.Csv (answer_words core.now.dims request.now (answer_of (world core.now p) request.now))) (request_line core.now.dims request.now)) }
+{
+    let body = answer_request(alloc, core, request, steps)?;
+    let reply = Reply::Made {
+        status: 200,
+        kind: Kind::Csv,
+        body,
+    };
+    if !waits {
+        return Ok(Prepared::Said(reply, Outcome::Given));
+    }
+    let line = line_of(alloc, core.dims(), request)?;
+    Ok(Prepared::Waits(reply, line))
+}
+
+// The reply to a request that is answered. Where there is no memory for it, it waits no longer.
+fn give_or_drop<L: Ledger>(
+    alloc: Global,
+    core: &Core,
+    policy: &Policy,
+    state: &mut State,
+    request: &Request,
+    steps: &mut Steps<L>,
+) -> Result<Prepared, NoMemory>
+    requires request { is_request core.now.dims request.now ≡ true }
+    requires stands { StandsFor (shown core.now policy.now) state.old }
+    ensures prepared { IfOk result (λ prepared. prepared ≡ given_as (is_some state.old.pending) (made.Made 200 kind.Csv (answer_words core.now.dims request.now (answer_of (world core.now policy.now) request.now))) (request_line core.now.dims request.now)) }
+    ensures ok { OnOk result (state.new ≡ state.old) }
+    ensures history { state.new.history ≡ state.old.history }
+    ensures err { OnErr result (state.new.pending ≡ None) }
+    ensures stands { StandsFor (shown core.now policy.now) state.new }
+{
+    let _policy = policy;
+    match give(alloc, core, request, state.pending(), steps) {
+        Ok(prepared) => Ok(prepared),
+        Err(_) => {
+            state.drop_pending();
+            Err(NoMemory)
+        }
+    }
+}
+
+// What a request comes to.
+pub(crate) fn prepare_request<L: Ledger>(
+    alloc: Global,
+    core: &Core,
+    policy: &Policy,
+    state: &mut State,
+    request: &Request,
+    steps: &mut Steps<L>,
+) -> Result<Prepared, NoMemory>
+    requires policy { IsPolicy core.now.dims policy.now }
+    requires stands { StandsFor (shown core.now policy.now) state.old }
+    requires request { is_request core.now.dims request.now ≡ true }
+    ensures comes { IfOk result (λ prepared. Comes core.now.dims (world core.now policy.now) state.old.history request.now (waiting state.new) prepared) }
+    ensures history { state.new.history ≡ state.old.history }
+    ensures err { OnErr result (state.new.pending ≡ None) }
+    ensures stands { StandsFor (shown core.now policy.now) state.new }
+{
+    let _rules = core.dims();
+    let verdict = state.verdict(alloc, core, policy, request)?;
+    if answers(&verdict) {
+        return give_or_drop(alloc, core, policy, state, request, steps);
+    }
+    let reply = refuse(alloc, core, &verdict)?;
+    Ok(Prepared::Said(reply, Outcome::Given))
+}
+
+// What a query comes to: its request, or the fault of its text.
+fn prepare_text<L: Ledger>(
+    alloc: Global,
+    core: &Core,
+    policy: &Policy,
+    state: &mut State,
+    query: &[u8],
+    steps: &mut Steps<L>,
+) -> Result<Prepared, NoMemory>
+    requires policy { IsPolicy core.now.dims policy.now }
+    requires stands { StandsFor (shown core.now policy.now) state.old }
+    requires none { state.old.pending ≡ None }
+    ensures comes { IfOk result (λ prepared. InnerComes core.now.dims (world core.now policy.now) state.old.history (inner.Query query.now) (waiting state.new) prepared) }
+    ensures history { state.new.history ≡ state.old.history }
+    ensures err { OnErr result (state.new.pending ≡ None) }
+    ensures stands { StandsFor (shown core.now policy.now) state.new }
+{
+    match read_request(alloc, core.dims(), query) {
+        Ok(request) => prepare_request(alloc, core, policy, state, &request, steps),
+        Err(RequestFault::NoMemory) => Err(NoMemory),
+        Err(fault) => {
+            let reply = Reply::Made {
+                status: fault.status(),
+                kind: Kind::Plain,
+                body: fault.body(alloc)?,
+            };
+            Ok(Prepared::Said(reply, Outcome::Given))
+        }
+    }
+}
+
+/// What a query comes to.
+pub(crate) fn prepare_query<L: Ledger>(
+    alloc: Global,
+    core: &Core,
+    policy: &Policy,
+    state: &mut State,
+    query: &[u8],
+    steps: &mut Steps<L>,
+) -> Prepared
+    requires policy { IsPolicy core.now.dims policy.now }
+    requires stands { StandsFor (shown core.now policy.now) state.old }
+    requires none { state.old.pending ≡ None }
+    ensures comes { InnerComes core.now.dims (world core.now policy.now) state.old.history (inner.Query query.now) (waiting state.new) result }
+    ensures history { state.new.history ≡ state.old.history }
+    ensures stands { StandsFor (shown core.now policy.now) state.new }
+{
+    match prepare_text(alloc, core, policy, state, query, steps) {
+        Ok(prepared) => prepared,
+        Err(_) => Prepared::Said(Reply::Fixed(Fixed::NoMemory), Outcome::NoMemory),
+    }
+}
