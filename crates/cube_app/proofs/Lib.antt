@@ -1,15 +1,2 @@
-pub mod AskTalk
-pub mod AskCrash
-pub mod Commands
-pub mod Cuts
-pub mod Kept
-pub mod Opened
-pub mod Pieces
-pub mod Settled
-pub mod Speech
-pub mod Spoken
-pub mod SumTalk
-pub mod Talks
-pub mod Given
 pub mod Worlds
 pub mod Lives

@@ -20,12 +20,12 @@ use Rattle.cube_engine.specs.Steps.{manner}
 use Rattle.cube_engine.specs.Worlds.{first_history}
 use Rattle.cube_engine.specs.declared.fault.EngineFault.{EngineFault}
 use Rattle.cube_engine.specs.declared.fault.EngineFault.TheVariants.{Failed, TooLong, Damaged, OtherCube, Inadmissible, NoMemory}
-use Rattle.cube_app.specs.Asks.{rooms_behind, Talked}
-use Rattle.cube_app.specs.declared.talk.Ending.{Ending}
-use Rattle.cube_app.specs.Crashes.{IsOnTheWay, IsPassed, Survives}
-use Rattle.cube_app.specs.Opening.{MakesAll}
+use Rattle.cube_talk.specs.Asks.{rooms_behind, Talked}
+use Rattle.cube_talk.specs.declared.talk.Ending.{Ending}
+use Rattle.cube_talk.specs.Crashes.{IsOnTheWay, IsPassed, Survives}
+use Rattle.cube_opening.specs.Opening.{MakesAll}
 use Rattle.cube_app.specs.Starting.{journal_status, Unstarted, HasJournal, IsBetween, Survived}
-use Rattle.cube_app.specs.declared.report.Report.{Report}
+use Rattle.cube_opening.specs.declared.report.Report.{Report}
 use Rattle.cube_app.proofs.Worlds.{behind_grows, behind_more}
 
 -- ---- the log while the lines are answered

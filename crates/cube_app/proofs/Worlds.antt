@@ -23,13 +23,13 @@ use Rattle.cube_io.specs.Content.{AppendsPrefix}
 use Rattle.cube_engine.specs.Steps.{manner, next_in, reply_in, inner_history}
 use Rattle.cube_engine.specs.Worlds.{first_history}
 use Rattle.cube_engine.proofs.Worlds.{room_open, other_sum, inner_grows, inner_stays}
-use Rattle.cube_app.specs.AskLaws.{by_test, said_long, said_one, rooms_long, rooms_one}
-use Rattle.cube_app.specs.Asks.{is_too_long, too_large, ask_of, said, rooms_behind, up_to_asks, talk, Says, Talked}
-use Rattle.cube_app.specs.Lines.{ended_lines}
-use Rattle.cube_app.specs.Replies.{reply_text}
+use Rattle.cube_talk.specs.AskLaws.{by_test, said_long, said_one, rooms_long, rooms_one}
+use Rattle.cube_talk.specs.Asks.{is_too_long, too_large, ask_of, said, rooms_behind, up_to_asks, talk, Says, Talked}
+use Rattle.cube_talk.specs.Lines.{ended_lines}
+use Rattle.cube_talk.specs.Replies.{reply_text}
 use Rattle.cube_app.specs.Worlds.{history_behind, twin_behind, Hides}
-use Rattle.cube_app.specs.declared.talk.Ending.{Ending}
-use Rattle.cube_app.specs.declared.talk.Ending.TheVariants.{Ended, InputFailed, OutputFailed, NoMemory, Spent}
+use Rattle.cube_talk.specs.declared.talk.Ending.{Ending}
+use Rattle.cube_talk.specs.declared.talk.Ending.TheVariants.{Ended, InputFailed, OutputFailed, NoMemory, Spent}
 
 -- ---- the history behind some lines
 

@@ -1,17 +1,3 @@
-pub mod Words
-pub mod Lines
-pub mod Talk
-pub mod Piece
-pub mod Replies
-pub mod Sums
-pub mod SumLaws
-pub mod Asks
-pub mod AskLaws
-pub mod Crashes
-pub mod CrashLaws
-pub mod Examples
-pub mod Reports
-pub mod Opening
 pub mod Starting
 pub mod Summary
 pub mod Worlds

@@ -11,23 +11,23 @@ use Rattle.cube_engine.specs.Kept.{history_of}
 use Rattle.cube_model.specs.Rooms.{alone}
 use Rattle.cube_model.specs.declared.policy.Policy.{Policy}
 use Rattle.cube_facts.specs.Flat.{Flat}
-use Rattle.cube_app.specs.Opening.{flat_said, Says, MakesAll}
+use Rattle.cube_opening.specs.Opening.{flat_said, Says, MakesAll}
 use Rattle.cube_engine.specs.Steps.{manner}
 use Rattle.cube_engine.specs.Worlds.{first_history}
-use Rattle.cube_app.specs.Asks as asks
-use Rattle.cube_app.specs.Asks.{NoneFailed}
-use Rattle.cube_app.specs.Reports.{IsReport, Prints}
+use Rattle.cube_talk.specs.Asks as asks
+use Rattle.cube_talk.specs.Asks.{NoneFailed}
+use Rattle.cube_opening.specs.Reports.{IsReport, Prints}
 use Rattle.cube_app.specs.Starting.{Survived}
 use Rattle.cube_app.specs.Summary.{check_text}
-use Rattle.cube_app.specs.Sums.{Talked}
-use Rattle.cube_app.specs.Words.{option_word, value_of}
+use Rattle.cube_talk.specs.Sums.{Talked}
+use Rattle.cube_words.specs.Words.{option_word, value_of}
 use Rattle.cube_app.specs.Worlds.{Hides}
-use Rattle.cube_app.specs.declared.report.Report.{Report}
-use Rattle.cube_app.specs.declared.talk.Ending.{Ending}
-use Rattle.cube_app.specs.declared.talk.Ending.TheVariants.{Ended, InputFailed, OutputFailed, NoMemory, Spent}
-use Rattle.cube_app.specs.declared.words.Setting.TheVariants as setting
-use Rattle.cube_app.specs.declared.words.Usage.{Usage}
-use Rattle.cube_app.specs.declared.words.Usage.TheVariants.{NoCommand, Wrong, Missing}
+use Rattle.cube_opening.specs.declared.report.Report.{Report}
+use Rattle.cube_talk.specs.declared.talk.Ending.{Ending}
+use Rattle.cube_talk.specs.declared.talk.Ending.TheVariants.{Ended, InputFailed, OutputFailed, NoMemory, Spent}
+use Rattle.cube_words.specs.declared.words.Setting.TheVariants as setting
+use Rattle.cube_words.specs.declared.words.Usage.{Usage}
+use Rattle.cube_words.specs.declared.words.Usage.TheVariants.{NoCommand, Wrong, Missing}
 
 -- ---- wrong words, and texts about the program
 

@@ -13,10 +13,10 @@ use Rattle.cube_engine.specs.Kept.{history_of, IsExact, IsWithin}
 use Rattle.cube_engine.specs.Opening.{IsStartFault}
 use Rattle.cube_engine.specs.declared.fault.EngineFault.{EngineFault}
 use Rattle.cube_engine.specs.declared.fault.EngineFault.TheVariants.{Failed, TooLong, Damaged, OtherCube, Inadmissible, NoMemory}
-use Rattle.cube_app.specs.Asks.{NoneFailed}
-use Rattle.cube_app.specs.Opening.{MakesAll}
-use Rattle.cube_app.specs.Reports.{IsReport, NoRoom}
-use Rattle.cube_app.specs.declared.report.Report.{Report}
+use Rattle.cube_talk.specs.Asks.{NoneFailed}
+use Rattle.cube_opening.specs.Opening.{MakesAll}
+use Rattle.cube_opening.specs.Reports.{IsReport, NoRoom}
+use Rattle.cube_opening.specs.declared.report.Report.{Report}
 
 -- ---- how a run ends at its journal
 

@@ -13,8 +13,8 @@ use Rattle.cube_model.specs.Rooms.{alone}
 use Rattle.cube_model.specs.Twins.{changes, twin, sum_of}
 use Rattle.cube_engine.specs.Steps.{manner}
 use Rattle.cube_engine.specs.Worlds.{first_history}
-use Rattle.cube_app.specs.Asks.{rooms_behind, up_to_asks, Talked}
-use Rattle.cube_app.specs.declared.talk.Ending.{Ending}
+use Rattle.cube_talk.specs.Asks.{rooms_behind, up_to_asks, Talked}
+use Rattle.cube_talk.specs.declared.talk.Ending.{Ending}
 
 -- the history behind some lines, by what became of their asks
 abbrev pub history_behind : Dims → World → List Entry → ℕ → List (List ℕ) → List Outcome → List Entry

@@ -1,20 +1,11 @@
 //! The program: it makes the real objects, runs, prints the text on standard error and ends with the status.
 #![tactic(auto)]
 
-mod asks;
-mod carry;
-mod opening;
-mod replies;
-mod report;
-mod responder;
 mod run;
 mod starting;
 mod summary;
-mod sums;
-mod talk;
 #[cfg(test)]
 mod tests;
-mod words;
 
 use cube_edge::{FileFolder, FileStore, ReaderSource, WriterSink};
 use cube_io::NullWire;

@@ -1,25 +1,21 @@
 // The top call: all that the program does.
 ghost use Rattle.std.specs.Prelude.{◌≡◌, ◌≢◌, ◌⊎◌, ◌≤◌, ◌+◌, ◌++◌, [], true, length, decimal, codes, Some, IfErr, IsErr, IfOk, IsTrue, Ok};
 ghost use Rattle.cube_io.specs.Causes.{Rose};
-ghost use Rattle.cube_app.specs.Words.{orders_of as orders_in, stated as stated_in};
-ghost use Rattle.cube_app.specs.Reports.{IsReport, NoRoom, Prints};
-ghost use Rattle.cube_app.specs.Opening.{flat_said, Unopened, AsksOnce, EndsUnopened, AsksAll, HasAll};
+ghost use Rattle.cube_words.specs.Words.{orders_of as orders_in, stated as stated_in};
+ghost use Rattle.cube_opening.specs.Reports.{IsReport, NoRoom, Prints};
+ghost use Rattle.cube_opening.specs.Opening.{flat_said, Unopened, AsksOnce, EndsUnopened, AsksAll, HasAll};
 ghost use Rattle.cube_app.specs.Starting.{EndsUnstarted, AsksStore, HasJournal};
 ghost use Rattle.cube_app.specs.Run.{usage_text as usage_words, help_text, version_text, dims_name, facts_name, policy_name, journal_name, status_of as status_in, ending_text, Answered, HasFlat, Checked, Asked};
-ghost use Rattle.cube_app.specs.declared.words.Command.TheVariants as orders;
+ghost use Rattle.cube_words.specs.declared.words.Command.TheVariants as orders;
 
-use crate::asks::converse_by_asks;
-use crate::carry::Carry;
-use crate::opening::{Guarded, open_flat, open_guarded};
-use crate::report::{Report, Room, no_room, with_text};
 use crate::starting::open_engine;
 use crate::summary::check_text;
-use crate::sums::converse_by_sums;
-use crate::talk::{Ending, TalkEnd};
-use crate::words::{Command, Setting, Usage, needed_value, orders_of, stated};
 use cube_engine::Engine;
 use cube_io::{Folder, Sink, Source, Store, Wire};
 use cube_model::{NoMemory, Text};
+use cube_opening::{Guarded, Report, Room, no_room, open_flat, open_guarded, with_text};
+use cube_talk::{Carry, Ending, TalkEnd, converse_by_asks, converse_by_sums};
+use cube_words::{Command, Setting, Usage, needed_value, orders_of, stated};
 use std::alloc::Global;
 
 const HELP: &[u8] =

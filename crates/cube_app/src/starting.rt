@@ -6,16 +6,15 @@ ghost use Rattle.cube_journal.specs.Keeping.{IsInRecovery};
 ghost use Rattle.cube_engine.specs.Engines.{book_of};
 ghost use Rattle.cube_engine.specs.Kept.{history_of, IsKept, IsExact};
 ghost use Rattle.cube_engine.specs.Worlds.{IsRuled};
-ghost use Rattle.cube_app.specs.Reports.{IsReport, NoRoom};
+ghost use Rattle.cube_opening.specs.Reports.{IsReport, NoRoom};
 ghost use Rattle.cube_app.specs.Starting.{journal_text as journal_words, journal_status as status_for, Unstarted, AsksStore};
 
-use crate::opening::Opened;
-use crate::report::{Report, Room, no_room, with_text};
 use cube_core::Core;
 use cube_engine::{Engine, EngineFault};
 use cube_io::Store;
 use cube_journal::Digest;
 use cube_model::{NoMemory, Policy, Text};
+use cube_opening::{Opened, Report, Room, no_room, with_text};
 use std::alloc::Global;
 
 // The log of a command.

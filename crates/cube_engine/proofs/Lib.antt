@@ -1,7 +1,5 @@
 pub mod Alone
-pub mod Keys
 pub mod Named
-pub mod Valid
 pub mod Worlds
 mod Preparing
 mod Logs

@@ -35,12 +35,12 @@ use Rattle.cube_model.proofs.Objects.{protected_are}
 use Rattle.cube_model.proofs.Parities.{IsOf, links_places}
 use Rattle.cube_model.proofs.Ranks.{finer_levels}
 use Rattle.cube_text.specs.Keys.{KeyFits}
-use Rattle.cube_engine.specs.AnswerText.{answer_text}
+use Rattle.cube_answers.specs.AnswerText.{answer_text}
 use Rattle.cube_engine.specs.Books.{is_answer}
 use Rattle.cube_engine.specs.Steps.{in_words, asked_or_fault, reply_where_read, history_where_read}
 use Rattle.cube_query.specs.declared.fault.RequestFault.{RequestFault}
-use Rattle.cube_engine.specs.VerdictText.{verdict_text, CellFits, IsVerdict}
-use Rattle.cube_engine.proofs.Keys.{key_there, point_at}
+use Rattle.cube_answers.specs.VerdictText.{verdict_text, CellFits, IsVerdict}
+use Rattle.cube_answers.proofs.Keys.{key_there, point_at}
 
 -- what is found is in the list
 found : {X : Type 0} (p : X → Bool) (xs : List X) (x : X) → find p xs ≡ Some x → IsIn x xs

@@ -1,11 +1,8 @@
-pub mod AnswerText
 pub mod Books
 pub mod Constant
 pub mod Engines
 pub mod Examples
 pub mod Steps
-pub mod Sums
-pub mod VerdictText
 pub mod Worlds
 pub mod Kept
 pub mod Opening

@@ -23,8 +23,8 @@ use Rattle.cube_model.specs.Runs.{Question, Question as question, Reply as Told,
 use Rattle.cube_query.specs.Faults.{request_of, fault_status, fault_body}
 use Rattle.cube_query.specs.declared.fault.RequestFault.{RequestFault}
 use Rattle.cube_io.specs.Desks.{Manner}
-use Rattle.cube_engine.specs.AnswerText.{answer_text}
-use Rattle.cube_engine.specs.VerdictText.{verdict_text}
+use Rattle.cube_answers.specs.AnswerText.{answer_text}
+use Rattle.cube_answers.specs.VerdictText.{verdict_text}
 
 -- ---- what is asked
 

@@ -10,13 +10,13 @@ ghost use Rattle.cube_model.specs.Requests.{answer as answer_of};
 ghost use Rattle.cube_admit.specs.States.{waiting, StandsFor};
 ghost use Rattle.cube_journal.specs.RequestLines.{request_line};
 ghost use Rattle.cube_query.specs.Canonical.{is_request};
-ghost use Rattle.cube_engine.specs.AnswerText.{answer_text as answer_words};
+ghost use Rattle.cube_answers.specs.AnswerText.{answer_text as answer_words};
 ghost use Rattle.cube_engine.specs.Books.{is_answer};
 ghost use Rattle.cube_engine.specs.Prepared.{given_as, Comes, InnerComes};
-ghost use Rattle.cube_engine.specs.VerdictText.{verdict_text as verdict_words, IsVerdict};
+ghost use Rattle.cube_answers.specs.VerdictText.{verdict_text as verdict_words, IsVerdict};
 
-use crate::{answer, answer_text, verdict_text};
 use cube_admit::State;
+use cube_answers::{answer, answer_text, verdict_text};
 use cube_core::{Core, Steps};
 use cube_journal::{Line, line_of};
 use cube_model::{Fixed, Kind, NoMemory, Outcome, Policy, Reply, Request, Text, Verdict};
@@ -34,7 +34,7 @@ pub(crate) enum Prepared {
 }
 
 // The answer to a request that was read, in words.
-#[tactic(auto, using(crate::proofs::Valid::valid_fits, crate::proofs::Valid::valid_measure))]
+#[tactic(auto, using(cube_answers::proofs::Valid::valid_fits, cube_answers::proofs::Valid::valid_measure))]
 fn answer_request<L: Ledger>(
     alloc: Global,
     core: &Core,

@@ -1,18 +1,15 @@
-// Sums over small cubes, from the bytes of their files to the text.
-ghost use Rattle.std.specs.Prelude.{◌≡◌, ◌<◌};
+// Engines over small cubes under a policy, asked through their desk.
+ghost use Rattle.std.specs.Prelude.{IsTrue, IfOk};
 
-mod desk;
-
-use crate::{answer, answer_text, verdict_text};
-use cube_core::{Core, Steps};
+use crate::Engine;
+use cube_core::Core;
 use cube_dims::read_dims;
 use cube_facts::read_facts;
-use cube_model::{Text, Verdict};
-use cube_query::read_request;
+use cube_io::{Desk, NullStore, Store};
+use cube_model::{Ask, Fixed, Inner, NoMemory, Outcome, Reply, Text};
+use cube_policy::read_policy;
 use std::alloc::Global;
-use std::marker::Brand;
 use std::process::Abort;
-use std::sync::ledger::{Blank, Ledger};
 use std::test::Fail;
 
 const PAY: &[u8] = b"[[dimension]]
@@ -37,20 +34,54 @@ Paris,Jan,40,4
 Paris,Feb,50,5
 ";
 
-/// A city whose name has a comma and quotes, and a measure with decimals.
-const ODD: &[u8] = b"[[dimension]]
-name = \"region\"
-levels = [\"city\"]
-paths = [['L\xC3\xAEle, \"Sud\"'], [\"Nice\"]]
-[[measure]]
+/// Pay is under the source rule, each cell of a city in a month is protected; hours are under the parity rule.
+const PAY_POLICY: &[u8] = b"[[measure]]
 name = \"pay\"
-decimals = 2
+method = \"lattice\"
+[[measure]]
+name = \"hours\"
+method = \"parity\"
+[[object]]
+measure = \"pay\"
+below = { region = \"city\", time = \"month\" }
 ";
 
-const ODD_FACTS: &[u8] = b"city,pay
-\"L\xC3\xAEle, \"\"Sud\"\"\",-0.05
-Nice,12.5
+/// The same, but that of the hours those in the South alone are protected.
+const SOUTH_POLICY: &[u8] = b"[[measure]]
+name = \"pay\"
+method = \"lattice\"
+[[measure]]
+name = \"hours\"
+method = \"parity\"
+[[object]]
+measure = \"pay\"
+below = { region = \"city\", time = \"month\" }
+[[object]]
+measure = \"hours\"
+below = { region = \"city\", time = \"month\" }
+slice = { region = { level = \"area\", members = [\"South\"] } }
 ";
+
+const ROWS: &[u8] = b"[[dimension]]
+name = \"row\"
+levels = [\"r\"]
+paths = [[\"r0\"], [\"r1\"]]
+[[dimension]]
+name = \"col\"
+levels = [\"c\"]
+paths = [[\"c0\"], [\"c1\"], [\"c2\"]]
+[[measure]]
+name = \"v\"
+";
+
+const ROWS_POLICY: &[u8] = b"[[measure]]
+name = \"v\"
+method = \"parity\"
+";
+
+const SOME_FACTS: &[u8] = b"r,c,v\nr0,c1,7\nr1,c0,8\nr1,c2,9\n";
+
+const ALL_FACTS: &[u8] = b"r,c,v\nr0,c0,1\nr0,c1,2\nr0,c2,3\nr1,c0,4\nr1,c1,5\nr1,c2,6\n";
 
 fn core_of(alloc: Global, dims: &[u8], facts: &[u8]) -> Result<Core, &'static str> {
     let Ok(dims) = read_dims(alloc, dims) else {
@@ -65,113 +96,322 @@ fn core_of(alloc: Global, dims: &[u8], facts: &[u8]) -> Result<Core, &'static st
     }
 }
 
-/// The text of the answer to a query.
-#[tactic(auto, using(crate::proofs::Valid::valid_fits, crate::proofs::Valid::valid_measure))]
-fn said<L: Ledger>(
-    alloc: Global,
-    core: &Core,
-    query: &[u8],
-    blank: Blank,
-) -> Result<Text, &'static str>
-    requires name { blank.name ≡ L.name }
-    requires parts { blank.parts ≡ L.parts }
-    requires some { 0 < L.parts }
+/// A store that keeps nothing.
+fn null_store(alloc: Global) -> Result<NullStore, Fail>
+    ensures { IfOk result (λ store. IsTrue (⟦<NullStore as Store>⟧.attached store)) }
 {
-    let Ok(request) = read_request(alloc, core.dims(), query) else {
-        return Err("no request");
-    };
-    let mut steps = Steps::<L>::new(blank);
-    let Ok(answer) = answer(alloc, core, &request, &mut steps) else {
-        return Err("no memory");
-    };
-    match answer_text(alloc, core.dims(), &request, &answer) {
-        Ok(text) => Ok(text),
-        Err(_) => Err("no memory"),
+    let mut store = NullStore::new();
+    match store.attach(&Text::from_bytes(alloc, b"log")?) {
+        Ok(()) => Ok(store),
+        Err(_) => Err(Fail::from("no store")),
     }
 }
 
-/// One case: a query, and the text of its answer.
-type Case = (&'static [u8], &'static [u8]);
+/// An engine over a cube under a policy, with room for so many asks.
+fn engine_of(
+    alloc: Global,
+    dims: &[u8],
+    facts: &[u8],
+    policy: &[u8],
+    store: &mut NullStore,
+    room: u64,
+) -> Result<Engine, Fail>
+    requires { IsTrue (⟦<NullStore as Store>⟧.attached store.old) }
+    ensures { IfOk result (λ engine. ⟦<Engine as Desk<NullStore>>⟧.fits engine store.new) }
+{
+    let core = core_of(alloc, dims, facts)?;
+    let Ok(policy) = read_policy(alloc, core.dims(), policy) else {
+        return Err(Fail::from("no policy"));
+    };
+    match Engine::start(alloc, core, policy, store, 0, room) {
+        Ok(engine) => Ok(engine),
+        Err(_) => Err(Fail::from("no engine")),
+    }
+}
 
-const PAY_CASES: &[Case] = &[
-    (b"cell count", b"count\n5\n"),
-    (b"cell pay", b"pay\n150\n"),
-    (
-        b"slice pay by region.area",
-        b"region.area,pay\nSouth,60\nNorth,90\n",
-    ),
-    (
-        b"slice count by time.month",
-        b"time.month,count\nJan,3\nFeb,2\n",
-    ),
-    (
-        b"slice hours by region.city, time.month where time.month=Feb",
-        b"region.city,time.month,hours\nLyon,Feb,2\nParis,Feb,5\n",
-    ),
-    (
-        b"range hours region.city=Nice..Paris, time.month=Jan..Feb",
-        b"hours\n12\n",
-    ),
-    (b"cell pay region.city=Nice, time.month=Feb", b"pay\n"),
-];
+/// One ask, where there is room for it.
+fn put<S: Store, D: Desk<S>>(
+    alloc: Global,
+    desk: &mut D,
+    store: &mut S,
+    ask: &Ask,
+) -> Result<Reply, &'static str>
+    requires { D.fits desk.old store.old }
+    ensures { D.fits desk.new store.new }
+{
+    if desk.left() == 0 {
+        return Err("no room");
+    }
+    Ok(desk.answer(alloc, store, ask))
+}
 
-const ODD_CASES: &[Case] = &[
+/// One ask that found no memory, where there is room for it.
+fn put_missed<S: Store, D: Desk<S>>(desk: &mut D, _store: &S) -> Result<Reply, &'static str> {
+    if desk.left() == 0 {
+        return Err("no room");
+    }
+    Ok(desk.miss())
+}
+
+fn room_left<S: Store, D: Desk<S>>(desk: &D, _store: &S) -> u64 {
+    desk.left()
+}
+
+/// An ask for the answer to a query, of a group where one is named.
+fn ask_of(alloc: Global, group: Option<&[u8]>, query: &[u8]) -> Result<Ask, NoMemory> {
+    let text = Text::from_bytes(alloc, query)?;
+    match group {
+        None => Ok(Ask::Query(text)),
+        Some(name) => Ok(Ask::Group {
+            name: Text::from_bytes(alloc, name)?,
+            ask: Inner::Query(text),
+        }),
+    }
+}
+
+/// The status and the body that the reply to an ask has to have.
+fn check_made(
+    rt: &impl Abort,
+    alloc: Global,
+    engine: &mut Engine,
+    store: &mut NullStore,
+    ask: &Ask,
+    wanted: (u16, &[u8]),
+) -> Result<(), Fail>
+    requires { ⟦<Engine as Desk<NullStore>>⟧.fits engine.old store.old }
+    ensures { ⟦<Engine as Desk<NullStore>>⟧.fits engine.new store.new }
+{
+    match put(alloc, engine, store, ask)? {
+        Reply::Made { status, body, .. } => {
+            assert_eq!(rt; status, wanted.0);
+            assert_eq!(rt; body.as_slice(), wanted.1);
+            Ok(())
+        }
+        Reply::Fixed(_) => Err("a constant reply")?,
+    }
+}
+
+/// One case: the group that is named, a query, the status of its reply, and the body.
+type Case = (Option<&'static [u8]>, &'static [u8], u16, &'static [u8]);
+
+const CASES: &[Case] = &[
+    (None, b"cell pay", 200, b"pay\n150\n"),
     (
+        None,
         b"slice pay by region.city",
-        b"region.city,pay\n\"L\xC3\xAEle, \"\"Sud\"\"\",-0.05\nNice,12.50\n",
+        403,
+        b"source: the cuboid (region.city) does not cut the cell (region.city=Nice, time.month=Jan)\n",
     ),
     (
-        b"cell count region.city=\"L\xC3\xAEle, \\\"Sud\\\"\"",
-        b"count\n1\n",
+        None,
+        b"slice pay by time.month",
+        200,
+        b"time.month,pay\nJan,80\nFeb,70\n",
     ),
+    (
+        None,
+        b"slice pay by time.month",
+        200,
+        b"time.month,pay\nJan,80\nFeb,70\n",
+    ),
+    (
+        None,
+        b"slice pay by time.quarter",
+        200,
+        b"time.quarter,pay\nQ1,150\n",
+    ),
+    (
+        None,
+        b"slice pay by region.area",
+        403,
+        b"source: the cuboid (region.area, time.month) does not cut the cell (region.city=Lyon, time.month=Feb)\n",
+    ),
+    (
+        None,
+        b"range hours region.city=Lyon..Nice, time.month=Jan..Jan",
+        200,
+        b"hours\n4\n",
+    ),
+    (
+        None,
+        b"range hours region.city=Lyon..Nice, time.month=Jan..Feb",
+        403,
+        b"single: link 2, (region.city=Nice, time.month=Jan), fixes the cell (region.city=Lyon, time.month=Jan)\n",
+    ),
+    (None, b"cel pay", 400, b"syntax at byte 3\n"),
+    (None, b"cell tax", 404, b"unknown measure at byte 5\n"),
+    (
+        None,
+        b"cell pay region.city=Rome",
+        404,
+        b"unknown member at byte 21\n",
+    ),
+    (
+        None,
+        b"range hours time.month=Feb..Jan",
+        400,
+        b"backwards at byte 23\n",
+    ),
+    (
+        None,
+        b"cell pay time.month=Jan, time.month=Feb",
+        400,
+        b"dimension twice at byte 25\n",
+    ),
+    (Some(b"red"), b"cell pay", 404, b"unknown group\n"),
+    (Some(b""), b"cell count", 200, b"count\n5\n"),
 ];
 
-fn check(rt: &impl Abort, alloc: Global, core: &Core, cases: &[Case]) -> Result<(), Fail> {
-    for (query, text) in cases {
-        let answer = said::<Brand>(alloc, core, query, Blank::new(1))?;
-        assert_eq!(rt; answer.as_slice(), *text);
+fn check_cases(
+    rt: &impl Abort,
+    alloc: Global,
+    engine: &mut Engine,
+    store: &mut NullStore,
+    cases: &[Case],
+) -> Result<(), Fail>
+    requires { ⟦<Engine as Desk<NullStore>>⟧.fits engine.old store.old }
+    ensures { ⟦<Engine as Desk<NullStore>>⟧.fits engine.new store.new }
+{
+    'cases: for (group, query, status, body) in cases {
+        let ask = ask_of(alloc, *group, query)?;
+        check_made(rt, alloc, engine, store, &ask, (*status, *body))?;
     }
     Ok(())
 }
 
 #[test]
-fn sums_over_the_pay_cube_are_written(rt: HostRuntime) -> Result<(), Fail> {
-    let core = core_of(rt.alloc(), PAY, PAY_FACTS)?;
-    check(&rt, rt.alloc(), &core, PAY_CASES)
+fn queries_get_their_answers_and_faults(rt: HostRuntime) -> Result<(), Fail> {
+    let mut store = null_store(rt.alloc())?;
+    let mut engine = engine_of(rt.alloc(), PAY, PAY_FACTS, PAY_POLICY, &mut store, 17)?;
+    check_cases(&rt, rt.alloc(), &mut engine, &mut store, CASES)?;
+    assert_eq!(&rt; engine.outcomes(), [Outcome::Given; 15].as_slice());
+    assert_eq!(&rt; room_left(&engine, &store), 2);
+    Ok(())
+}
+
+/// The constant replies of an engine, and what became of the asks.
+fn check_constants(
+    rt: &impl Abort,
+    alloc: Global,
+    engine: &mut Engine,
+    store: &mut NullStore,
+) -> Result<(), Fail>
+    requires { ⟦<Engine as Desk<NullStore>>⟧.fits engine.old store.old }
+{
+    let witness = Ask::Witness(Text::from_bytes(alloc, b"cell pay")?);
+    let replies = [
+        put(alloc, engine, store, &witness)?,
+        put(alloc, engine, store, &Ask::Shape)?,
+        put_missed(engine, store)?,
+    ];
+    assert!(rt; matches!(replies[0], Reply::Fixed(Fixed::NoPath)));
+    assert!(rt; matches!(replies[1], Reply::Fixed(Fixed::NoPath)));
+    assert!(rt; matches!(replies[2], Reply::Fixed(Fixed::NoMemory)));
+    assert_eq!(rt; room_left(engine, store), 0);
+    Ok(())
 }
 
 #[test]
-fn names_are_fields_and_decimals_are_kept(rt: HostRuntime) -> Result<(), Fail> {
-    let core = core_of(rt.alloc(), ODD, ODD_FACTS)?;
-    check(&rt, rt.alloc(), &core, ODD_CASES)
-}
-
-#[test]
-fn facts_that_add_up_to_nothing_are_a_row(rt: HostRuntime) -> Result<(), Fail> {
-    let alloc = rt.alloc();
-    let core = core_of(
-        alloc,
-        PAY,
-        b"city,month,pay,hours\nLyon,Jan,5,0\nLyon,Jan,-5,0\n",
-    )?;
-    check(
-        &rt,
-        alloc,
-        &core,
-        &[
-            (b"slice pay by region.city", b"region.city,pay\nLyon,0\n"),
-            (b"cell count region.city=Lyon", b"count\n2\n"),
-        ],
-    )
-}
-
-#[test]
-fn a_full_history_is_told(rt: HostRuntime) -> Result<(), Fail> {
-    let core = core_of(rt.alloc(), PAY, PAY_FACTS)?;
-    let text = verdict_text(rt.alloc(), &core, &Verdict::Full { held: 16_384 })?;
-    assert_eq!(rt;
-        text.as_slice(),
-        b"full: the history holds 16384 requests\n".as_slice()
+fn a_missed_ask_is_taken_down(rt: HostRuntime) -> Result<(), Fail> {
+    let mut store = null_store(rt.alloc())?;
+    let mut engine = engine_of(rt.alloc(), PAY, PAY_FACTS, PAY_POLICY, &mut store, 3)?;
+    check_constants(&rt, rt.alloc(), &mut engine, &mut store)?;
+    assert_eq!(&rt;
+        engine.finish().as_slice(),
+        [Outcome::Given, Outcome::Given, Outcome::NoMemory].as_slice()
     );
     Ok(())
+}
+
+const AREAS: &[Case] = &[(
+    None,
+    b"slice pay by region.area",
+    200,
+    b"region.area,pay\nSouth,60\nNorth,90\n",
+)];
+
+const SOUTH: &[Case] = &[
+    (
+        None,
+        b"cell hours region.city=Paris, time.month=Jan",
+        200,
+        b"hours\n4\n",
+    ),
+    (
+        None,
+        b"range hours region.city=Nice..Paris, time.month=Jan..Jan",
+        403,
+        b"pair: link 1, (region.city=Nice, time.month=Jan) and (region.city=Paris, time.month=Jan), fixes the cell (region.city=Nice, time.month=Jan)\n",
+    ),
+    (
+        None,
+        b"cell hours region.area=South",
+        403,
+        b"single: link 2, (region.city=Nice, time.month=Jan), fixes the cell (region.city=Nice, time.month=Jan)\n",
+    ),
+];
+
+const TRIANGLE: &[Case] = &[
+    (None, b"range v col.c=c0..c1", 200, b"v\n15\n"),
+    (None, b"cell v row.r=r1", 200, b"v\n17\n"),
+    (
+        None,
+        b"range v col.c=c1..c2",
+        403,
+        b"pair: link 1, (row.r=r0, col.c=c1) and (row.r=r1, col.c=c2), fixes the cell (row.r=r0, col.c=c1)\n",
+    ),
+];
+
+const BOXES: &[Case] = &[
+    (None, b"range v col.c=c0..c0", 200, b"v\n5\n"),
+    (None, b"range v col.c=c1..c1", 200, b"v\n7\n"),
+    (None, b"range v col.c=c2..c2", 200, b"v\n9\n"),
+    (None, b"range v col.c=c0..c1", 200, b"v\n12\n"),
+    (None, b"range v col.c=c1..c2", 200, b"v\n16\n"),
+    (None, b"range v col.c=c0..c2", 200, b"v\n21\n"),
+    (None, b"range v row.r=r0..r0, col.c=c0..c1", 200, b"v\n3\n"),
+    (None, b"range v row.r=r0..r0, col.c=c1..c2", 200, b"v\n5\n"),
+    (None, b"range v row.r=r1..r1, col.c=c0..c1", 200, b"v\n9\n"),
+    (None, b"range v row.r=r1..r1, col.c=c1..c2", 200, b"v\n11\n"),
+    (
+        None,
+        b"cell v row.r=r0",
+        403,
+        b"single: link 2, (row.r=r0, col.c=c2), fixes the cell (row.r=r0, col.c=c0)\n",
+    ),
+];
+
+/// A new engine over these files answers these cases, one behind the other.
+fn check_history(
+    rt: &impl Abort,
+    alloc: Global,
+    dims: &[u8],
+    facts: &[u8],
+    policy: &[u8],
+    cases: &[Case],
+) -> Result<(), Fail> {
+    let mut store = null_store(alloc)?;
+    let room = cases.len() as u64;
+    let mut engine = engine_of(alloc, dims, facts, policy, &mut store, room)?;
+    check_cases(rt, alloc, &mut engine, &mut store, cases)
+}
+
+#[test]
+fn areas_are_answered_where_nothing_was(rt: HostRuntime) -> Result<(), Fail> {
+    check_history(&rt, rt.alloc(), PAY, PAY_FACTS, PAY_POLICY, AREAS)
+}
+
+#[test]
+fn hours_of_the_south_alone_are_protected(rt: HostRuntime) -> Result<(), Fail> {
+    check_history(&rt, rt.alloc(), PAY, PAY_FACTS, SOUTH_POLICY, SOUTH)
+}
+
+#[test]
+fn a_link_that_closes_a_triangle_is_refused(rt: HostRuntime) -> Result<(), Fail> {
+    check_history(&rt, rt.alloc(), ROWS, SOME_FACTS, ROWS_POLICY, TRIANGLE)
+}
+
+#[test]
+fn even_boxes_on_a_full_core_are_answered(rt: HostRuntime) -> Result<(), Fail> {
+    check_history(&rt, rt.alloc(), ROWS, ALL_FACTS, ROWS_POLICY, BOXES)
 }

@@ -1,10 +1,4 @@
 // `ask` over files in memory: answers and faults of worked cubes, stated asks, and calls that fail.
-ghost use Rattle.std.specs.Prelude.{◌≡◌, ◌∷◌, [], true, false, codes};
-ghost use Rattle.cube_model.specs.declared.outcome.Outcome.TheVariants.{Given as given, NoMemory};
-ghost use Rattle.cube_app.specs.Asks.{talk};
-ghost use Rattle.cube_app.specs.Examples.{echo};
-ghost use Rattle.cube_app.specs.Words.{is_requests};
-
 use super::check::{PAY_DIMS, PAY_FACTS, files};
 use super::{DIMS, FILE, Given, Got, LOG, POLICY, ran, ran_over};
 use cube_io::{NullStore, Store};
@@ -17,18 +11,6 @@ pub fn lines<'a>(input: &'a [u8]) -> Given<'a> {
     given.input = input;
     given
 }
-
-// What the definition of the talk says, over a desk that says its ask again: an ask that finds no memory takes its outcome, behind
-// the stated asks nothing is said, nor where an outcome is needed and none is left.
-fn worked_talk()
-    ensures stated { talk echo [] (codes "a" ∷ codes "bc" ∷ codes "d" ∷ []) (given ∷ NoMemory ∷ []) 2 ≡ codes "200 2\na\n500 10\nno memory\n" }
-    ensures all { talk echo [] (codes "a" ∷ codes "bc" ∷ []) (given ∷ given ∷ []) 3 ≡ codes "200 2\na\n200 3\nbc\n" }
-    ensures no_outcome { talk echo [] (codes "a" ∷ codes "bc" ∷ []) (given ∷ []) 3 ≡ codes "200 2\na\n" }
-    ensures requests { is_requests (codes "0016777216") ≡ true }
-    ensures too_many { is_requests (codes "16777217") ≡ false }
-    ensures none { is_requests (codes "0") ≡ false }
-    ensures sign { is_requests (codes "+1") ≡ false }
-{}
 
 fn asked(alloc: Global, given: &Given<'_>) -> Result<Got, Fail> {
     asked_over(alloc, given, &mut NullStore::new())
@@ -56,7 +38,6 @@ pub fn asked_over<S: Store>(alloc: Global, given: &Given<'_>, store: &mut S) -> 
 
 #[test]
 fn each_line_is_answered_by_plain_sums(rt: HostRuntime) -> Result<(), Fail> {
-    worked_talk();
     let cases: [(&[u8], usize, &[u8]); 11] = [
         (b"", 0, b""),
         (b"cell pay", 1, b"200 8\npay\n150\n"),

@@ -4,10 +4,10 @@ use Rattle.cube_model.specs.Verdicts.{IsAdmissible}
 use Rattle.cube_model.specs.declared.outcome.Outcome.{Outcome}
 use Rattle.cube_io.specs.Causes.{Rose}
 use Rattle.cube_engine.specs.Engines.{Engine}
-use Rattle.cube_app.specs.Asks.{NoneFailed}
+use Rattle.cube_talk.specs.Asks.{NoneFailed}
 use Rattle.cube_app.specs.Run.{ending_text}
 use Rattle.cube_app.proofs.Lives.{Served, begun, kept_log}
-use Rattle.cube_app.proofs.Opened.{all_accepted}
+use Rattle.cube_opening.proofs.Accepted.{all_accepted}
 use Rattle.cube_app.proofs.Worlds.{hidden}
 use Rattle.cube_app.proofs.run.ask.Goals as goal
 

@@ -1,6 +1,6 @@
 use Rattle.std.proofs.Common.{◌∙◌, inl, inr, subst}
-use Rattle.cube_app.specs.Reports.{Prints}
-use Rattle.cube_app.proofs.Opened.{all_accepted}
+use Rattle.cube_opening.specs.Reports.{Prints}
+use Rattle.cube_opening.proofs.Accepted.{all_accepted}
 use Rattle.cube_app.proofs.run.check.Goals as goal
 
 pub returns-in-Ok-check_text-clause-checks : goal.returns-in-Ok-check_text-clause-checks

@@ -1,6 +1,6 @@
 use Rattle.std.proofs.Common.{◌≡◌, ◌⊎◌, List, [], ℕ, Option, ap, sym, subst}
 use Rattle.std.specs.Prelude.{unwrap_or}
-use Rattle.cube_app.specs.Opening.{HasAll}
+use Rattle.cube_opening.specs.Opening.{HasAll}
 use Rattle.cube_app.specs.Run.{facts_name, policy_name}
 use Rattle.cube_app.specs.Starting.{AsksStore, HasJournal}
 use Rattle.cube_app.proofs.run.obey.Goals as goal

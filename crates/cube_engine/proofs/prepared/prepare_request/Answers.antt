@@ -6,7 +6,7 @@ use Rattle.cube_admit.proofs.Standing.{admissible_history}
 use Rattle.cube_engine.specs.Books.{is_answer}
 use Rattle.cube_engine.specs.Steps.{in_words}
 use Rattle.cube_engine.proofs.Preparing.{refused_stays, refused_waits}
-use Rattle.cube_engine.specs.VerdictText.{IsVerdict}
+use Rattle.cube_answers.specs.VerdictText.{IsVerdict}
 use Rattle.cube_engine.proofs.Named.{valid_under, verdict_named, refused_words}
 use Rattle.cube_engine.proofs.prepared.prepare_request.Goals as goal
 

@@ -1,0 +1,4 @@
+pub mod AnswerText
+pub mod VerdictText
+pub mod Sums
+pub mod Examples

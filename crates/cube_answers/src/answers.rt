@@ -1,0 +1,100 @@
+// The text of an answer: CSV with a header.
+ghost use Rattle.std.specs.Prelude.{◌≡◌, ◌++◌, length, flat_map, IfOk, OnOk};
+ghost use Rattle.std.specs.List.{All};
+ghost use Rattle.cube_text.specs.Quoting.{field};
+ghost use Rattle.cube_answers.specs.AnswerText.{what_name, sum_text, header_line, row_line, answer_text as answer_words, RowFits, IsThere, IsAnswer};
+
+use cube_model::{Answer, AnswerRow, Dims, NoMemory, Request, Text, What};
+use cube_text::{push_field, push_heads, push_key, write_units};
+use std::alloc::Global;
+
+fn push_what(text: &mut Text, dims: &Dims, what: What) -> Result<(), NoMemory>
+    requires { IsThere dims.now what }
+    ensures { OnOk result (text.new ≡ text.old ++ field (what_name dims.now what)) }
+{
+    match what {
+        What::Count => text.extend(b"count"),
+        What::Measure(measure) => push_field(text, dims.measure(measure).name()),
+    }
+}
+
+// How many decimals a sum is written with.
+fn sum_of(alloc: Global, dims: &Dims, what: What, sum: i64) -> Result<Text, NoMemory>
+    requires { IsThere dims.now what }
+    ensures { IfOk result (λ text. text ≡ sum_text dims.now what sum) }
+{
+    match what {
+        What::Count => write_units(alloc, sum, 0),
+        What::Measure(measure) => write_units(alloc, sum, dims.measure(measure).decimals()),
+    }
+}
+
+#[tactic(auto, using(cube_text::proofs::Lines::lines_behind))]
+fn push_header(
+    alloc: Global,
+    text: &mut Text,
+    dims: &Dims,
+    request: &Request,
+) -> Result<(), NoMemory>
+    requires levels { length request.now.group ≡ length dims.now.dimensions }
+    requires measure { IsThere dims.now request.now.what }
+    ensures { OnOk result (text.new ≡ text.old ++ header_line dims.now request.now) }
+{
+    push_heads(alloc, text, dims, request.group.as_slice())?;
+    push_what(text, dims, request.what)?;
+    text.push(b'\n')
+}
+
+#[tactic(auto, using(cube_text::proofs::Lines::lines_behind))]
+fn push_row(
+    alloc: Global,
+    text: &mut Text,
+    dims: &Dims,
+    request: &Request,
+    row: &AnswerRow,
+) -> Result<(), NoMemory>
+    requires levels { length request.now.group ≡ length dims.now.dimensions }
+    requires measure { IsThere dims.now request.now.what }
+    requires row { RowFits dims.now request.now row.now }
+    ensures { OnOk result (text.new ≡ text.old ++ row_line dims.now request.now row.now) }
+{
+    push_key(text, dims, request.group.as_slice(), row.key.as_slice())?;
+    let sum = sum_of(alloc, dims, request.what, row.sum)?;
+    push_field(text, sum.as_slice())?;
+    text.push(b'\n')
+}
+
+fn push_rows(
+    alloc: Global,
+    text: &mut Text,
+    dims: &Dims,
+    request: &Request,
+    rows: &[AnswerRow],
+) -> Result<(), NoMemory>
+    requires levels { length request.now.group ≡ length dims.now.dimensions }
+    requires measure { IsThere dims.now request.now.what }
+    requires rows { All (RowFits dims.now request.now) rows.now }
+    ensures { OnOk result (text.new ≡ text.old ++ flat_map (row_line dims.now request.now) rows.now) }
+{
+    for row in rows {
+        push_row(alloc, text, dims, request, row)?;
+    }
+    Ok(())
+}
+
+/// The text of the answer to a request: a line for the header, with a field `dimension.level` for each grouping level that
+/// is not `all` and the measure or `count`, then one line for each row.
+pub fn answer_text(
+    alloc: Global,
+    dims: &Dims,
+    request: &Request,
+    answer: &Answer,
+) -> Result<Text, NoMemory>
+    requires { IsAnswer dims.now request.now answer.now }
+    ensures { IfOk result (λ text. text ≡ answer_words dims.now request.now answer.now) }
+{
+    let mut text = Text::new(alloc);
+    push_header(alloc, &mut text, dims, request)?;
+    push_rows(alloc, &mut text, dims, request, answer.as_slice())?;
+    Ok(text)
+}

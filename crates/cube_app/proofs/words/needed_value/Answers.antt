@@ -1,8 +1,0 @@
-use Rattle.std.proofs.Common.{sym, ◌∙◌}
-use Rattle.cube_app.proofs.Given.{given, not_none}
-use Rattle.cube_app.proofs.words.needed_value.Goals as goal
-
-pub unreachable-requires : goal.unreachable-requires
-unreachable-requires c =
-    let value = given c.args.words.now c.args.command c.args.setting c.requires.orders c.requires.needed in
-    not_none value.0 (sym value.1 ∙ sym c.in-None.ensures)

@@ -1,0 +1,21 @@
+-- Reports of how a run ended.
+use Rattle.std.specs.Prelude.{◌≡◌, ◌⊎◌, ℕ, List, [], codes}
+use Rattle.std.specs.declared.option.Option.{Option}
+use Rattle.std.specs.Io.KnownBytes.{Appends}
+use Rattle.cube_io.specs.Content.{AppendsPrefix}
+use Rattle.cube_opening.specs.declared.report.Report.{Report}
+
+-- a report of this status and text, without outcomes
+abbrev pub IsReport : ℕ → List ℕ → Report → Type 0
+IsReport status text r = (r.status ≡ status) × (r.outcomes ≡ []) × (r.text ≡ text)
+
+-- there was no memory for the text of a report
+abbrev pub NoRoom : Report → Type 0
+NoRoom r = IsReport 7 [] r
+
+-- a text was put on the sink
+abbrev pub Prints : List ℕ → Option (List ℕ) → Option (List ℕ) → Report → Type 0
+Prints text written written' r =
+    (IsReport 0 [] r × Appends written written' text)
+    ⊎ (IsReport 6 (codes "output failed\n") r × AppendsPrefix written written' text)
+    ⊎ (NoRoom r × (written' ≡ written))

@@ -1,0 +1,8 @@
+//! The files of a command, read in turn, and the report of a run.
+#![tactic(auto)]
+
+mod opening;
+mod report;
+
+pub use opening::{Guarded, Opened, open_flat, open_guarded};
+pub use report::{Report, Room, no_room, with_text};

@@ -1,0 +1,327 @@
+// The files of a command, read in turn.
+ghost use Rattle.std.specs.Prelude.{◌≡◌, ◌≢◌, ◌⊎◌, ◌<◌, ◌≤◌, ◌++◌, ◌∷◌, [], length, codes, Ok, Err, IfOk, IfErr, OnOk, IfSome, IsSomeAnd};
+ghost use Rattle.cube_io.specs.Causes.{Rose};
+ghost use Rattle.cube_io.specs.Files.{max_file, file_of};
+ghost use Rattle.cube_dims.specs.Words as dims_words;
+ghost use Rattle.cube_dims.specs.declared.fault.DimsFault.TheVariants as dims_faults;
+ghost use Rattle.cube_facts.specs.Words as facts_words;
+ghost use Rattle.cube_facts.specs.declared.fault.FactsFault.TheVariants as facts_faults;
+ghost use Rattle.cube_policy.specs.Words as policy_words;
+ghost use Rattle.cube_policy.specs.declared.fault.PolicyFault.TheVariants as policy_faults;
+ghost use Rattle.cube_model.specs.Policies.{IsPolicy};
+ghost use Rattle.cube_opening.specs.Reports.{IsReport, NoRoom};
+ghost use Rattle.cube_opening.specs.Opening.{fault_text, unreadable_text as unreadable_words, dims_said, facts_said, policy_said, flat_said, Says, Unopened, AsksOnce, Makes, MakesAll, HasDims, EndsTwo, AsksTwo, EndsUnopened, AsksAll};
+
+use crate::report::{Report, Room, no_room, with_text};
+use cube_core::Core;
+use cube_dims::{DimsFault, read_dims};
+use cube_facts::{FactsFault, Flat, read_facts, read_flat};
+use cube_io::{FileFault, Folder};
+use cube_model::{Dims, NoMemory, Policy, Text};
+use cube_policy::{PolicyFault, read_policy};
+use std::alloc::Global;
+
+fn unreadable_text(alloc: Global, name: &Text) -> Result<Text, NoMemory>
+    ensures { IfOk result (λ text. text ≡ unreadable_words name.now) }
+{
+    let mut text = Text::from_bytes(alloc, b"cannot read ")?;
+    text.extend(name.as_slice())?;
+    text.extend(b"\n")?;
+    Ok(text)
+}
+
+/// A file that was read.
+#[derive(Drop)]
+pub struct Opened<T> {
+    /// The room for the text of a report, still empty.
+    pub room: Room,
+    /// What the file holds.
+    pub value: T,
+}
+
+/// A core, and the policy over it.
+#[derive(Drop)]
+pub struct Guarded {
+    /// The core.
+    pub core: Core,
+    /// How each measure is controlled, and what is protected.
+    pub policy: Policy,
+}
+
+// Reads the bytes of a file of a kind, as `dims`.
+fn read_bytes<F: Folder>(
+    alloc: Global,
+    room: Room,
+    kind: &[u8],
+    name: &Text,
+    files: &mut F,
+) -> Result<Opened<Text>, Report>
+    requires room { room ≡ [] }
+    requires kind { length kind.now ≤ 16 }
+    ensures ok { IfOk result (λ opened. (opened.room ≡ []) × IfSome (F.files files.old) (λ known. file_of known name.now ≡ Some opened.value) × (length opened.value ≤ max_file)) }
+    ensures err { IfErr result (λ r. NoRoom r ⊎ IsReport 7 (codes "no memory\n") r ⊎ (IsReport 5 (unreadable_words name.now) r × Rose (F.faults files.old) (F.faults files.new)) ⊎ (IsReport 3 (kind.now ++ codes ": limit file 67108864\n") r × IfSome (F.files files.old) (λ known. IsSomeAnd (file_of known name.now) (λ bytes. max_file < length bytes)))) }
+    ensures asks_ok { OnOk result (IfSome (F.asked files.old) (λ o. IsSomeAnd (F.asked files.new) (λ n. n ≡ o ++ name.now ∷ []))) }
+    ensures asks_err { IfErr result (λ r. AsksOnce name.now (F.asked files.old) (F.asked files.new) (F.faults files.old) (F.faults files.new) r) }
+    ensures files { F.files files.new ≡ F.files files.old }
+    ensures steady { OnOk result (F.faults files.new ≡ F.faults files.old) }
+    ensures steady_err { IfErr result (λ r. r.status ≢ 5 → F.faults files.new ≡ F.faults files.old) }
+{
+    let Ok(unreadable) = unreadable_text(alloc, name) else {
+        return Err(no_room(alloc));
+    };
+    match files.read_file(alloc, name) {
+        Ok(value) => Ok(Opened { room, value }),
+        Err(FileFault::Failed) => Err(with_text(alloc, 5, unreadable)),
+        Err(FileFault::TooLong) => Err(
+            room.with(kind)
+                .with(b": limit file 67108864\n")
+                .close(alloc, 3),
+        ),
+        Err(FileFault::NoMemory) => Err(room.with(b"no memory\n").close(alloc, 7)),
+    }
+}
+
+// The report on a fault of a file of a kind, in these words.
+fn refuse(alloc: Global, kind: &[u8], words: &Text) -> Report
+    ensures { NoRoom result ⊎ IsReport 3 (fault_text kind.now words.now) result }
+{
+    match refused_text(alloc, kind, words) {
+        Ok(text) => with_text(alloc, 3, text),
+        Err(_) => no_room(alloc),
+    }
+}
+
+fn refused_text(alloc: Global, kind: &[u8], words: &Text) -> Result<Text, NoMemory>
+    ensures { IfOk result (λ text. text ≡ fault_text kind.now words.now) }
+{
+    let mut text = Text::from_bytes(alloc, kind)?;
+    text.extend(b": ")?;
+    text.extend(words.as_slice())?;
+    text.extend(b"\n")?;
+    Ok(text)
+}
+
+fn refuse_dims(alloc: Global, room: Room, fault: DimsFault) -> Report
+    requires { room ≡ [] }
+    ensures { NoRoom result ⊎ IsReport 7 (codes "no memory\n") result ⊎ ((fault ≢ dims_faults.NoMemory) × IsReport 3 (fault_text (codes "dims") (dims_words.fault_words fault)) result) }
+{
+    match fault {
+        DimsFault::NoMemory => room.with(b"no memory\n").close(alloc, 7),
+        other => match cube_dims::fault_text(alloc, &other) {
+            Ok(words) => refuse(alloc, b"dims", &words),
+            Err(_) => no_room(alloc),
+        },
+    }
+}
+
+// The report on a fault of a fact file.
+fn refuse_facts(alloc: Global, room: Room, fault: FactsFault) -> Report
+    requires { room ≡ [] }
+    ensures { NoRoom result ⊎ IsReport 7 (codes "no memory\n") result ⊎ ((fault ≢ facts_faults.NoMemory) × IsReport 3 (fault_text (codes "facts") (facts_words.fault_words fault)) result) }
+{
+    match fault {
+        FactsFault::NoMemory => room.with(b"no memory\n").close(alloc, 7),
+        other => match cube_facts::fault_text(alloc, &other) {
+            Ok(words) => refuse(alloc, b"facts", &words),
+            Err(_) => no_room(alloc),
+        },
+    }
+}
+
+// The report on a fault of a policy file.
+fn refuse_policy(alloc: Global, room: Room, fault: PolicyFault) -> Report
+    requires { room ≡ [] }
+    ensures { NoRoom result ⊎ IsReport 7 (codes "no memory\n") result ⊎ ((fault ≢ policy_faults.NoMemory) × IsReport 3 (fault_text (codes "policy") (policy_words.fault_words fault)) result) }
+{
+    match fault {
+        PolicyFault::NoMemory => room.with(b"no memory\n").close(alloc, 7),
+        other => match cube_policy::fault_text(alloc, &other) {
+            Ok(words) => refuse(alloc, b"policy", &words),
+            Err(_) => no_room(alloc),
+        },
+    }
+}
+
+// Reads the dimension file.
+fn open_dims<F: Folder>(
+    alloc: Global,
+    room: Room,
+    name: &Text,
+    files: &mut F,
+) -> Result<Opened<Dims>, Report>
+    requires { room ≡ [] }
+    ensures ok { IfOk result (λ opened. (opened.room ≡ []) × IfSome (F.files files.old) (λ known. Says dims_said name.now known (Ok opened.value))) }
+    ensures err { IfErr result (λ r. Unopened dims_said name.now (F.files files.old) (F.faults files.old) (F.faults files.new) r) }
+    ensures asks_ok { OnOk result (IfSome (F.asked files.old) (λ o. IsSomeAnd (F.asked files.new) (λ n. n ≡ o ++ name.now ∷ []))) }
+    ensures asks_err { IfErr result (λ r. AsksOnce name.now (F.asked files.old) (F.asked files.new) (F.faults files.old) (F.faults files.new) r) }
+    ensures files { F.files files.new ≡ F.files files.old }
+    ensures steady { OnOk result (F.faults files.new ≡ F.faults files.old) }
+    ensures steady_err { IfErr result (λ r. r.status ≢ 5 → F.faults files.new ≡ F.faults files.old) }
+{
+    let opened = match read_bytes(alloc, room, b"dims", name, files) {
+        Ok(opened) => opened,
+        Err(report) => return Err(report),
+    };
+    match read_dims(alloc, opened.value.as_slice()) {
+        Ok(value) => Ok(Opened {
+            room: opened.room,
+            value,
+        }),
+        Err(fault) => Err(refuse_dims(alloc, opened.room, fault)),
+    }
+}
+
+// A core of what was read, whose making wants no check.
+fn make_core(alloc: Global, room: Room, dims: Dims, bytes: &[u8]) -> Result<Opened<Core>, Report>
+    requires { room ≡ [] }
+    ensures ok { IfOk result (λ opened. (opened.room ≡ []) × (length bytes.now ≤ max_file → facts_said dims bytes.now ≡ Ok opened.value)) }
+    ensures err { IfErr result (λ r. NoRoom r ⊎ IsReport 7 (codes "no memory\n") r ⊎ (IsReport 3 r.text r × (length bytes.now ≤ max_file → facts_said dims bytes.now ≡ Err r.text))) }
+{
+    let (shape, cube) = match read_facts(alloc, &dims, bytes) {
+        Ok(filled) => filled,
+        Err(fault) => return Err(refuse_facts(alloc, room, fault)),
+    };
+    match Core::new(alloc, dims, shape, cube) {
+        Ok(value) => Ok(Opened { room, value }),
+        Err(_) => Err(room.with(b"no memory\n").close(alloc, 7)),
+    }
+}
+
+// Reads the fact file under dimensions and measures.
+fn open_facts<F: Folder>(
+    alloc: Global,
+    room: Room,
+    name: &Text,
+    dims: Dims,
+    files: &mut F,
+) -> Result<Opened<Core>, Report>
+    requires { room ≡ [] }
+    ensures ok { IfOk result (λ opened. (opened.room ≡ []) × IfSome (F.files files.old) (λ known. Says (facts_said dims) name.now known (Ok opened.value))) }
+    ensures err { IfErr result (λ r. Unopened (facts_said dims) name.now (F.files files.old) (F.faults files.old) (F.faults files.new) r) }
+    ensures asks_ok { OnOk result (IfSome (F.asked files.old) (λ o. IsSomeAnd (F.asked files.new) (λ n. n ≡ o ++ name.now ∷ []))) }
+    ensures asks_err { IfErr result (λ r. AsksOnce name.now (F.asked files.old) (F.asked files.new) (F.faults files.old) (F.faults files.new) r) }
+    ensures files { F.files files.new ≡ F.files files.old }
+    ensures steady { OnOk result (F.faults files.new ≡ F.faults files.old) }
+    ensures steady_err { IfErr result (λ r. r.status ≢ 5 → F.faults files.new ≡ F.faults files.old) }
+{
+    let opened = match read_bytes(alloc, room, b"facts", name, files) {
+        Ok(opened) => opened,
+        Err(report) => return Err(report),
+    };
+    make_core(alloc, opened.room, dims, opened.value.as_slice())
+}
+
+/// Reads a flat fact file.
+pub fn open_flat<F: Folder>(
+    alloc: Global,
+    room: Room,
+    name: &Text,
+    files: &mut F,
+) -> Result<Opened<Flat>, Report>
+    requires { room ≡ [] }
+    ensures ok { IfOk result (λ opened. (opened.room ≡ []) × IfSome (F.files files.old) (λ known. Says flat_said name.now known (Ok opened.value))) }
+    ensures err { IfErr result (λ r. Unopened flat_said name.now (F.files files.old) (F.faults files.old) (F.faults files.new) r) }
+    ensures asks_ok { OnOk result (IfSome (F.asked files.old) (λ o. IsSomeAnd (F.asked files.new) (λ n. n ≡ o ++ name.now ∷ []))) }
+    ensures asks_err { IfErr result (λ r. AsksOnce name.now (F.asked files.old) (F.asked files.new) (F.faults files.old) (F.faults files.new) r) }
+    ensures files { F.files files.new ≡ F.files files.old }
+    ensures steady { OnOk result (F.faults files.new ≡ F.faults files.old) }
+    ensures steady_err { IfErr result (λ r. r.status ≢ 5 → F.faults files.new ≡ F.faults files.old) }
+{
+    let opened = match read_bytes(alloc, room, b"facts", name, files) {
+        Ok(opened) => opened,
+        Err(report) => return Err(report),
+    };
+    match read_flat(alloc, opened.value.as_slice()) {
+        Ok(value) => Ok(Opened {
+            room: opened.room,
+            value,
+        }),
+        Err(fault) => Err(refuse_facts(alloc, opened.room, fault)),
+    }
+}
+
+// Reads the dimension file and then the fact file.
+fn open_core<F: Folder>(
+    alloc: Global,
+    room: Room,
+    dims_name: &Text,
+    facts_name: &Text,
+    files: &mut F,
+) -> Result<Opened<Core>, Report>
+    requires { room ≡ [] }
+    ensures ok { IfOk result (λ opened. (opened.room ≡ []) × IfSome (F.files files.old) (Makes dims_name.now facts_name.now opened.value)) }
+    ensures err { IfErr result (λ r. EndsTwo dims_name.now facts_name.now (F.files files.old) (F.faults files.old) (F.faults files.new) r) }
+    ensures asks_ok { OnOk result (IfSome (F.asked files.old) (λ o. IsSomeAnd (F.asked files.new) (λ n. n ≡ o ++ dims_name.now ∷ facts_name.now ∷ []))) }
+    ensures asks_err { IfErr result (λ r. IfSome (F.asked files.old) (λ o. IsSomeAnd (F.asked files.new) (λ n. AsksTwo dims_name.now facts_name.now (F.files files.old) o n (F.faults files.old) (F.faults files.new) r))) }
+    ensures files { F.files files.new ≡ F.files files.old }
+    ensures steady { OnOk result (F.faults files.new ≡ F.faults files.old) }
+    ensures steady_err { IfErr result (λ r. r.status ≢ 5 → F.faults files.new ≡ F.faults files.old) }
+{
+    let opened = match open_dims(alloc, room, dims_name, files) {
+        Ok(opened) => opened,
+        Err(report) => return Err(report),
+    };
+    open_facts(alloc, opened.room, facts_name, opened.value, files)
+}
+
+// Reads the policy file under dimensions and measures.
+fn open_policy<F: Folder>(
+    alloc: Global,
+    room: Room,
+    name: &Text,
+    dims: &Dims,
+    files: &mut F,
+) -> Result<Opened<Policy>, Report>
+    requires { room ≡ [] }
+    ensures ok { IfOk result (λ opened. (opened.room ≡ []) × IfSome (F.files files.old) (λ known. Says (policy_said dims.now) name.now known (Ok opened.value))) }
+    ensures rules { IfOk result (λ opened. IsPolicy dims.now opened.value) }
+    ensures err { IfErr result (λ r. Unopened (policy_said dims.now) name.now (F.files files.old) (F.faults files.old) (F.faults files.new) r) }
+    ensures asks_ok { OnOk result (IfSome (F.asked files.old) (λ o. IsSomeAnd (F.asked files.new) (λ n. n ≡ o ++ name.now ∷ []))) }
+    ensures asks_err { IfErr result (λ r. AsksOnce name.now (F.asked files.old) (F.asked files.new) (F.faults files.old) (F.faults files.new) r) }
+    ensures files { F.files files.new ≡ F.files files.old }
+    ensures steady { OnOk result (F.faults files.new ≡ F.faults files.old) }
+    ensures steady_err { IfErr result (λ r. r.status ≢ 5 → F.faults files.new ≡ F.faults files.old) }
+{
+    let opened = match read_bytes(alloc, room, b"policy", name, files) {
+        Ok(opened) => opened,
+        Err(report) => return Err(report),
+    };
+    match read_policy(alloc, dims, opened.value.as_slice()) {
+        Ok(value) => Ok(Opened {
+            room: opened.room,
+            value,
+        }),
+        Err(fault) => Err(refuse_policy(alloc, opened.room, fault)),
+    }
+}
+
+/// Reads the dimension file, the fact file and the policy file, in turn.
+pub fn open_guarded<F: Folder>(
+    alloc: Global,
+    room: Room,
+    dims_name: &Text,
+    facts_name: &Text,
+    policy_name: &Text,
+    files: &mut F,
+) -> Result<Opened<Guarded>, Report>
+    requires { room ≡ [] }
+    ensures ok { IfOk result (λ opened. (opened.room ≡ []) × IfSome (F.files files.old) (MakesAll dims_name.now facts_name.now policy_name.now opened.value.core opened.value.policy)) }
+    ensures rules { IfOk result (λ opened. IsPolicy opened.value.core.dims opened.value.policy) }
+    ensures err { IfErr result (λ r. EndsUnopened dims_name.now facts_name.now policy_name.now (F.files files.old) (F.faults files.old) (F.faults files.new) r) }
+    ensures asks_ok { OnOk result (IfSome (F.asked files.old) (λ o. IsSomeAnd (F.asked files.new) (λ n. n ≡ o ++ dims_name.now ∷ facts_name.now ∷ policy_name.now ∷ []))) }
+    ensures asks_err { IfErr result (λ r. AsksAll dims_name.now facts_name.now policy_name.now (F.files files.old) (F.asked files.old) (F.asked files.new) (F.faults files.old) (F.faults files.new) r) }
+    ensures files { F.files files.new ≡ F.files files.old }
+    ensures steady { OnOk result (F.faults files.new ≡ F.faults files.old) }
+    ensures steady_err { IfErr result (λ r. r.status ≢ 5 → F.faults files.new ≡ F.faults files.old) }
+{
+    let (room, core) = match open_core(alloc, room, dims_name, facts_name, files) {
+        Ok(opened) => (opened.room, opened.value),
+        Err(report) => return Err(report),
+    };
+    let (room, policy) = match open_policy(alloc, room, policy_name, core.dims(), files) {
+        Ok(opened) => (opened.room, opened.value),
+        Err(report) => return Err(report),
+    };
+    let value = Guarded { core, policy };
+    Ok(Opened { room, value })
+}

@@ -1,0 +1,109 @@
+// How a run ended, and the room for the text that says so.
+ghost use Rattle.std.specs.Prelude.{◌≡◌, ◌≤◌, ◌+◌, ◌++◌, [], length, decimal, IfOk};
+ghost use Rattle.cube_opening.specs.Reports.{IsReport, NoRoom};
+
+use cube_model::{Items, NoMemory, Outcomes, Text};
+use itoa::Buffer;
+use std::alloc::Global;
+use std::marker::Model;
+
+/// How a run ended: the status of the process, what became of the asks, and the text for standard error.
+#[derive(Debug, Drop)]
+pub struct Report {
+    pub status: u8,
+    pub outcomes: Outcomes,
+    pub text: Text,
+}
+
+/// The report of a run that finds no memory for its text.
+pub fn no_room(alloc: Global) -> Report
+    ensures { NoRoom result }
+{
+    Report {
+        status: 7,
+        outcomes: Items::new(alloc),
+        text: Text::new(alloc),
+    }
+}
+
+/// A report without outcomes.
+pub fn with_text(alloc: Global, status: u8, text: Text) -> Report
+    ensures { IsReport status text result }
+{
+    Report {
+        status,
+        outcomes: Items::new(alloc),
+        text,
+    }
+}
+
+const ROOM: usize = 128;
+
+/// Room for 128 bytes of a report's text, filled in part.
+#[derive(Drop)]
+pub struct Room {
+    bytes: Vec<u8>,
+}
+
+impl Model for Room {
+    ghost use Rattle.std.specs.Prelude.{ℕ, List, ◌≤◌};
+    ghost use Rattle.std.specs.Vec.{vec_capacity};
+
+    ghost Value = { List ℕ };
+
+    ghost view = { λ r. r.bytes.items };
+
+    ghost invariant = { λ r. 128 ≤ vec_capacity r.bytes };
+}
+
+impl Room {
+    /// Room that is empty.
+    pub fn new(alloc: Global) -> Result<Room, NoMemory>
+        ensures { IfOk result (λ room. room ≡ []) }
+    {
+        Ok(Room {
+            bytes: Vec::with_capacity(alloc, ROOM)?,
+        })
+    }
+
+    /// The room with a text put at the end.
+    pub fn with(self, text: &[u8]) -> Room
+        requires { length self + length text.now ≤ 128 }
+        ensures { result ≡ self ++ text.now }
+    {
+        let mut bytes = self.bytes;
+        match bytes.extend_from_slice(text) {
+            Ok(()) => Room { bytes },
+            Err(_) => unreachable!(),
+        }
+    }
+
+    /// The room with a number put at the end, which takes 20 bytes at most.
+    pub fn with_number(self, number: u64) -> Room
+        requires { length self + 20 ≤ 128 }
+        ensures text { result ≡ self ++ decimal number }
+        ensures few { length result ≤ length self + 20 }
+    {
+        self.with(Buffer::new().format(number).as_bytes())
+    }
+
+    /// The report of this text, with what became of the asks.
+    pub fn close_with(self, status: u8, outcomes: Outcomes) -> Report
+        ensures status { result.status ≡ status }
+        ensures outcomes { result.outcomes ≡ outcomes }
+        ensures text { result.text ≡ self }
+    {
+        Report {
+            status,
+            outcomes,
+            text: Text::from_vec(self.bytes),
+        }
+    }
+
+    /// The report of this text.
+    pub fn close(self, alloc: Global, status: u8) -> Report
+        ensures { IsReport status self result }
+    {
+        with_text(alloc, status, Text::from_vec(self.bytes))
+    }
+}

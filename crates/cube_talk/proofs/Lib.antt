@@ -1,0 +1,10 @@
+pub mod AskTalk
+pub mod AskCrash
+pub mod Cuts
+pub mod Kept
+pub mod Pieces
+pub mod Settled
+pub mod Speech
+pub mod Spoken
+pub mod SumTalk
+pub mod Talks

@@ -1,0 +1,17 @@
+use Rattle.std.proofs.Common.{◌≡◌, false, List, ℕ, length}
+use Rattle.cube_talk.specs.Talk.{IsKept}
+use Rattle.cube_talk.proofs.Pieces.{Progress}
+use Rattle.cube_talk.proofs.talk.answer_piece.Given as goal
+
+abbrev pub invariant-lines : goal.invariant-lines
+invariant-lines g l = record {
+  stands : g.R.Responder.stands l.responder l.store;
+  going : g.R.Responder.done l.responder ≡ false;
+  steady : g.O.Sink.faults l.out ≡ g.O.Sink.faults l.initial.out;
+  progress : (open_part : List ℕ) → IsKept l.initial.carry open_part
+      → Progress g.R.Responder.says l.initial.responder l.responder l.initial.store l.store open_part l.piece l.rest l.carry l.initial.replies l.replies
+      (g.O.Sink.written l.initial.out) (g.O.Sink.written l.out);
+}
+
+abbrev pub decreases-lines : goal.decreases-lines
+decreases-lines g l = length l.rest

@@ -1,0 +1,202 @@
+-- The lines of `ask` are answered one after another.
+use Rattle.std.proofs.Common.{◌≡◌, ◌<◌, ◌≤◌, ℕ, zero, suc, ◌+◌, Bool, true, false, List, [], ◌∷◌, ◌++◌, length, drop, refl, sym, ap, ◌∙◌, append_assoc, append-nil, length-append, arith, if◌then◌else◌}
+use Rattle.std.proofs.lemmas.Bool.Decides.{nat_tests}
+use Rattle.cube_model.specs.declared.outcome.Outcome.{Outcome}
+use Rattle.cube_model.specs.Rooms.{Room}
+use Rattle.cube_io.specs.Causes.{Rose}
+use Rattle.cube_io.specs.Desks.{Manner}
+use Rattle.cube_talk.specs.Replies.{reply_text}
+use Rattle.cube_talk.specs.Asks.{is_too_long, too_large, ask_of, asks_in, up_to_asks, said, rooms_behind, NoneFailed, Answers}
+
+pub by_test : {P : Type 0} (b : Bool) → (b ≡ true → P) → (b ≡ false → P) → P
+by_test true f g = f refl
+by_test false f g = g refl
+
+-- ---- one line before others
+
+pub asks_long : (line : List ℕ) (rest : List (List ℕ)) → is_too_long line ≡ true → asks_in (line ∷ rest) ≡ asks_in rest
+asks_long line rest t = rw t refl
+
+pub asks_one : (line : List ℕ) (rest : List (List ℕ)) → is_too_long line ≡ false → asks_in (line ∷ rest) ≡ suc (asks_in rest)
+asks_one line rest f = rw f refl
+
+pub said_long : (m : Manner) (rooms : List Room) (line : List ℕ) (rest : List (List ℕ)) (os : List Outcome) → is_too_long line ≡ true → said m rooms (line ∷ rest) os ≡ too_large ++ said m rooms rest os
+said_long m rooms line rest [] t = rw t refl
+said_long m rooms line rest (o ∷ os) t = rw t refl
+
+pub rooms_long : (m : Manner) (rooms : List Room) (line : List ℕ) (rest : List (List ℕ)) (os : List Outcome) → is_too_long line ≡ true → rooms_behind m rooms (line ∷ rest) os ≡ rooms_behind m rooms rest os
+rooms_long m rooms line rest [] t = rw t refl
+rooms_long m rooms line rest (o ∷ os) t = rw t refl
+
+pub said_one : (m : Manner) (rooms : List Room) (line : List ℕ) (rest : List (List ℕ)) (o : Outcome) (os : List Outcome) → is_too_long line ≡ false
+    → said m rooms (line ∷ rest) (o ∷ os) ≡ reply_text (m.reply rooms (ask_of line) o) ++ said m (m.next rooms (ask_of line) o) rest os
+said_one m rooms line rest o os f = rw f refl
+
+pub rooms_one : (m : Manner) (rooms : List Room) (line : List ℕ) (rest : List (List ℕ)) (o : Outcome) (os : List Outcome) → is_too_long line ≡ false
+    → rooms_behind m rooms (line ∷ rest) (o ∷ os) ≡ rooms_behind m (m.next rooms (ask_of line) o) rest os
+rooms_one m rooms line rest o os f = rw f refl
+
+-- ---- lines behind lines
+
+pub asks_append : (xs ys : List (List ℕ)) → asks_in (xs ++ ys) ≡ asks_in xs + asks_in ys
+asks_append [] ys = omega arith
+asks_append (line ∷ rest) ys = by_test (is_too_long line)
+    (λ t. rw (asks_long line (rest ++ ys) t, asks_long line rest t) (asks_append rest ys))
+    (λ f. let more = asks_append rest ys in rw (asks_one line (rest ++ ys) f, asks_one line rest f) (omega (arith, more)))
+
+abbrev SaidAppends : Manner → List (List ℕ) → List (List ℕ) → List Outcome → Type 0
+SaidAppends m xs ys ps = (rooms : List Room) (os : List Outcome) → length os ≡ asks_in xs → said m rooms (xs ++ ys) (os ++ ps) ≡ said m rooms xs os ++ said m (rooms_behind m rooms xs os) ys ps
+
+said_append_one : (m : Manner) (rooms : List Room) (line : List ℕ) (rest ys : List (List ℕ)) (os ps : List Outcome) → is_too_long line ≡ false → length os ≡ asks_in (line ∷ rest) → SaidAppends m rest ys ps
+    → said m rooms (line ∷ rest ++ ys) (os ++ ps) ≡ said m rooms (line ∷ rest) os ++ said m (rooms_behind m rooms (line ∷ rest) os) ys ps
+said_append_one m rooms line rest ys [] ps f e more = absurd (let e' = asks_one line rest f in omega (arith, e, e'))
+said_append_one m rooms line rest ys (o ∷ os) ps f e more =
+    let next = m.next rooms (ask_of line) o in
+    let reply = reply_text (m.reply rooms (ask_of line) o) in
+    let few : length os ≡ asks_in rest = let e' = asks_one line rest f in omega (arith, e, e') in
+    said_one m rooms line (rest ++ ys) o (os ++ ps) f
+    ∙ ap (λ (l : List ℕ). reply ++ l) (more next os few)
+    ∙ sym (append_assoc reply (said m next rest os) (said m (rooms_behind m next rest os) ys ps))
+    ∙ ap (λ (l : List ℕ). l ++ said m (rooms_behind m next rest os) ys ps) (sym (said_one m rooms line rest o os f))
+    ∙ ap (λ (r : List Room). said m rooms (line ∷ rest) (o ∷ os) ++ said m r ys ps) (sym (rooms_one m rooms line rest o os f))
+
+pub said_append : (m : Manner) (xs ys : List (List ℕ)) (ps : List Outcome) → SaidAppends m xs ys ps
+said_append m [] ys ps rooms [] e = refl
+said_append m [] ys ps rooms (o ∷ os) e = absurd (omega (arith, e))
+said_append m (line ∷ rest) ys ps rooms os e = by_test (is_too_long line)
+    (λ t. let few : length os ≡ asks_in rest = e ∙ asks_long line rest t in
+    said_long m rooms line (rest ++ ys) (os ++ ps) t
+    ∙ ap (λ (l : List ℕ). too_large ++ l) (said_append m rest ys ps rooms os few)
+    ∙ sym (append_assoc too_large (said m rooms rest os) (said m (rooms_behind m rooms rest os) ys ps))
+    ∙ ap (λ (l : List ℕ). l ++ said m (rooms_behind m rooms rest os) ys ps) (sym (said_long m rooms line rest os t))
+    ∙ ap (λ (r : List Room). said m rooms (line ∷ rest) os ++ said m r ys ps) (sym (rooms_long m rooms line rest os t)))
+    (λ f. said_append_one m rooms line rest ys os ps f e (said_append m rest ys ps))
+
+abbrev RoomsAppend : Manner → List (List ℕ) → List (List ℕ) → List Outcome → Type 0
+RoomsAppend m xs ys ps = (rooms : List Room) (os : List Outcome) → length os ≡ asks_in xs → rooms_behind m rooms (xs ++ ys) (os ++ ps) ≡ rooms_behind m (rooms_behind m rooms xs os) ys ps
+
+rooms_append_one : (m : Manner) (rooms : List Room) (line : List ℕ) (rest ys : List (List ℕ)) (os ps : List Outcome) → is_too_long line ≡ false → length os ≡ asks_in (line ∷ rest) → RoomsAppend m rest ys ps
+    → rooms_behind m rooms (line ∷ rest ++ ys) (os ++ ps) ≡ rooms_behind m (rooms_behind m rooms (line ∷ rest) os) ys ps
+rooms_append_one m rooms line rest ys [] ps f e more = absurd (let e' = asks_one line rest f in omega (arith, e, e'))
+rooms_append_one m rooms line rest ys (o ∷ os) ps f e more =
+    let few : length os ≡ asks_in rest = let e' = asks_one line rest f in omega (arith, e, e') in
+    rooms_one m rooms line (rest ++ ys) o (os ++ ps) f
+    ∙ more (m.next rooms (ask_of line) o) os few
+    ∙ ap (λ (r : List Room). rooms_behind m r ys ps) (sym (rooms_one m rooms line rest o os f))
+
+pub rooms_append : (m : Manner) (xs ys : List (List ℕ)) (ps : List Outcome) → RoomsAppend m xs ys ps
+rooms_append m [] ys ps rooms [] e = refl
+rooms_append m [] ys ps rooms (o ∷ os) e = absurd (omega (arith, e))
+rooms_append m (line ∷ rest) ys ps rooms os e = by_test (is_too_long line)
+    (λ t. rooms_long m rooms line (rest ++ ys) (os ++ ps) t
+    ∙ rooms_append m rest ys ps rooms os (e ∙ asks_long line rest t)
+    ∙ ap (λ (r : List Room). rooms_behind m r ys ps) (sym (rooms_long m rooms line rest os t)))
+    (λ f. rooms_append_one m rooms line rest ys os ps f e (rooms_append m rest ys ps))
+
+up_to_none : (n : ℕ) → up_to_asks n [] ≡ []
+up_to_none zero = refl
+up_to_none (suc n) = refl
+
+-- lines that all come while there is room, and then others
+pub up_to_over : (n k : ℕ) (xs ys : List (List ℕ)) → up_to_asks n xs ≡ xs → n ≡ k + asks_in xs → up_to_asks n (xs ++ ys) ≡ xs ++ up_to_asks k ys
+up_to_over n k [] ys e is = let same : n ≡ k = omega (arith, is) in ap (λ (i : ℕ). up_to_asks i ys) same
+up_to_over zero k (line ∷ rest) ys e is = cc
+up_to_over (suc n) k (line ∷ rest) ys e is = by_test (is_too_long line)
+    (λ t. let inner : up_to_asks (suc n) rest ≡ rest = rw t at (ap (λ (l : List (List ℕ)). drop 1 l) e) in
+    let left : suc n ≡ k + asks_in rest = let e' = asks_long line rest t in omega (arith, is, e') in
+    rw t (ap (λ (l : List (List ℕ)). line ∷ l) (up_to_over (suc n) k rest ys inner left)))
+    (λ f. let inner : up_to_asks n rest ≡ rest = rw f at (ap (λ (l : List (List ℕ)). drop 1 l) e) in
+    let left : n ≡ k + asks_in rest = let e' = asks_one line rest f in omega (arith, is, e') in
+    rw f (ap (λ (l : List (List ℕ)). line ∷ l) (up_to_over n k rest ys inner left)))
+
+none_failed_append : (os ps : List Outcome) → NoneFailed os → NoneFailed ps → NoneFailed (os ++ ps)
+none_failed_append [] ps h k = k
+none_failed_append (o ∷ os) ps h k = (h.0, none_failed_append os ps h.1 k)
+
+-- a count that rose stays so
+rises_on : (a b c : ℕ) → Rose a b → b ≤ c → Rose a c
+rises_on a b c rose later = omega (arith, rose, later)
+
+rises_before : (a b c : ℕ) → a ≤ b → Rose b c → Rose a c
+rises_before a b c later rose = omega (arith, rose, later)
+
+-- ---- the laws
+
+pub none : (m : Manner) (rooms : List Room) (os : List Outcome) (room faults : ℕ) → Answers m m rooms rooms os os room room faults faults [] []
+none m rooms os room faults = record {
+  manner = refl;
+  added = [];
+  outcomes_are = sym (append-nil os);
+  matched = refl;
+  rooms_are = refl;
+  text_is = refl;
+  room_left = omega arith;
+  within = up_to_none room;
+  later = omega arith;
+  calm = λ e. tt;
+}
+
+pub onward : (m m' m'' : Manner) (rooms rooms' rooms'' : List Room) (os os' os'' : List Outcome) (room room' room'' faults faults' faults'' : ℕ) (first more : List (List ℕ)) (text behind : List ℕ)
+    → Answers m m' rooms rooms' os os' room room' faults faults' first text → Answers m' m'' rooms' rooms'' os' os'' room' room'' faults' faults'' more behind
+    → Answers m m'' rooms rooms'' os os'' room room'' faults faults'' (first ++ more) (text ++ behind)
+onward m m' m'' rooms rooms' rooms'' os os' os'' room room' room'' faults faults' faults'' first more text behind h k =
+    let over : rooms_behind m' rooms' more k.added ≡ rooms_behind m (rooms_behind m rooms first h.added) more k.added =
+    ap (λ (n : Manner). rooms_behind n rooms' more k.added) h.manner ∙ ap (λ (r : List Room). rooms_behind m r more k.added) h.rooms_are in
+    let said_over : said m' rooms' more k.added ≡ said m (rooms_behind m rooms first h.added) more k.added =
+    ap (λ (n : Manner). said n rooms' more k.added) h.manner ∙ ap (λ (r : List Room). said m r more k.added) h.rooms_are in
+    record {
+      manner = k.manner ∙ h.manner;
+      added = h.added ++ k.added;
+      outcomes_are = k.outcomes_are ∙ ap (λ (l : List Outcome). l ++ k.added) h.outcomes_are ∙ append_assoc os h.added k.added;
+      matched = rw (length-append, asks_append first more) (omega (arith, h.matched, k.matched));
+      rooms_are = k.rooms_are ∙ over ∙ sym (rooms_append m first more k.added rooms h.added h.matched);
+      text_is = ap (λ (l : List ℕ). l ++ behind) h.text_is ∙ ap (λ (l : List ℕ). said m rooms first h.added ++ l) (k.text_is ∙ said_over) ∙ sym (said_append m first more k.added rooms h.added h.matched);
+      room_left = rw (asks_append first more) (omega (arith, h.room_left, k.room_left));
+      within = up_to_over room room' first more h.within (sym h.room_left) ∙ ap (λ (l : List (List ℕ)). first ++ l) k.within;
+      later = omega (arith, h.later, k.later);
+      calm = λ none. none_failed_append h.added k.added (h.calm (λ rose. none (rises_on faults faults' faults'' rose k.later))) (k.calm (λ rose. none (rises_before faults faults' faults'' h.later rose)));
+    }
+
+pub none_adds : (m : Manner) (rooms : List Room) (os : List Outcome) (room faults : ℕ) → (none m rooms os room faults).added ≡ []
+unfolding none
+none_adds m rooms os room faults = refl
+
+pub onward_adds : (m m' m'' : Manner) (rooms rooms' rooms'' : List Room) (os os' os'' : List Outcome) (room room' room'' faults faults' faults'' : ℕ) (first more : List (List ℕ)) (text behind : List ℕ)
+    (h : Answers m m' rooms rooms' os os' room room' faults faults' first text) (k : Answers m' m'' rooms' rooms'' os' os'' room' room'' faults' faults'' more behind)
+    → (onward m m' m'' rooms rooms' rooms'' os os' os'' room room' room'' faults faults' faults'' first more text behind h k).added ≡ h.added ++ k.added
+unfolding onward
+onward_adds m m' m'' rooms rooms' rooms'' os os' os'' room room' room'' faults faults' faults'' first more text behind h k = refl
+
+pub too_long : (line : List ℕ) → 65536 < length line → is_too_long line ≡ true
+too_long line h = grind (arith, nat_tests)
+
+pub within_one : (room : ℕ) (line : List ℕ) → 1 ≤ room → up_to_asks room (line ∷ []) ≡ line ∷ []
+within_one zero line h = absurd (omega (arith, h))
+within_one (suc n) line h = ap (λ (l : List (List ℕ)). line ∷ l) (up_to_none (if is_too_long line then suc n else n))
+
+has_room : (room : ℕ) (line : List ℕ) → up_to_asks room (line ∷ []) ≡ line ∷ [] → 1 ≤ room
+has_room zero line e = cc
+has_room (suc n) line e = omega arith
+
+pub alike : (m m' : Manner) (rooms rooms' : List Room) (os os' : List Outcome) (room room' faults faults' : ℕ) (line other text : List ℕ) → 65536 < length line → 65536 < length other
+    → Answers m m' rooms rooms' os os' room room' faults faults' (line ∷ []) text → Answers m m' rooms rooms' os os' room room' faults faults' (other ∷ []) text
+alike m m' rooms rooms' os os' room room' faults faults' line other text h k a =
+    let l = too_long line h in
+    let o = too_long other k in
+    record {
+      manner = a.manner;
+      added = a.added;
+      outcomes_are = a.outcomes_are;
+      matched = a.matched ∙ asks_long line [] l ∙ sym (asks_long other [] o);
+      rooms_are = a.rooms_are ∙ rooms_long m rooms line [] a.added l ∙ sym (rooms_long m rooms other [] a.added o);
+      text_is = a.text_is ∙ said_long m rooms line [] a.added l ∙ sym (said_long m rooms other [] a.added o);
+      room_left = rw (asks_long other [] o) (rw (asks_long line [] l) at a.room_left);
+      within = within_one room other (has_room room line a.within);
+      later = a.later;
+      calm = a.calm;
+    }
+
+pub alike_adds : (m m' : Manner) (rooms rooms' : List Room) (os os' : List Outcome) (room room' faults faults' : ℕ) (line other text : List ℕ) (h : 65536 < length line) (k : 65536 < length other)
+    (a : Answers m m' rooms rooms' os os' room room' faults faults' (line ∷ []) text) → (alike m m' rooms rooms' os os' room room' faults faults' line other text h k a).added ≡ a.added
+unfolding alike
+alike_adds m m' rooms rooms' os os' room room' faults faults' line other text h k a = refl

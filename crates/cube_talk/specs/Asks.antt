@@ -1,0 +1,118 @@
+-- What is said to the lines of `ask`, each of which is an ask of a desk.
+use Rattle.std.specs.Prelude.{◌≡◌, ◌≢◌, ◌⊎◌, ⊤, ℕ, zero, suc, ◌+◌, ◌≤◌, ◌<◌, nat_lt, Bool, List, [], ◌∷◌, ◌++◌, length, if◌then◌else◌}
+use Rattle.std.specs.declared.option.Option.{Option}
+use Rattle.std.specs.Str.Lines.{lines}
+use Rattle.std.specs.Io.KnownBytes.{Appends, Consumes}
+use Rattle.cube_model.specs.declared.ask.Ask.{Ask}
+use Rattle.cube_model.specs.declared.ask.Ask.TheVariants.{Query}
+use Rattle.cube_model.specs.declared.outcome.Outcome.{Outcome}
+use Rattle.cube_model.specs.declared.outcome.Outcome.TheVariants as outcome
+use Rattle.cube_model.specs.declared.reply.Fixed.TheVariants.{TooLarge}
+use Rattle.cube_model.specs.declared.reply.Reply.TheVariants.{Fixed}
+use Rattle.cube_model.specs.Rooms.{Room}
+use Rattle.cube_io.specs.Causes.{Rose}
+use Rattle.cube_io.specs.Content.{AppendsPrefix}
+use Rattle.cube_io.specs.Desks.{Manner}
+use Rattle.cube_talk.specs.Lines.{ended_lines}
+use Rattle.cube_talk.specs.Replies.{reply_text}
+use Rattle.cube_talk.specs.Talk.{max_line, max_input}
+use Rattle.cube_talk.specs.declared.talk.Ending.{Ending}
+use Rattle.cube_talk.specs.declared.talk.Ending.TheVariants.{Ended, InputFailed, OutputFailed, NoMemory, Spent}
+
+-- ---- lines as asks
+
+-- a line of more bytes is no ask
+abbrev pub is_too_long : List ℕ → Bool
+is_too_long line = nat_lt max_line (length line)
+
+-- what is said to it
+abbrev pub too_large : List ℕ
+too_large = reply_text (Fixed TooLarge)
+
+-- the ask that a line is
+abbrev pub ask_of : List ℕ → Ask
+ask_of line = Query line
+
+-- how many of the lines are asks
+abbrev pub asks_in : List (List ℕ) → ℕ
+asks_in [] = 0
+asks_in (line ∷ rest) = if is_too_long line then asks_in rest else suc (asks_in rest)
+
+-- the lines up to the last of so many asks; behind it nothing is said
+abbrev pub up_to_asks : ℕ → List (List ℕ) → List (List ℕ)
+up_to_asks zero ls = []
+up_to_asks (suc n) [] = []
+up_to_asks (suc n) (line ∷ rest) = line ∷ up_to_asks (if is_too_long line then suc n else n) rest
+
+-- ---- the talk
+
+-- What is said to some lines: a line that is too long takes no outcome, an ask takes the next. Nothing is said where an outcome is
+-- needed and none is left.
+abbrev pub said : Manner → List Room → List (List ℕ) → List Outcome → List ℕ
+said m rooms [] os = []
+said m rooms (line ∷ rest) [] = if is_too_long line then too_large ++ said m rooms rest [] else []
+said m rooms (line ∷ rest) (o ∷ os) =
+    if is_too_long line then too_large ++ said m rooms rest (o ∷ os)
+    else reply_text (m.reply rooms (ask_of line) o) ++ said m (m.next rooms (ask_of line) o) rest os
+
+-- the rooms behind them
+abbrev pub rooms_behind : Manner → List Room → List (List ℕ) → List Outcome → List Room
+rooms_behind m rooms [] os = rooms
+rooms_behind m rooms (line ∷ rest) [] = if is_too_long line then rooms_behind m rooms rest [] else rooms
+rooms_behind m rooms (line ∷ rest) (o ∷ os) =
+    if is_too_long line then rooms_behind m rooms rest (o ∷ os)
+    else rooms_behind m (m.next rooms (ask_of line) o) rest os
+
+-- what is said to some lines, up to the last of the stated asks
+abbrev pub talk : Manner → List Room → List (List ℕ) → List Outcome → ℕ → List ℕ
+talk m rooms ls os stated = said m rooms (up_to_asks stated ls) os
+
+-- ---- one who answers
+
+-- the journal failed for none of the asks
+abbrev pub NoneFailed : List Outcome → Type 0
+NoneFailed [] = ⊤
+NoneFailed (o ∷ os) = (o ≢ outcome.JournalFault) × NoneFailed os
+
+-- These lines were answered by this text, each ask with one outcome; all of them came while there was room. The journal failed for
+-- some of them only where the store's count of faults rose.
+pub record Answers (m m' : Manner) (rooms rooms' : List Room) (outcomes outcomes' : List Outcome) (room room' faults faults' : ℕ) (ls : List (List ℕ)) (text : List ℕ) : Type 0 where
+  pub manner : m' ≡ m
+  pub added : List Outcome
+  pub outcomes_are : outcomes' ≡ outcomes ++ added
+  pub matched : length added ≡ asks_in ls
+  pub rooms_are : rooms' ≡ rooms_behind m rooms ls added
+  pub text_is : text ≡ said m rooms ls added
+  pub room_left : room' + asks_in ls ≡ room
+  pub within : up_to_asks room ls ≡ ls
+  pub later : faults ≤ faults'
+  pub calm : ¬ Rose faults faults' → NoneFailed added
+
+-- ---- the whole
+
+-- so many asks, or so many bytes, that no more are taken
+abbrev pub IsSpent : Manner → List Room → ℕ → List Outcome → List ℕ → Option (List ℕ) → Option (List ℕ) → Type 0
+IsSpent m rooms stated os text old new =
+    ((length os ≡ stated) × (stated ≤ asks_in (lines text)) × Appends old new (talk m rooms (lines text) os stated))
+    ⊎ ((length os ≡ asks_in (ended_lines text)) × (length os < stated) × (length text ≡ max_input) × Appends old new (talk m rooms (ended_lines text) os stated))
+
+-- What was written of the talk over the bytes of an input, by how it ended, and how many asks there were: all of it where the input
+-- came to its end; that over the ended lines where a read failed; a beginning of it where a put failed.
+abbrev pub Says : Ending → Manner → List Room → ℕ → List Outcome → List ℕ → Option (List ℕ) → Option (List ℕ) → Type 0
+Says Ended m rooms stated os text old new = (length os ≡ asks_in (lines text)) × (length os < stated) × (length text < max_input) × Appends old new (talk m rooms (lines text) os stated)
+Says InputFailed m rooms stated os text old new = (length os ≡ asks_in (ended_lines text)) × (length os < stated) × (length text < max_input) × Appends old new (talk m rooms (ended_lines text) os stated)
+Says OutputFailed m rooms stated os text old new = AppendsPrefix old new (talk m rooms (lines text) os stated)
+Says NoMemory m rooms stated os text old new = ⊥
+Says Spent m rooms stated os text old new = IsSpent m rooms stated os text old new
+
+-- Of the bytes that were taken of an input, the talk of a desk with these rooms and this room for asks was written. The first of the
+-- lines were answered, and each ask among them has an outcome.
+pub record Talked (m : Manner) (rooms : List Room) (stated : ℕ) (ending : Ending) (os : List Outcome) (bytes : ℕ) (left left' written written' : Option (List ℕ)) : Type 0 where
+  pub text : List ℕ
+  pub taken : Consumes left left' text
+  pub counted : bytes ≡ length text
+  pub first : List (List ℕ)
+  pub more : List (List ℕ)
+  pub split : lines text ≡ first ++ more
+  pub matched : length os ≡ asks_in first
+  pub says : Says ending m rooms stated os text written written'

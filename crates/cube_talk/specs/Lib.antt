@@ -1,0 +1,11 @@
+pub mod Lines
+pub mod Talk
+pub mod Piece
+pub mod Replies
+pub mod Sums
+pub mod SumLaws
+pub mod Asks
+pub mod AskLaws
+pub mod Crashes
+pub mod CrashLaws
+pub mod Examples

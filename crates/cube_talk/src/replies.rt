@@ -1,0 +1,126 @@
+// What is said to the lines of an input.
+ghost use Rattle.std.specs.Prelude.{◌≡◌, ◌≤◌, ◌<◌, ◌^◌, ◌+◌, ◌++◌, ◌∷◌, [], length, take, decimal, IsOk, OnOk, OnErr};
+ghost use Rattle.std.specs.Io.KnownBytes.{Appends};
+ghost use Rattle.cube_io.specs.Causes.{HasCause};
+ghost use Rattle.cube_io.specs.Content.{AppendsPrefix};
+ghost use Rattle.cube_talk.specs.Replies.{head_text, reply_text, said_text};
+ghost use Rattle.cube_talk.specs.Talk.{Spoke};
+
+use cube_http::{body_of, status_of};
+use cube_io::{Failed, Sink};
+use cube_model::{Reply, Text};
+use itoa::Buffer;
+use std::alloc::Global;
+use std::marker::Model;
+
+/// What is said to one line.
+#[derive(Debug, Drop)]
+pub enum Said {
+    /// A text.
+    Text(Text),
+    /// A reply, with its status and its length in a line before it.
+    Reply(Reply),
+}
+
+// No head has more bytes.
+const HEAD: usize = 32;
+
+// Writes a text behind what was written. Tells how much is written then.
+fn write_at(buf: &mut [u8; HEAD], at: usize, text: &[u8]) -> usize
+    requires { at + length text.now ≤ 32 }
+    ensures end { result ≡ at + length text.now }
+    ensures written { take result buf.new ≡ take at buf.old ++ text.now }
+{
+    let end = at + text.len();
+    buf[at..end].copy_from_slice(text);
+    end
+}
+
+// Writes the status and the length of a reply.
+fn write_head(buf: &mut [u8; HEAD], status: u16, len: usize) -> usize
+    ensures written { take result buf.new ≡ head_text status len }
+    ensures short { result ≤ 32 }
+{
+    let mut number = Buffer::new();
+    let at = write_at(buf, 0, number.format(status).as_bytes());
+    let at = write_at(buf, at, b" ");
+    let at = write_at(buf, at, number.format(len).as_bytes());
+    write_at(buf, at, b"\n")
+}
+
+/// What waits to be written, so that the answers to the lines of one piece are put together. Where there is no memory for that, it
+/// is written at once.
+#[derive(Drop)]
+pub struct Replies {
+    waiting: Vec<u8>,
+}
+
+impl Model for Replies {
+    ghost use Rattle.std.specs.Prelude.{ℕ, List};
+
+    ghost Value = { List ℕ };
+
+    ghost view = { λ r. r.waiting.items };
+}
+
+impl Replies {
+    /// Nothing waits.
+    pub fn new(alloc: Global) -> Self
+        ensures { result ≡ [] }
+    {
+        Replies {
+            waiting: Vec::new(alloc),
+        }
+    }
+
+    /// Writes all that waits.
+    pub fn flush<O: Sink>(&mut self, out: &mut O) -> Result<(), Failed>
+        ensures ok { OnOk result ((self.new ≡ []) × Appends (O.written out.old) (O.written out.new) self.old) }
+        ensures err { OnErr result (AppendsPrefix (O.written out.old) (O.written out.new) self.old) }
+        ensures empty { self.old ≡ [] → IsOk result }
+        ensures cause { HasCause (O.faults out.old) (O.faults out.new) result }
+    {
+        out.put(self.waiting.as_slice())?;
+        self.waiting.clear();
+        Ok(())
+    }
+
+    // Says some bytes.
+    #[tactic(auto, using(crate::proofs::Spoken::spoke_kept, crate::proofs::Spoken::spoke_put, crate::proofs::Spoken::broken_before, crate::proofs::Spoken::broken_behind))]
+    fn put<O: Sink>(&mut self, out: &mut O, bytes: &[u8]) -> Result<(), Failed>
+        ensures ok { OnOk result (Spoke bytes.now self.old self.new (O.written out.old) (O.written out.new)) }
+        ensures err { OnErr result (AppendsPrefix (O.written out.old) (O.written out.new) (self.old ++ bytes.now)) }
+        ensures cause { HasCause (O.faults out.old) (O.faults out.new) result }
+    {
+        if self.waiting.extend_from_slice(bytes).is_ok() {
+            return Ok(());
+        }
+        self.flush(out)?;
+        out.put(bytes)
+    }
+
+    fn put_reply<O: Sink>(&mut self, out: &mut O, reply: &Reply) -> Result<(), Failed>
+        ensures ok { OnOk result (Spoke (reply_text reply.now) self.old self.new (O.written out.old) (O.written out.new)) }
+        ensures err { OnErr result (AppendsPrefix (O.written out.old) (O.written out.new) (self.old ++ reply_text reply.now)) }
+        ensures cause { HasCause (O.faults out.old) (O.faults out.new) result }
+    {
+        let body = body_of(reply);
+        let mut head = [0u8; HEAD];
+        let end = write_head(&mut head, status_of(reply), body.len());
+        self.put(out, &head[..end])?;
+        self.put(out, body)?;
+        Ok(())
+    }
+
+    /// Says what is said to a line.
+    pub fn say<O: Sink>(&mut self, out: &mut O, said: &Said) -> Result<(), Failed>
+        ensures ok { OnOk result (Spoke (said_text said.now) self.old self.new (O.written out.old) (O.written out.new)) }
+        ensures err { OnErr result (AppendsPrefix (O.written out.old) (O.written out.new) (self.old ++ said_text said.now)) }
+        ensures cause { HasCause (O.faults out.old) (O.faults out.new) result }
+    {
+        match said {
+            Said::Text(text) => self.put(out, text.as_slice()),
+            Said::Reply(reply) => self.put_reply(out, reply),
+        }
+    }
+}

@@ -1,0 +1,310 @@
+// The answers to the lines of an input.
+ghost use Rattle.std.specs.Prelude.{position, ◌≡◌, ◌≢◌, ◌⊎◌, ◌<◌, ◌≤◌, ◌+◌, ◌-◌, ◌++◌, ◌∷◌, [], ℕ, List, length, take, false, true, All, IfOk, OnOk, OnErr, IfSome, IfNone, Ok, Some, None, Option};
+ghost use Rattle.std.specs.Str.Lines.{strip_carriage_return};
+ghost use Rattle.std.specs.Io.KnownBytes.{Appends, Consumes};
+ghost use Rattle.cube_io.specs.Causes.{Rose, HasCause};
+ghost use Rattle.cube_io.specs.Content.{AppendsPrefix};
+ghost use Rattle.cube_talk.specs.Lines.{is_feed};
+ghost use Rattle.cube_talk.specs.Talk.{IsKept, Spoke, Puts, Conversed};
+ghost use Rattle.cube_talk.specs.Piece.{Says, HeardLine, HeardAll, HeardSome, PutsBy, Follows, Stops};
+
+use crate::carry::Carry;
+use crate::replies::Replies;
+use crate::responder::Responder;
+use cube_io::{Failed, Sink, Source, Store};
+use std::alloc::Global;
+
+/// How the talk over an input ended.
+#[derive(Clone, Copy, Debug, PartialEq, Eq)]
+pub enum Ending {
+    /// The input came to its end.
+    Ended,
+    /// A read failed.
+    InputFailed,
+    /// A put failed.
+    OutputFailed,
+    /// There was no memory for an answer.
+    NoMemory,
+    /// As many lines or bytes were taken as are taken at most.
+    Spent,
+}
+
+const MAX_INPUT: u64 = 1 << 40;
+
+const PIECE: usize = 65_536;
+
+fn without_return(line: &[u8]) -> &[u8]
+    ensures { result.now ≡ strip_carriage_return line.now }
+{
+    match line.split_last() {
+        Some((b'\r', front)) => front,
+        _ => line,
+    }
+}
+
+// What stands before the first line feed, and what behind it.
+fn cut_line(bytes: &[u8]) -> Option<(&[u8], &[u8])>
+    ensures some { IfSome result (λ cut. (bytes.now ≡ cut.0.now ++ 10 ∷ cut.1.now) × All (λ b. is_feed b ≡ false) cut.0.now) }
+    ensures none { IfNone result (All (λ b. is_feed b ≡ false) bytes.now) }
+{
+    match find_feed(bytes) {
+        Some(at) => Some((&bytes[..at], &bytes[at + 1..])),
+        None => None,
+    }
+}
+
+fn find_feed(bytes: &[u8]) -> Option<usize>
+    ensures { result ≡ position is_feed bytes.now }
+{
+    bytes.iter().position(|byte| *byte == b'\n')
+}
+
+/// How far some lines were answered.
+#[derive(Clone, Copy, Debug, PartialEq, Eq)]
+enum Heard {
+    All,
+    Spent,
+    NoMemory,
+    OutputFailed,
+}
+
+// Answers a line.
+fn answer_line<S: Store, R: Responder<S>, O: Sink>(
+    alloc: Global,
+    responder: &mut R,
+    store: &mut S,
+    line: &[u8],
+    replies: &mut Replies,
+    out: &mut O,
+) -> Heard
+    requires stands { R.stands responder.old store.old }
+    requires going { R.done responder.old ≡ false }
+    ensures said { result ≢ Heard.NoMemory → HeardLine R.says (Says result replies.old replies.new (O.written out.old) (O.written out.new)) responder.old responder.new store.old store.new line.now }
+    ensures memory { result ≡ Heard.NoMemory → (responder.new ≡ responder.old) × (store.new ≡ store.old) × (replies.new ≡ replies.old) × (out.new ≡ out.old) × (R.lacks ≡ true) }
+    ensures going { result ≡ Heard.All → R.done responder.new ≡ false }
+    ensures spent { result ≡ Heard.Spent → R.done responder.new ≡ true }
+    ensures failed { result ≡ Heard.OutputFailed → Rose (O.faults out.old) (O.faults out.new) }
+    ensures steady { result ≢ Heard.OutputFailed → O.faults out.new ≡ O.faults out.old }
+    ensures stands { R.stands responder.new store.new }
+{
+    let said = match responder.answer(alloc, store, line) {
+        Ok(said) => said,
+        Err(_) => return Heard::NoMemory,
+    };
+    match replies.say(out, &said) {
+        Ok(()) => {}
+        Err(_) => return Heard::OutputFailed,
+    }
+    if responder.is_done() {
+        return Heard::Spent;
+    }
+    Heard::All
+}
+
+// Answers the lines that end in a piece.
+fn answer_piece<S: Store, R: Responder<S>, O: Sink>(
+    alloc: Global,
+    responder: &mut R,
+    store: &mut S,
+    piece: &[u8],
+    carry: &mut Carry,
+    replies: &mut Replies,
+    out: &mut O,
+) -> Heard
+    requires stands { R.stands responder.old store.old }
+    requires going { R.done responder.old ≡ false }
+    ensures all { result ≡ Heard.All → (open_part : List ℕ) → IsKept carry.old open_part
+        → HeardAll R.says (Says result replies.old replies.new (O.written out.old) (O.written out.new)) responder.old responder.new store.old store.new open_part piece.now carry.new }
+    ensures some { result ≢ Heard.All → (open_part : List ℕ) → IsKept carry.old open_part
+        → HeardSome R.says (Says result replies.old replies.new (O.written out.old) (O.written out.new)) responder.old responder.new store.old store.new open_part piece.now }
+    ensures going { result ≡ Heard.All → R.done responder.new ≡ false }
+    ensures spent { result ≡ Heard.Spent → R.done responder.new ≡ true }
+    ensures memory { result ≡ Heard.NoMemory → R.lacks ≡ true }
+    ensures failed { result ≡ Heard.OutputFailed → Rose (O.faults out.old) (O.faults out.new) }
+    ensures steady { result ≢ Heard.OutputFailed → O.faults out.new ≡ O.faults out.old }
+    ensures stands { R.stands responder.new store.new }
+{
+    let mut rest = piece;
+    'lines: loop {
+        let Some((line, behind)) = cut_line(rest) else {
+            carry.extend(rest);
+            return Heard::All;
+        };
+        carry.extend(line);
+        let line = without_return(carry.as_slice());
+        match answer_line(alloc, responder, store, line, replies, out) {
+            Heard::All => {}
+            heard => return heard,
+        }
+        carry.clear();
+        rest = behind;
+    }
+}
+
+// Writes what waits behind lines that were answered so far. Says how the talk ends, if it does.
+#[tactic(auto, using(crate::proofs::Spoken::spoke_flushed, crate::proofs::Spoken::spoke_half))]
+fn settle<O: Sink>(heard: Heard, replies: &mut Replies, out: &mut O) -> Option<Ending>
+    ensures puts { (start : Option (List ℕ)) (text : List ℕ) → Says heard [] replies.old start (O.written out.old) text → PutsBy result start (O.written out.new) text }
+    ensures follows { Follows heard result }
+    ensures empty { result ≡ None → replies.new ≡ [] }
+    ensures quiet { replies.old ≡ [] → heard ≢ Heard.OutputFailed → result ≢ Some Ending.OutputFailed }
+    ensures failed { result ≡ Some Ending.OutputFailed → ((heard ≡ Heard.OutputFailed) × (out.new ≡ out.old)) ⊎ ((heard ≢ Heard.OutputFailed) × Rose (O.faults out.old) (O.faults out.new)) }
+    ensures steady { result ≢ Some Ending.OutputFailed → (heard ≢ Heard.OutputFailed) × (O.faults out.new ≡ O.faults out.old) }
+{
+    if heard == Heard::OutputFailed {
+        return Some(Ending::OutputFailed);
+    }
+    match replies.flush(out) {
+        Ok(()) => {}
+        Err(_) => return Some(Ending::OutputFailed),
+    }
+    match heard {
+        Heard::Spent => Some(Ending::Spent),
+        Heard::NoMemory => Some(Ending::NoMemory),
+        _ => None,
+    }
+}
+
+// Answers the lines that end in a piece, and writes the answers together. Says how the talk ends, if it does.
+fn hear_piece<S: Store, R: Responder<S>, O: Sink>(
+    alloc: Global,
+    responder: &mut R,
+    store: &mut S,
+    piece: &[u8],
+    carry: &mut Carry,
+    replies: &mut Replies,
+    out: &mut O,
+) -> Option<Ending>
+    requires stands { R.stands responder.old store.old }
+    requires going { R.done responder.old ≡ false }
+    requires empty { replies.old ≡ [] }
+    ensures all { result ≡ None → (open_part : List ℕ) → IsKept carry.old open_part
+        → HeardAll R.says (Appends (O.written out.old) (O.written out.new)) responder.old responder.new store.old store.new open_part piece.now carry.new }
+    ensures some { IfSome result (λ ending. (open_part : List ℕ) → IsKept carry.old open_part
+        → HeardSome R.says (Puts ending (O.written out.old) (O.written out.new)) responder.old responder.new store.old store.new open_part piece.now) }
+    ensures stops { IfSome result (λ ending. Stops ending (R.done responder.new) R.lacks) }
+    ensures going { result ≡ None → (R.done responder.new ≡ false) × (replies.new ≡ []) }
+    ensures failed { result ≡ Some Ending.OutputFailed → Rose (O.faults out.old) (O.faults out.new) }
+    ensures steady { result ≢ Some Ending.OutputFailed → O.faults out.new ≡ O.faults out.old }
+    ensures stands { R.stands responder.new store.new }
+{
+    let heard = answer_piece(alloc, responder, store, piece, carry, replies, out);
+    settle(heard, replies, out)
+}
+
+/// How a talk ended, and how many bytes of the input were taken.
+#[derive(Clone, Copy, Debug, PartialEq, Eq)]
+pub struct TalkEnd {
+    pub ending: Ending,
+    pub bytes: u64,
+}
+
+// Reads some bytes to the front of the buffer, at most so many: none at the end.
+fn read_piece<I: Source>(input: &mut I, buf: &mut [u8], most: u64) -> Result<usize, Failed>
+    requires room { 0 < length buf.old }
+    requires some { 0 < most }
+    ensures bound { IfOk result (λ n. (n ≤ length buf.new) × (n ≤ most)) }
+    ensures bytes { IfOk result (λ n. Consumes (I.left input.old) (I.left input.new) (take n buf.new)) }
+    ensures end { result ≡ Ok 0 → I.ended input.new ≡ true }
+    ensures err { OnErr result (Consumes (I.left input.old) (I.left input.new) []) }
+    ensures cause { HasCause (I.faults input.old) (I.faults input.new) result }
+{
+    let room = if most < buf.len() as u64 {
+        most as usize
+    } else {
+        buf.len()
+    };
+    input.read(&mut buf[..room])
+}
+
+// The end of the input: a last line without a line feed counts where it isn't empty.
+fn finish<S: Store, R: Responder<S>, O: Sink>(
+    alloc: Global,
+    responder: &mut R,
+    store: &mut S,
+    carry: &Carry,
+    replies: &mut Replies,
+    out: &mut O,
+) -> Ending
+    requires stands { R.stands responder.old store.old }
+    requires going { R.done responder.old ≡ false }
+    requires empty { replies.old ≡ [] }
+    ensures none { carry.now ≡ [] → (result ≡ Ending.Ended) × (responder.new ≡ responder.old) × (store.new ≡ store.old) × (out.new ≡ out.old) }
+    ensures said { carry.now ≢ [] → result ≢ Ending.NoMemory → HeardLine R.says (Puts result (O.written out.old) (O.written out.new)) responder.old responder.new store.old store.new carry.now }
+    ensures memory { result ≡ Ending.NoMemory → (responder.new ≡ responder.old) × (store.new ≡ store.old) × Appends (O.written out.old) (O.written out.new) [] × (R.lacks ≡ true) }
+    ensures ended { result ≡ Ending.Ended → R.done responder.new ≡ false }
+    ensures spent { result ≡ Ending.Spent → R.done responder.new ≡ true }
+    ensures others { result ≢ Ending.InputFailed }
+    ensures failed { result ≡ Ending.OutputFailed → Rose (O.faults out.old) (O.faults out.new) }
+    ensures steady { result ≢ Ending.OutputFailed → O.faults out.new ≡ O.faults out.old }
+    ensures stands { R.stands responder.new store.new }
+{
+    if carry.as_slice().is_empty() {
+        return Ending::Ended;
+    }
+    let heard = answer_line(alloc, responder, store, carry.as_slice(), replies, out);
+    match settle(heard, replies, out) {
+        Some(ending) => ending,
+        None => Ending::Ended,
+    }
+}
+
+/// Answers the lines of the input in turn. The answers to the lines that end in one piece of the input are put together.
+pub fn converse<S: Store, R: Responder<S>, I: Source, O: Sink>(
+    alloc: Global,
+    carry: Carry,
+    responder: &mut R,
+    store: &mut S,
+    input: &mut I,
+    out: &mut O,
+) -> TalkEnd
+    requires carry { carry ≡ [] }
+    requires stands { R.stands responder.old store.old }
+    requires going { R.done responder.old ≡ false }
+    ensures conversed { Conversed R.says responder.old responder.new store.old store.new (R.done responder.new) result.ending result.bytes (I.left input.old) (I.left input.new) (O.written out.old) (O.written out.new) }
+    ensures ended { result.ending ≡ Ending.Ended → I.ended input.new ≡ true }
+    ensures memory { result.ending ≡ Ending.NoMemory → R.lacks ≡ true }
+    ensures input { result.ending ≡ Ending.InputFailed → Rose (I.faults input.old) (I.faults input.new) }
+    ensures output { result.ending ≡ Ending.OutputFailed → Rose (O.faults out.old) (O.faults out.new) }
+    ensures input_steady { result.ending ≢ Ending.InputFailed → I.faults input.new ≡ I.faults input.old }
+    ensures output_steady { result.ending ≢ Ending.OutputFailed → O.faults out.new ≡ O.faults out.old }
+    ensures stands { R.stands responder.new store.new }
+{
+    let mut buf = [0u8; PIECE];
+    let mut carry = carry;
+    let mut replies = Replies::new(alloc);
+    let mut bytes = 0u64;
+    'reads: while bytes < MAX_INPUT {
+        let count = match read_piece(input, &mut buf, MAX_INPUT - bytes) {
+            Ok(0) => {
+                let ending = finish(alloc, responder, store, &carry, &mut replies, out);
+                return TalkEnd { ending, bytes };
+            }
+            Ok(count) => count,
+            Err(_) => {
+                return TalkEnd {
+                    ending: Ending::InputFailed,
+                    bytes,
+                };
+            }
+        };
+        bytes += count as u64;
+        let piece = &buf[..count];
+        match hear_piece(
+            alloc,
+            responder,
+            store,
+            piece,
+            &mut carry,
+            &mut replies,
+            out,
+        ) {
+            None => {}
+            Some(ending) => return TalkEnd { ending, bytes },
+        }
+    }
+    TalkEnd {
+        ending: Ending::Spent,
+        bytes,
+    }
+}

@@ -1,0 +1,290 @@
+// The words of the command line.
+ghost use Rattle.std.specs.Prelude.{◌≡◌, ◌≤◌, not, length, take, drop, find, option_copied, if◌then◌else◌, [], Some, None, IfSome, Ok};
+ghost use Rattle.std.specs.Str.{bytes_eq};
+ghost use Rattle.std.specs.Str.Parse.{digits_value};
+ghost use Rattle.cube_model.specs.Cubes.{IsIn};
+ghost use Rattle.cube_words.specs.declared.words.Command.TheVariants as orders;
+ghost use Rattle.cube_words.specs.Words.{command_word, option_word, needed as needed_by, allowed as allowed_by, is_requests, is_wrong_value as is_wrong, stated as stated_in, command_of as command_in, is_option as is_option_of, stands_in, options_in, first_wrong as first_wrong_behind, orders_of as orders_in, value_behind as value_in, value_of as value_given};
+
+use cube_model::Text;
+use cube_text::read_digits;
+
+/// What the program is asked to do.
+#[derive(Clone, Copy, Debug, PartialEq, Eq)]
+pub enum Command {
+    /// Print how it is used.
+    Help,
+    /// Print its version.
+    Version,
+    /// Answer lines over a flat fact file.
+    Sum,
+    /// Say what the files of a cube hold.
+    Check,
+    /// Answer lines as asks of a cube.
+    Ask,
+}
+
+/// An option of a command.
+#[derive(Clone, Copy, Debug, PartialEq, Eq)]
+pub enum Setting {
+    /// The dimension file.
+    Dims,
+    /// The fact file.
+    Facts,
+    /// The policy file.
+    Policy,
+    /// The journal.
+    Journal,
+    /// The most asks that are answered.
+    Requests,
+}
+
+/// What is wrong with the words.
+#[derive(Clone, Copy, Debug, PartialEq, Eq)]
+pub enum Usage {
+    /// There is no word.
+    NoCommand,
+    /// The word with this number, from 0, is wrong.
+    Wrong(usize),
+    /// The command lacks this option.
+    Missing(Setting),
+}
+
+const COMMANDS: [Command; 5] = [
+    Command::Help,
+    Command::Version,
+    Command::Sum,
+    Command::Check,
+    Command::Ask,
+];
+
+const MAX_REQUESTS: u64 = 16_777_216;
+
+const USUAL_REQUESTS: u64 = 1_000_000;
+
+impl Command {
+    fn word(self) -> &'static [u8]
+        ensures { result.now ≡ command_word self }
+    {
+        match self {
+            Command::Help => b"--help",
+            Command::Version => b"--version",
+            Command::Sum => b"sum",
+            Command::Check => b"check",
+            Command::Ask => b"ask",
+        }
+    }
+
+    fn needed(self) -> &'static [Setting]
+        ensures { result.now ≡ needed_by self }
+    {
+        match self {
+            Command::Help => &[],
+            Command::Version => &[],
+            Command::Sum => &[Setting::Facts],
+            Command::Check => &[Setting::Dims, Setting::Facts, Setting::Policy],
+            Command::Ask => &[
+                Setting::Dims,
+                Setting::Facts,
+                Setting::Policy,
+                Setting::Journal,
+            ],
+        }
+    }
+
+    fn allowed(self) -> &'static [Setting]
+        ensures { result.now ≡ allowed_by self }
+    {
+        match self {
+            Command::Help => &[],
+            Command::Version => &[],
+            Command::Sum => &[Setting::Facts],
+            Command::Check => &[Setting::Dims, Setting::Facts, Setting::Policy],
+            Command::Ask => &[
+                Setting::Dims,
+                Setting::Facts,
+                Setting::Policy,
+                Setting::Journal,
+                Setting::Requests,
+            ],
+        }
+    }
+}
+
+impl Setting {
+    /// The word of the option.
+    pub fn word(self) -> &'static [u8]
+        ensures { result.now ≡ option_word self }
+    {
+        match self {
+            Setting::Dims => b"--dims",
+            Setting::Facts => b"--facts",
+            Setting::Policy => b"--policy",
+            Setting::Journal => b"--journal",
+            Setting::Requests => b"--requests",
+        }
+    }
+}
+
+// The first of some commands that has the word.
+fn find_command(commands: &[Command], word: &[u8]) -> Option<Command>
+    ensures { result ≡ find (λ c. bytes_eq word.now (command_word c)) commands.now }
+{
+    match commands {
+        [] => None,
+        [command, ..] if word == command.word() => Some(*command),
+        [_, more @ ..] => find_command(more, word),
+    }
+}
+
+fn command_of(word: &[u8]) -> Option<Command>
+    ensures { result ≡ command_in word.now }
+{
+    find_command(&COMMANDS, word)
+}
+
+fn is_option(command: Command, word: &[u8]) -> bool
+    ensures { result ≡ is_option_of command word.now }
+{
+    command
+        .allowed()
+        .iter()
+        .any(|setting| word == setting.word())
+}
+
+// Whether the word stands in an option's place among words behind a command.
+fn is_given(word: &[u8], words: &[Text]) -> bool
+    ensures { result ≡ stands_in word.now (options_in words.now) }
+{
+    match words {
+        [] => false,
+        [option] => option.as_slice() == word,
+        [option, _, more @ ..] => option.as_slice() == word || is_given(word, more),
+    }
+}
+
+// The number of asks that a text states.
+fn requests_in(text: &[u8]) -> Option<u64>
+    ensures number { result ≡ (if is_requests text.now then Some (digits_value 10 text.now) else None) }
+    ensures some { IfSome result (λ number. 1 ≤ number) }
+{
+    match read_digits(text) {
+        Some(number) if number >= 1 && number <= MAX_REQUESTS => Some(number),
+        _ => None,
+    }
+}
+
+fn is_wrong_value(option: &[u8], value: &[u8]) -> bool
+    ensures { result ≡ is_wrong option.now value.now }
+{
+    option == Setting::Requests.word() && requests_in(value).is_none()
+}
+
+// The first wrong word from a place on, before which there are pairs.
+fn first_wrong(command: Command, words: &[Text], at: usize) -> Option<usize>
+    requires { at ≤ length words.now }
+    ensures { result ≡ first_wrong_behind command (take at words.now) (drop at words.now) }
+{
+    match &words[at..] {
+        [] => None,
+        [_] => Some(at + 1),
+        [option, value, ..] => {
+            let word = option.as_slice();
+            if !is_option(command, word) || is_given(word, &words[..at]) {
+                return Some(at + 1);
+            }
+            if is_wrong_value(word, value.as_slice()) {
+                return Some(at + 2);
+            }
+            first_wrong(command, words, at + 2)
+        }
+    }
+}
+
+fn is_lacking(setting: Setting, words: &[Text]) -> bool
+    ensures { result ≡ not (stands_in (option_word setting) (options_in words.now)) }
+{
+    !is_given(setting.word(), words)
+}
+
+fn first_lacking(settings: &[Setting], words: &[Text]) -> Option<Setting>
+    ensures { result ≡ find (λ s. not (stands_in (option_word s) (options_in words.now))) settings.now }
+{
+    match settings {
+        [] => None,
+        [setting, ..] if is_lacking(*setting, words) => Some(*setting),
+        [_, more @ ..] => first_lacking(more, words),
+    }
+}
+
+/// The command that the words give, or what is wrong with them.
+pub fn orders_of(words: &[Text]) -> Result<Command, Usage>
+    ensures { result ≡ orders_in words.now }
+{
+    let [word, more @ ..] = words else {
+        return Err(Usage::NoCommand);
+    };
+    let Some(command) = command_of(word.as_slice()) else {
+        return Err(Usage::Wrong(0));
+    };
+    if let Some(number) = first_wrong(command, more, 0) {
+        return Err(Usage::Wrong(number));
+    }
+    match first_lacking(command.needed(), more) {
+        None => Ok(command),
+        Some(setting) => Err(Usage::Missing(setting)),
+    }
+}
+
+fn value_behind<'a>(word: &[u8], words: &'a [Text]) -> Option<&'a Text>
+    ensures { option_copied result ≡ value_in word.now words.now }
+{
+    match words {
+        [option, value, more @ ..] => {
+            if option.as_slice() == word {
+                Some(value)
+            } else {
+                value_behind(word, more)
+            }
+        }
+        _ => None,
+    }
+}
+
+/// The value of an option among the words of a command.
+pub fn value_of(words: &[Text], setting: Setting) -> Option<&Text>
+    ensures { option_copied result ≡ value_given setting words.now }
+{
+    match words {
+        [_, more @ ..] => value_behind(setting.word(), more),
+        [] => None,
+    }
+}
+
+/// The value of an option that the command needs.
+pub fn needed_value(words: &[Text], command: Command, setting: Setting) -> &Text
+    requires orders { orders_in words.now ≡ Ok command }
+    requires needed { IsIn setting (needed_by command) }
+    ensures { Some result.now ≡ value_given setting words.now }
+{
+    let _command = command;
+    match value_of(words, setting) {
+        Some(value) => value,
+        None => unreachable!(),
+    }
+}
+
+/// The stated number of asks: 1,000,000 where none is.
+pub fn stated(words: &[Text]) -> u64
+    requires { orders_in words.now ≡ Ok orders.Ask }
+    ensures number { result ≡ stated_in words.now }
+    ensures some { 1 ≤ result }
+{
+    match value_of(words, Setting::Requests) {
+        None => USUAL_REQUESTS,
+        Some(text) => match requests_in(text.as_slice()) {
+            Some(number) => number,
+            None => unreachable!(),
+        },
+    }
+}
