@@ -54,7 +54,7 @@ there_valid g r m v e =
     let there : is_there g r.what ≡ true = (and_parts (fits g.dimensions r.group r.picks) (is_there g r.what) front).1 in
     ltb-true m (length g.policy.methods) (sym (ap (is_there g) e) ∙ there)
 
-grain_in_range : (g : Public) (r : Request) → is_valid g r ≡ true → are_levels g.dimensions (grain r) ≡ true
+pub grain_in_range : (g : Public) (r : Request) → is_valid g r ≡ true → are_levels g.dimensions (grain r) ≡ true
 unfolding grain
 grain_in_range g r v = lesser_in_range g.dimensions r.group r.picks (fits_valid g r v)
 

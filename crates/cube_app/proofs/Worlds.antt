@@ -1,8 +1,10 @@
 -- Over a world with the changes for a protected cell the same talk is written.
-use Rattle.std.proofs.Common.{◌≡◌, ◌∙◌, refl, sym, ap, subst, ℕ, List, [], ◌∷◌, ◌++◌, inl, inr}
+use Rattle.std.proofs.Common.{◌≡◌, ◌∙◌, refl, sym, ap, subst, ℕ, true, false, List, [], ◌∷◌, ◌++◌, inl, inr}
 use Rattle.std.specs.declared.option.Option.{Option}
+use Rattle.std.specs.List.{starts_with}
+use Rattle.std.specs.Prelude.{codes, nat_eq}
+use Rattle.std.specs.Str.{bytes_eq}
 use Rattle.std.specs.Str.Lines.{lines}
-use Rattle.cube_model.specs.declared.ask.Inner.TheVariants.{Query}
 use Rattle.cube_model.specs.declared.cell.Cell.{Cell}
 use Rattle.cube_model.specs.declared.entry.Entry.{Entry}
 use Rattle.cube_model.specs.declared.outcome.Outcome.{Outcome}
@@ -20,7 +22,7 @@ use Rattle.cube_model.proofs.Filled.{cores_are_worlds}
 use Rattle.cube_model.proofs.Growth.{extends_refl, extends_trans}
 use Rattle.std.specs.Io.KnownBytes.{Appends}
 use Rattle.cube_io.specs.Content.{AppendsPrefix}
-use Rattle.cube_engine.specs.Steps.{manner, next_in, reply_in, inner_history}
+use Rattle.cube_engine.specs.Steps.{manner, next_in, reply_in, inner_history, inner_of}
 use Rattle.cube_engine.specs.Worlds.{first_history}
 use Rattle.cube_engine.proofs.Worlds.{room_open, other_sum, inner_grows, inner_stays}
 use Rattle.cube_talk.specs.AskLaws.{by_test, said_long, said_one, rooms_long, rooms_one}
@@ -31,26 +33,43 @@ use Rattle.cube_app.specs.Worlds.{history_behind, twin_behind, Hides}
 use Rattle.cube_talk.specs.declared.talk.Ending.{Ending}
 use Rattle.cube_talk.specs.declared.talk.Ending.TheVariants.{Ended, InputFailed, OutputFailed, NoMemory, Spent}
 
+-- ---- the history behind a line
+
+-- a line asks no group
+abbrev next_of : Dims → World → List Entry → List ℕ → Outcome → List Entry
+next_of s w h line o = inner_history o s w.shown h (inner_of (ask_of line))
+
+next_line : (s : Dims) (w : World) (h : List Entry) (line : List ℕ) (o : Outcome) → next_in s (alone w h) (ask_of line) o ≡ alone w (next_of s w h line o)
+next_line s w h line o = by_test (bytes_eq line (codes "shape"))
+    (λ shape. rw shape refl)
+    (λ other. by_test (starts_with nat_eq line (codes "witness "))
+    (λ witness. rw (other, witness) refl)
+    (λ query. rw (other, query) refl))
+
+-- lines of which the first is an ask
+line_one : (s : Dims) (w : World) (h : List Entry) (line : List ℕ) (rest : List (List ℕ)) (o : Outcome) (os : List Outcome) → is_too_long line ≡ false → rooms_behind (manner s) (alone w h) (line ∷ rest) (o ∷ os) ≡ rooms_behind (manner s) (alone w (next_of s w h line o)) rest os
+line_one s w h line rest o os short = rooms_one (manner s) (alone w h) line rest o os short ∙ ap (λ (rs : List Room). rooms_behind (manner s) rs rest os) (next_line s w h line o)
+
 -- ---- the history behind some lines
 
 abbrev behind : Dims → World → List Entry → List (List ℕ) → List Outcome → List Entry
 behind s w h ls os = first_history (rooms_behind (manner s) (alone w h) ls os)
 
 -- it has what the first has, where each ask keeps it
-behind_keeps : (P : List Entry → Type 0) (s : Dims) (w : World) → ((h : List Entry) (line : List ℕ) (o : Outcome) → P h → P (inner_history o s w.shown h (Query line))) → (h : List Entry) (ls : List (List ℕ)) (os : List Outcome) → P h → P (behind s w h ls os)
+behind_keeps : (P : List Entry → Type 0) (s : Dims) (w : World) → ((h : List Entry) (line : List ℕ) (o : Outcome) → P h → P (next_of s w h line o)) → (h : List Entry) (ls : List (List ℕ)) (os : List Outcome) → P h → P (behind s w h ls os)
 behind_keeps P s w step h [] os p = p
 behind_keeps P s w step h (line ∷ rest) [] p = by_test (is_too_long line)
     (λ long. subst (λ (rs : List Room). P (first_history rs)) (sym (rooms_long (manner s) (alone w h) line rest [] long)) (behind_keeps P s w step h rest [] p))
     (λ short. rw short p)
 behind_keeps P s w step h (line ∷ rest) (o ∷ os) p = by_test (is_too_long line)
     (λ long. subst (λ (rs : List Room). P (first_history rs)) (sym (rooms_long (manner s) (alone w h) line rest (o ∷ os) long)) (behind_keeps P s w step h rest (o ∷ os) p))
-    (λ short. subst (λ (rs : List Room). P (first_history rs)) (sym (rooms_one (manner s) (alone w h) line rest o os short)) (behind_keeps P s w step (inner_history o s w.shown h (Query line)) rest os (step h line o p)))
+    (λ short. subst (λ (rs : List Room). P (first_history rs)) (sym (line_one s w h line rest o os short)) (behind_keeps P s w step (next_of s w h line o) rest os (step h line o p)))
 
 pub behind_grows : (s : Dims) (w : World) (h : List Entry) (ls : List (List ℕ)) (os : List Outcome) → Extends h (behind s w h ls os)
-behind_grows s w h ls os = behind_keeps (λ (k : List Entry). Extends h k) s w (λ k line o more. extends_trans h k (inner_history o s w.shown k (Query line)) more (inner_grows s w.shown k (Query line) o)) h ls os (extends_refl h)
+behind_grows s w h ls os = behind_keeps (λ (k : List Entry). Extends h k) s w (λ k line o more. extends_trans h k (next_of s w k line o) more (inner_grows s w.shown k (inner_of (ask_of line)) o)) h ls os (extends_refl h)
 
 behind_stays : (s : Dims) (w : World) (h : List Entry) (ls : List (List ℕ)) (os : List Outcome) → IsAdmissible w.shown h → IsAdmissible w.shown (behind s w h ls os)
-behind_stays s w h ls os adm = behind_keeps (IsAdmissible w.shown) s w (λ k line o adm. inner_stays s w.shown k (Query line) o adm) h ls os adm
+behind_stays s w h ls os adm = behind_keeps (IsAdmissible w.shown) s w (λ k line o adm. inner_stays s w.shown k (inner_of (ask_of line)) o adm) h ls os adm
 
 extends_by : (a a' b b' : List Room) → a ≡ a' → b ≡ b' → Extends (first_history a') (first_history b') → Extends (first_history a) (first_history b)
 extends_by a a' b b' e f x = subst (λ (rs : List Room). Extends (first_history rs) (first_history b)) (sym e) (subst (λ (rs : List Room). Extends (first_history a') (first_history rs)) (sym f) x)
@@ -66,9 +85,9 @@ behind_more s w h (line ∷ rest) more (o ∷ os) = by_test (is_too_long line)
     (λ long. extends_by (rooms_behind (manner s) (alone w h) (line ∷ rest) (o ∷ os)) (rooms_behind (manner s) (alone w h) rest (o ∷ os)) (rooms_behind (manner s) (alone w h) (line ∷ rest ++ more) (o ∷ os)) (rooms_behind (manner s) (alone w h) (rest ++ more) (o ∷ os))
     (rooms_long (manner s) (alone w h) line rest (o ∷ os) long) (rooms_long (manner s) (alone w h) line (rest ++ more) (o ∷ os) long) (behind_more s w h rest more (o ∷ os)))
     (λ short.
-    let next = inner_history o s w.shown h (Query line) in
+    let next = next_of s w h line o in
     extends_by (rooms_behind (manner s) (alone w h) (line ∷ rest) (o ∷ os)) (rooms_behind (manner s) (alone w next) rest os) (rooms_behind (manner s) (alone w h) (line ∷ rest ++ more) (o ∷ os)) (rooms_behind (manner s) (alone w next) (rest ++ more) os)
-    (rooms_one (manner s) (alone w h) line rest o os short) (rooms_one (manner s) (alone w h) line (rest ++ more) o os short) (behind_more s w next rest more os))
+    (line_one s w h line rest o os short) (line_one s w h line (rest ++ more) o os short) (behind_more s w next rest more os))
 
 -- ---- what is said to them
 
@@ -88,10 +107,13 @@ said_open s w h last (line ∷ rest) (o ∷ os) m t ok adm ext within = by_test 
     ∙ sym (said_long (manner s) (alone w h) line rest (o ∷ os) long))
     (λ short.
     let v = twin w m (changes w.shown last m t) in
-    let next = inner_history o s w.shown h (Query line) in
-    let there : Extends (behind s w next rest os) last = subst (λ (rs : List Room). Extends (first_history rs) last) (rooms_one (manner s) (alone w h) line rest o os short) ext in
-    let first = room_open s w h last (ask_of line) o m t ok adm (extends_trans next (behind s w next rest os) last (behind_grows s w next rest os) there) within in
-    let more = said_open s w next last rest os m t ok adm there within in
+    let next = next_of s w h line o in
+    let there : Extends (behind s w next rest os) last = subst (λ (rs : List Room). Extends (first_history rs) last) (line_one s w h line rest o os short) ext in
+    let behind_it : Extends next last = extends_trans next (behind s w next rest os) last (behind_grows s w next rest os) there in
+    let first = room_open s w h last (ask_of line) o m t ok adm (subst (λ (rs : List Room). Extends (first_history rs) last) (sym (next_line s w h line o)) behind_it) within in
+    let more = ap (λ (rs : List Room). said (manner s) rs rest os) (next_line s v h line o)
+    ∙ said_open s w next last rest os m t ok adm there within
+    ∙ sym (ap (λ (rs : List Room). said (manner s) rs rest os) (next_line s w h line o)) in
     said_one (manner s) (alone v h) line rest o os short
     ∙ ap (λ r. reply_text r ++ said (manner s) (next_in s (alone v h) (ask_of line) o) rest os) first
     ∙ ap (λ (text : List ℕ). reply_text (reply_in s (alone w h) (ask_of line) o) ++ text) more

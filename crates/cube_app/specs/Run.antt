@@ -37,7 +37,7 @@ usage_text words (Wrong number) = codes "usage: " ++ slice_index_or words number
 usage_text words (Missing option) = codes "usage: missing " ++ option_word option ++ codes "\n"
 
 abbrev pub help_text : List ℕ
-help_text = codes "cube sum --facts FILE                                             answers each line of the input by a sum over the file\ncube check --dims FILE --facts FILE --policy FILE                 says what the files hold\ncube ask --dims FILE --facts FILE --policy FILE --journal FILE [--requests N]    answers each line of the input as a query\ncube --help                                                       prints this text\ncube --version                                                    prints the version\n"
+help_text = codes "cube sum --facts FILE\n    answers each line of the input by a sum over the file\ncube check --dims FILE --facts FILE --policy FILE\n    says what the files hold\ncube ask --dims FILE --facts FILE --policy FILE --journal FILE [--requests N]\n    answers each line of the input as a query, or as `shape` or `witness CELL`\ncube witness --dims FILE --facts FILE --policy FILE --journal FILE --cell CELL\n    prints the changes that hide a cell\ncube twin --dims FILE --facts FILE --policy FILE --journal FILE --cell CELL\n    prints the fact file of the cube with these changes\ncube --help\n    prints this text\ncube --version\n    prints the version\n"
 
 abbrev pub version_text : List ℕ
 version_text = codes "cube 0.1.0\n"
@@ -55,6 +55,9 @@ policy_name words = unwrap_or (value_of setting.Policy words) []
 
 abbrev pub journal_name : List (List ℕ) → List ℕ
 journal_name words = unwrap_or (value_of setting.Journal words) []
+
+abbrev pub cell_name : List (List ℕ) → List ℕ
+cell_name words = unwrap_or (value_of setting.Cell words) []
 
 abbrev pub status_of : Ending → ℕ
 status_of Ended = 0

@@ -1,6 +1,7 @@
 //! The program: it makes the real objects, runs, prints the text on standard error and ends with the status.
 #![tactic(auto)]
 
+mod cells;
 mod run;
 mod starting;
 mod summary;

@@ -1,13 +1,15 @@
 // The top call: all that the program does.
-ghost use Rattle.std.specs.Prelude.{◌≡◌, ◌≢◌, ◌⊎◌, ◌≤◌, ◌+◌, ◌++◌, [], true, length, decimal, codes, Some, IfErr, IsErr, IfOk, IsTrue, Ok};
+ghost use Rattle.std.specs.Prelude.{◌≡◌, ◌≢◌, ◌⊎◌, ◌≤◌, ◌+◌, ◌++◌, [], true, false, length, decimal, codes, Some, IfErr, IsErr, IfOk, IsTrue, Ok};
 ghost use Rattle.cube_io.specs.Causes.{Rose};
 ghost use Rattle.cube_words.specs.Words.{orders_of as orders_in, stated as stated_in};
 ghost use Rattle.cube_opening.specs.Reports.{IsReport, NoRoom, Prints};
 ghost use Rattle.cube_opening.specs.Opening.{flat_said, Unopened, AsksOnce, EndsUnopened, AsksAll, HasAll};
+ghost use Rattle.cube_app.specs.Cells.{CellRun};
 ghost use Rattle.cube_app.specs.Starting.{EndsUnstarted, AsksStore, HasJournal};
-ghost use Rattle.cube_app.specs.Run.{usage_text as usage_words, help_text, version_text, dims_name, facts_name, policy_name, journal_name, status_of as status_in, ending_text, Answered, HasFlat, Checked, Asked};
+ghost use Rattle.cube_app.specs.Run.{usage_text as usage_words, help_text, version_text, dims_name, facts_name, policy_name, journal_name, cell_name, status_of as status_in, ending_text, Answered, HasFlat, Checked, Asked};
 ghost use Rattle.cube_words.specs.declared.words.Command.TheVariants as orders;
 
+use crate::cells::tell;
 use crate::starting::open_engine;
 use crate::summary::check_text;
 use cube_engine::Engine;
@@ -19,7 +21,7 @@ use cube_words::{Command, Setting, Usage, needed_value, orders_of, stated};
 use std::alloc::Global;
 
 const HELP: &[u8] =
-    b"cube sum --facts FILE                                             answers each line of the input by a sum over the file\ncube check --dims FILE --facts FILE --policy FILE                 says what the files hold\ncube ask --dims FILE --facts FILE --policy FILE --journal FILE [--requests N]    answers each line of the input as a query\ncube --help                                                       prints this text\ncube --version                                                    prints the version\n";
+    b"cube sum --facts FILE\n    answers each line of the input by a sum over the file\ncube check --dims FILE --facts FILE --policy FILE\n    says what the files hold\ncube ask --dims FILE --facts FILE --policy FILE --journal FILE [--requests N]\n    answers each line of the input as a query, or as `shape` or `witness CELL`\ncube witness --dims FILE --facts FILE --policy FILE --journal FILE --cell CELL\n    prints the changes that hide a cell\ncube twin --dims FILE --facts FILE --policy FILE --journal FILE --cell CELL\n    prints the fact file of the cube with these changes\ncube --help\n    prints this text\ncube --version\n    prints the version\n";
 
 const VERSION: &[u8] = b"cube 0.1.0\n";
 
@@ -54,7 +56,8 @@ fn refuse_words(alloc: Global, words: &[Text], usage: Usage) -> Report
     }
 }
 
-fn print<O: Sink>(alloc: Global, room: Room, text: &[u8], out: &mut O) -> Report
+/// Puts a text.
+pub fn print<O: Sink>(alloc: Global, room: Room, text: &[u8], out: &mut O) -> Report
     requires { room ≡ [] }
     ensures prints { Prints text.now (O.written out.old) (O.written out.new) result }
     ensures output { result.status ≡ 6 → Rose (O.faults out.old) (O.faults out.new) }
@@ -284,6 +287,12 @@ fn obey<F: Folder, S: Store, I: Source, O: Sink>(
     ensures ask_ended { command ≡ orders.Ask → result.status ≡ 0 → I.ended input.new ≡ true }
     ensures ask_memory { command ≡ orders.Ask → result.status ≡ 7 → (input.new ≡ input.old) × (out.new ≡ out.old) × (result.outcomes ≡ []) }
 
+    // What hides a cell is put on the sink, as changes or as the fact file of the twin, unless the run ended before.
+    ensures witness { command ≡ orders.Witness → CellRun false (dims_name words.now) (facts_name words.now) (policy_name words.now) (journal_name words.now) (cell_name words.now) (F.files files.old) (F.asked files.old) (F.asked files.new) (F.faults files.old) (F.faults files.new)
+        (S.told store.old) (S.names store.old) (S.names store.new) (S.calls store.old) (S.calls store.new) (S.logs store.old 0) (S.logs store.new 0) (S.faults store.old) (S.faults store.new) (O.written out.old) (O.written out.new) (O.faults out.old) (O.faults out.new) store.old store.new out.old out.new result }
+    ensures twin { command ≡ orders.Twin → CellRun true (dims_name words.now) (facts_name words.now) (policy_name words.now) (journal_name words.now) (cell_name words.now) (F.files files.old) (F.asked files.old) (F.asked files.new) (F.faults files.old) (F.faults files.new)
+        (S.told store.old) (S.names store.old) (S.names store.new) (S.calls store.old) (S.calls store.new) (S.logs store.old 0) (S.logs store.new 0) (S.faults store.old) (S.faults store.new) (O.written out.old) (O.written out.new) (O.faults out.old) (O.faults out.new) store.old store.new out.old out.new result }
+
     // A fault is answered only where it was counted in this call, and at most one count rises.
     ensures unreadable { result.status ≡ 5 → (Rose (F.faults files.old) (F.faults files.new) × (I.faults input.new ≡ I.faults input.old)) ⊎ (Rose (I.faults input.old) (I.faults input.new) × (F.faults files.new ≡ F.faults files.old)) }
     ensures output { result.status ≡ 6 → Rose (O.faults out.old) (O.faults out.new) }
@@ -303,9 +312,9 @@ fn obey<F: Folder, S: Store, I: Source, O: Sink>(
 
     // What a command doesn't use is as at entry.
     ensures unread { command ≢ orders.Sum → command ≢ orders.Ask → input.new ≡ input.old }
-    ensures unused { command ≢ orders.Sum → command ≢ orders.Check → command ≢ orders.Ask → files.new ≡ files.old }
+    ensures unused { command ≢ orders.Sum → command ≢ orders.Check → command ≢ orders.Ask → command ≢ orders.Witness → command ≢ orders.Twin → files.new ≡ files.old }
     ensures words { result.status ≢ 2 }
-    ensures store { command ≢ orders.Ask → store.new ≡ store.old }
+    ensures store { command ≢ orders.Ask → command ≢ orders.Witness → command ≢ orders.Twin → store.new ≡ store.old }
     ensures outcomes { command ≢ orders.Ask → result.outcomes ≡ [] }
 {
     match command {
@@ -340,6 +349,8 @@ fn obey<F: Folder, S: Store, I: Source, O: Sink>(
                 out,
             )
         }
+        Command::Witness => tell(alloc, room, command, false, words, files, store, out),
+        Command::Twin => tell(alloc, room, command, true, words, files, store, out),
     }
 }
 
@@ -384,6 +395,12 @@ pub fn run<F: Folder, S: Store, I: Source, O: Sink, W: Wire>(
     ensures ask_ended { orders_in words.now ≡ Ok orders.Ask → result.status ≡ 0 → I.ended input.new ≡ true }
     ensures ask_memory { orders_in words.now ≡ Ok orders.Ask → result.status ≡ 7 → (input.new ≡ input.old) × (out.new ≡ out.old) × (result.outcomes ≡ []) }
 
+    // What hides a cell is put on the sink, as changes or as the fact file of the twin, unless the run ended before.
+    ensures witness { orders_in words.now ≡ Ok orders.Witness → CellRun false (dims_name words.now) (facts_name words.now) (policy_name words.now) (journal_name words.now) (cell_name words.now) (F.files files.old) (F.asked files.old) (F.asked files.new) (F.faults files.old) (F.faults files.new)
+        (S.told store.old) (S.names store.old) (S.names store.new) (S.calls store.old) (S.calls store.new) (S.logs store.old 0) (S.logs store.new 0) (S.faults store.old) (S.faults store.new) (O.written out.old) (O.written out.new) (O.faults out.old) (O.faults out.new) store.old store.new out.old out.new result }
+    ensures twin { orders_in words.now ≡ Ok orders.Twin → CellRun true (dims_name words.now) (facts_name words.now) (policy_name words.now) (journal_name words.now) (cell_name words.now) (F.files files.old) (F.asked files.old) (F.asked files.new) (F.faults files.old) (F.faults files.new)
+        (S.told store.old) (S.names store.old) (S.names store.new) (S.calls store.old) (S.calls store.new) (S.logs store.old 0) (S.logs store.new 0) (S.faults store.old) (S.faults store.new) (O.written out.old) (O.written out.new) (O.faults out.old) (O.faults out.new) store.old store.new out.old out.new result }
+
     // A fault is answered only where it was counted in this call, and at most one count rises.
     ensures unreadable { result.status ≡ 5 → (Rose (F.faults files.old) (F.faults files.new) × (I.faults input.new ≡ I.faults input.old)) ⊎ (Rose (I.faults input.old) (I.faults input.new) × (F.faults files.new ≡ F.faults files.old)) }
     ensures output { result.status ≡ 6 → Rose (O.faults out.old) (O.faults out.new) }
@@ -403,8 +420,8 @@ pub fn run<F: Folder, S: Store, I: Source, O: Sink, W: Wire>(
 
     // What a command doesn't use is as at entry.
     ensures unread { orders_in words.now ≢ Ok orders.Sum → orders_in words.now ≢ Ok orders.Ask → input.new ≡ input.old }
-    ensures unused { orders_in words.now ≢ Ok orders.Sum → orders_in words.now ≢ Ok orders.Check → orders_in words.now ≢ Ok orders.Ask → files.new ≡ files.old }
-    ensures store { orders_in words.now ≢ Ok orders.Ask → store.new ≡ store.old }
+    ensures unused { orders_in words.now ≢ Ok orders.Sum → orders_in words.now ≢ Ok orders.Check → orders_in words.now ≢ Ok orders.Ask → orders_in words.now ≢ Ok orders.Witness → orders_in words.now ≢ Ok orders.Twin → files.new ≡ files.old }
+    ensures store { orders_in words.now ≢ Ok orders.Ask → orders_in words.now ≢ Ok orders.Witness → orders_in words.now ≢ Ok orders.Twin → store.new ≡ store.old }
     ensures wire { wire.new ≡ wire.old }
     ensures outcomes { orders_in words.now ≢ Ok orders.Ask → result.outcomes ≡ [] }
 {

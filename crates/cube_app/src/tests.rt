@@ -1,5 +1,6 @@
 // Runs over objects in memory, some of whose calls fail.
 mod ask;
+mod cells;
 mod check;
 mod journal;
 mod policy;
@@ -166,7 +167,7 @@ fn a_refused_file_is_named_with_its_fault(rt: HostRuntime) -> Result<(), Fail> {
 
 #[test]
 fn wrong_words_are_named(rt: HostRuntime) -> Result<(), Fail> {
-    let cases: [(&[&[u8]], &[u8]); 17] = [
+    let cases: [(&[&[u8]], &[u8]); 19] = [
         (&[], b"usage: no command\n"),
         (&[b"ask", b"--dims"], b"usage: --dims\n"),
         (&[b"ask", b"--facts", b"f"], b"usage: missing --dims\n"),
@@ -183,6 +184,21 @@ fn wrong_words_are_named(rt: HostRuntime) -> Result<(), Fail> {
         (
             &[b"ask", b"--dims", b"d", b"--facts", b"f"],
             b"usage: missing --policy\n",
+        ),
+        (&[b"witness", b"--requests", b"1"], b"usage: --requests\n"),
+        (
+            &[
+                b"twin",
+                b"--dims",
+                b"d",
+                b"--facts",
+                b"f",
+                b"--policy",
+                b"p",
+                b"--journal",
+                b"l",
+            ],
+            b"usage: missing --cell\n",
         ),
         (&[b"sum"], b"usage: missing --facts\n"),
         (

@@ -37,7 +37,7 @@ use Rattle.cube_model.proofs.Ranks.{finer_levels}
 use Rattle.cube_text.specs.Keys.{KeyFits}
 use Rattle.cube_answers.specs.AnswerText.{answer_text}
 use Rattle.cube_engine.specs.Books.{is_answer}
-use Rattle.cube_engine.specs.Steps.{in_words, asked_or_fault, reply_where_read, history_where_read}
+use Rattle.cube_engine.specs.Steps.{in_words, reply_where_read, history_where_read}
 use Rattle.cube_query.specs.declared.fault.RequestFault.{RequestFault}
 use Rattle.cube_answers.specs.VerdictText.{verdict_text, CellFits, IsVerdict}
 use Rattle.cube_answers.proofs.Keys.{key_there, point_at}
@@ -176,10 +176,10 @@ valid_under c p r policy valid = rw (there r.what) valid
     there (Measure m) = ap (nat_lt m) policy.methods
 
 -- the reply to a request that was read, and the history behind it
-pub read_reply : (c : Core) (p : Policy) (h : List Entry) (r : Request) (asked : Result Request RequestFault) → asked ≡ Ok r → is_valid (shown c p) r ≡ true → in_words c.dims (shown c p) r (told (world c p) r (verdict (shown c p) h r)) ≡ reply_where_read c.dims (world c p) h (asked_or_fault asked)
+pub read_reply : (c : Core) (p : Policy) (h : List Entry) (r : Request) (asked : Result Request RequestFault) → asked ≡ Ok r → is_valid (shown c p) r ≡ true → in_words c.dims (shown c p) r (told (world c p) r (verdict (shown c p) h r)) ≡ reply_where_read c.dims (world c p) h asked
 read_reply c p h r asked read valid = rw (read, valid) refl
 
-pub read_history : (c : Core) (p : Policy) (h : List Entry) (r : Request) (asked : Result Request RequestFault) → asked ≡ Ok r → is_valid (shown c p) r ≡ true → entered h r (verdict (shown c p) h r) ≡ history_where_read (shown c p) h (asked_or_fault asked)
+pub read_history : (c : Core) (p : Policy) (h : List Entry) (r : Request) (asked : Result Request RequestFault) → asked ≡ Ok r → is_valid (shown c p) r ≡ true → entered h r (verdict (shown c p) h r) ≡ history_where_read (shown c p) h asked
 read_history c p h r asked read valid = rw (read, valid) refl
 
 -- what follows of each value

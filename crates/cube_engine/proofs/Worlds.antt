@@ -5,18 +5,20 @@ use Rattle.std.specs.declared.result.Result.TheVariants.{Ok, Err}
 use Rattle.cube_model.specs.declared.ask.Ask.{Ask}
 use Rattle.cube_model.specs.declared.ask.Ask.TheVariants as ask
 use Rattle.cube_model.specs.declared.ask.Inner.{Inner}
+use Rattle.cube_model.specs.declared.ask.Inner.TheVariants.{Query, Witness, Shape}
 use Rattle.cube_model.specs.declared.cell.Cell.{Cell}
 use Rattle.cube_model.specs.declared.entry.Entry.{Entry}
 use Rattle.cube_model.specs.declared.outcome.Outcome.{Outcome}
 use Rattle.cube_model.specs.declared.outcome.Outcome.TheVariants.{Given, JournalFault, NoMemory}
 use Rattle.cube_model.specs.declared.policy.Policy.{Policy}
 use Rattle.cube_model.specs.declared.reply.Reply.{Reply}
+use Rattle.cube_model.specs.declared.request.Request.{Request}
 use Rattle.cube_model.specs.Cores.{Core, shown, world}
 use Rattle.cube_model.specs.Cubes.{Public, World, IsWorld, IsIn}
 use Rattle.cube_model.specs.Dims.{Dims}
 use Rattle.cube_model.specs.Protection.{protected}
 use Rattle.cube_model.specs.Rooms.{alone}
-use Rattle.cube_model.specs.Runs.{Question, Question as question, Reply as Told, Ask as Turn, grown}
+use Rattle.cube_model.specs.Runs.{Question as question, Reply as Told, Ask as Turn}
 use Rattle.cube_model.specs.Twins.{changes, twin, sum_of}
 use Rattle.cube_model.specs.TwoWorlds.{Extends}
 use Rattle.cube_model.specs.Verdicts.{IsAdmissible}
@@ -25,7 +27,9 @@ use Rattle.cube_model.proofs.Growth.{extends_refl, grown_grows}
 use Rattle.cube_model.proofs.Worlds.{later_changes, admissible_next}
 use Rattle.cube_io.specs.Desks.{Answered}
 use Rattle.cube_engine.specs.Engines.{Engine, book_of, rooms_of}
-use Rattle.cube_engine.specs.Steps.{inner_of, question_of, in_words, question_reply, reply_where_read, history_where_read, inner_reply, inner_history, reply_in, next_in, manner}
+use Rattle.cube_query.specs.Faults.{request_of}
+use Rattle.cube_query.specs.declared.fault.RequestFault.{RequestFault}
+use Rattle.cube_engine.specs.Steps.{inner_of, in_words, reply_where_read, history_where_read, given_reply, given_history, inner_reply, inner_history, reply_in, next_in, manner}
 use Rattle.cube_engine.specs.Worlds.{IsRuled, first_history, twin_of, Opens}
 
 -- the same of a core and a policy
@@ -36,22 +40,23 @@ record IsTwin (c : Core) (p : Policy) (old new : Engine) (a : Ask) (reply : Repl
 first_of : (x y : Told) (xs ys : List Told) → x ∷ xs ≡ y ∷ ys → x ≡ y
 first_of x y xs ys e = cc
 
--- one question
-question_open : (s : Dims) (w : World) (h last : List Entry) (q : Question) (m : ℕ) (t : Cell) → IsWorld w → IsAdmissible w.shown last → Extends (grown q w.shown h) last → IsIn t (protected w.shown m) → question_reply s (twin w m (changes w.shown last m t)) h q ≡ question_reply s w h q
-question_open s w h last (question.Query r) m t ok adm ext within =
+-- one request
+request_open : (s : Dims) (w : World) (h last : List Entry) (asked : Result Request RequestFault) (m : ℕ) (t : Cell) → IsWorld w → IsAdmissible w.shown last → Extends (history_where_read w.shown h asked) last → IsIn t (protected w.shown m) → reply_where_read s (twin w m (changes w.shown last m t)) h asked ≡ reply_where_read s w h asked
+request_open s w h last (Ok r) m t ok adm ext within =
     let turn : Turn = record { question = question.Query r; outcome = Given } in
     let open_to = later_changes w h last (turn ∷ []) m t ok adm ext within in
     ap (in_words s w.shown r) (first_of _ _ [] [] open_to.same_replies)
-question_open s w h last (question.Witness what c) m t ok adm ext within = refl
-question_open s w h last question.Shape m t ok adm ext within = refl
+request_open s w h last (Err fault) m t ok adm ext within = refl
 
-read_open : (s : Dims) (w : World) (h last : List Entry) (q : Result Question Reply) (m : ℕ) (t : Cell) → IsWorld w → IsAdmissible w.shown last → Extends (history_where_read w.shown h q) last → IsIn t (protected w.shown m) → reply_where_read s (twin w m (changes w.shown last m t)) h q ≡ reply_where_read s w h q
-read_open s w h last (Ok q) m t ok adm ext within = question_open s w h last q m t ok adm ext within
-read_open s w h last (Err reply) m t ok adm ext within = refl
+-- one ask that is given its reply: that to another ask than a request looks at no value
+given_open : (s : Dims) (w : World) (h last : List Entry) (a : Inner) (m : ℕ) (t : Cell) → IsWorld w → IsAdmissible w.shown last → Extends (given_history s w.shown h a) last → IsIn t (protected w.shown m) → given_reply s (twin w m (changes w.shown last m t)) h a ≡ given_reply s w h a
+given_open s w h last (Query text) m t ok adm ext within = request_open s w h last (request_of s text) m t ok adm ext within
+given_open s w h last (Witness text) m t ok adm ext within = refl
+given_open s w h last Shape m t ok adm ext within = refl
 
 -- one ask of a room, whose reply stays with the changes for any admissible history that goes on from the one behind it
 pub inner_open : (s : Dims) (w : World) (h last : List Entry) (a : Inner) (o : Outcome) (m : ℕ) (t : Cell) → IsWorld w → IsAdmissible w.shown last → Extends (inner_history o s w.shown h a) last → IsIn t (protected w.shown m) → inner_reply o s (twin w m (changes w.shown last m t)) h a ≡ inner_reply o s w h a
-inner_open s w h last a Given m t ok adm ext within = read_open s w h last (question_of s a) m t ok adm ext within
+inner_open s w h last a Given m t ok adm ext within = given_open s w h last a m t ok adm ext within
 inner_open s w h last a JournalFault m t ok adm ext within = refl
 inner_open s w h last a NoMemory m t ok adm ext within = refl
 
@@ -69,21 +74,31 @@ room_open s w h last (ask.Group [] inner) o m t ok adm ext within = inner_open s
 room_open s w h last (ask.Group (x ∷ name) inner) o m t ok adm ext within = refl
 
 -- the history behind an ask goes on from the one before it, and stays admissible
-read_grows : (g : Public) (h : List Entry) (q : Result Question Reply) → Extends h (history_where_read g h q)
-read_grows g h (Ok q) = grown_grows g h q
-read_grows g h (Err reply) = extends_refl h
+read_grows : (g : Public) (h : List Entry) (asked : Result Request RequestFault) → Extends h (history_where_read g h asked)
+read_grows g h (Ok r) = grown_grows g h (question.Query r)
+read_grows g h (Err fault) = extends_refl h
+
+given_grows : (s : Dims) (g : Public) (h : List Entry) (a : Inner) → Extends h (given_history s g h a)
+given_grows s g h (Query text) = read_grows g h (request_of s text)
+given_grows s g h (Witness text) = extends_refl h
+given_grows s g h Shape = extends_refl h
 
 pub inner_grows : (s : Dims) (g : Public) (h : List Entry) (a : Inner) (o : Outcome) → Extends h (inner_history o s g h a)
-inner_grows s g h a Given = read_grows g h (question_of s a)
+inner_grows s g h a Given = given_grows s g h a
 inner_grows s g h a JournalFault = extends_refl h
 inner_grows s g h a NoMemory = extends_refl h
 
-read_stays : (g : Public) (h : List Entry) (q : Result Question Reply) → IsAdmissible g h → IsAdmissible g (history_where_read g h q)
-read_stays g h (Ok q) adm = admissible_next g h q Given adm
-read_stays g h (Err reply) adm = adm
+read_stays : (g : Public) (h : List Entry) (asked : Result Request RequestFault) → IsAdmissible g h → IsAdmissible g (history_where_read g h asked)
+read_stays g h (Ok r) adm = admissible_next g h (question.Query r) Given adm
+read_stays g h (Err fault) adm = adm
+
+given_stays : (s : Dims) (g : Public) (h : List Entry) (a : Inner) → IsAdmissible g h → IsAdmissible g (given_history s g h a)
+given_stays s g h (Query text) adm = read_stays g h (request_of s text) adm
+given_stays s g h (Witness text) adm = adm
+given_stays s g h Shape adm = adm
 
 pub inner_stays : (s : Dims) (g : Public) (h : List Entry) (a : Inner) (o : Outcome) → IsAdmissible g h → IsAdmissible g (inner_history o s g h a)
-inner_stays s g h a Given adm = read_stays g h (question_of s a) adm
+inner_stays s g h a Given adm = given_stays s g h a adm
 inner_stays s g h a JournalFault adm = adm
 inner_stays s g h a NoMemory adm = adm
 

@@ -1,3 +1,4 @@
+pub mod Changes
 pub mod Books
 pub mod Constant
 pub mod Engines

@@ -12,19 +12,21 @@ use Rattle.cube_model.specs.declared.entry.Entry.{Entry}
 use Rattle.cube_model.specs.declared.outcome.Outcome.{Outcome}
 use Rattle.cube_model.specs.declared.outcome.Outcome.TheVariants.{Given, JournalFault, NoMemory}
 use Rattle.cube_model.specs.declared.reply.Fixed.TheVariants as constant
-use Rattle.cube_model.specs.declared.reply.Kind.TheVariants.{Csv, Plain}
+use Rattle.cube_model.specs.declared.reply.Kind.TheVariants.{Csv, Json, Plain}
 use Rattle.cube_model.specs.declared.reply.Reply.{Reply}
 use Rattle.cube_model.specs.declared.reply.Reply.TheVariants.{Made, Fixed}
 use Rattle.cube_model.specs.declared.request.Request.{Request}
 use Rattle.cube_model.specs.Cubes.{Public, World, same}
 use Rattle.cube_model.specs.Dims.{Dims}
 use Rattle.cube_model.specs.Rooms.{Room, aim, room_of}
-use Rattle.cube_model.specs.Runs.{Question, Question as question, Reply as Told, Reply as told, replied, grown}
+use Rattle.cube_model.specs.Runs.{Question as question, Reply as Told, Reply as told, replied, grown}
 use Rattle.cube_query.specs.Faults.{request_of, fault_status, fault_body}
 use Rattle.cube_query.specs.declared.fault.RequestFault.{RequestFault}
 use Rattle.cube_io.specs.Desks.{Manner}
 use Rattle.cube_answers.specs.AnswerText.{answer_text}
 use Rattle.cube_answers.specs.VerdictText.{verdict_text}
+use Rattle.cube_shape.specs.ShapeText.{shape_text}
+use Rattle.cube_engine.specs.Changes.{changes_for, text_of}
 
 -- ---- what is asked
 
@@ -47,16 +49,6 @@ inner_of (ask.Group name inner) = inner
 abbrev pub fault_reply : RequestFault → Reply
 fault_reply fault = Made (fault_status fault) Plain (fault_body fault)
 
-abbrev pub asked_or_fault : Result Request RequestFault → Result Question Reply
-asked_or_fault (Ok r) = Ok (question.Query r)
-asked_or_fault (Err fault) = Err (fault_reply fault)
-
--- The question of an ask, or the reply to its fault. There is no path to a witness or to the shape yet.
-abbrev pub question_of : Dims → Inner → Result Question Reply
-question_of s (Query text) = asked_or_fault (request_of s text)
-question_of s (Witness text) = Err (Fixed constant.NoPath)
-question_of s Shape = Err (Fixed constant.NoPath)
-
 -- A reply to a request in words: an answer as CSV, a refusal as the line that names its rule. A request gets no other.
 abbrev pub in_words : Dims → Public → Request → Told → Reply
 in_words s g r (told.Answered rows) = Made 200 Csv (answer_text s r rows)
@@ -71,28 +63,40 @@ in_words s g r (told.Failed o) = Fixed constant.NoPath
 in_words s g r told.NoPath = Fixed constant.NoPath
 in_words s g r told.UnknownGroup = Fixed constant.NoPath
 
-abbrev pub question_reply : Dims → World → List Entry → Question → Reply
-question_reply s w h (question.Query r) = in_words s w.shown r (replied (question.Query r) w h)
-question_reply s w h (question.Witness what t) = Fixed constant.NoPath
-question_reply s w h question.Shape = Fixed constant.NoPath
+-- the reply to a request, or to the fault of its text
+abbrev pub reply_where_read : Dims → World → List Entry → Result Request RequestFault → Reply
+reply_where_read s w h (Ok r) = in_words s w.shown r (replied (question.Query r) w h)
+reply_where_read s w h (Err fault) = fault_reply fault
+
+abbrev pub history_where_read : Public → List Entry → Result Request RequestFault → List Entry
+history_where_read g h (Ok r) = grown (question.Query r) g h
+history_where_read g h (Err fault) = h
+
+-- a text as CSV, or the status and the line that say why there is none
+abbrev pub text_reply : Result (List ℕ) (ℕ × List ℕ) → Reply
+text_reply (Ok text) = Made 200 Csv text
+text_reply (Err why) = Made why.0 Plain why.1
 
 -- the reply where all goes well
-abbrev pub reply_where_read : Dims → World → List Entry → Result Question Reply → Reply
-reply_where_read s w h (Ok q) = question_reply s w h q
-reply_where_read s w h (Err reply) = reply
+abbrev pub given_reply : Dims → World → List Entry → Inner → Reply
+given_reply s w h (Query text) = reply_where_read s w h (request_of s text)
+given_reply s w h (Witness text) = text_reply (text_of s w.shown (changes_for s w.shown h text))
+given_reply s w h Shape = Made 200 Json (shape_text s w.shown)
 
-abbrev pub history_where_read : Public → List Entry → Result Question Reply → List Entry
-history_where_read g h (Ok q) = grown q g h
-history_where_read g h (Err reply) = h
+-- the history behind it: a query alone may add to it
+abbrev pub given_history : Dims → Public → List Entry → Inner → List Entry
+given_history s g h (Query text) = history_where_read g h (request_of s text)
+given_history s g h (Witness text) = h
+given_history s g h Shape = h
 
 -- the reply to what is asked of a room, by what became of it, and the history behind it
 abbrev pub inner_reply : Outcome → Dims → World → List Entry → Inner → Reply
-inner_reply Given s w h a = reply_where_read s w h (question_of s a)
+inner_reply Given s w h a = given_reply s w h a
 inner_reply JournalFault s w h a = Fixed constant.JournalFault
 inner_reply NoMemory s w h a = Fixed constant.NoMemory
 
 abbrev pub inner_history : Outcome → Dims → Public → List Entry → Inner → List Entry
-inner_history Given s g h a = history_where_read g h (question_of s a)
+inner_history Given s g h a = given_history s g h a
 inner_history JournalFault s g h a = h
 inner_history NoMemory s g h a = h
 

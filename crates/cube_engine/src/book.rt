@@ -9,6 +9,7 @@ ghost use Rattle.cube_io.specs.States.{Gained};
 ghost use Rattle.cube_io.specs.Told.{OthersStay};
 ghost use Rattle.cube_journal.specs.Keeping.{IsInRecovery};
 ghost use Rattle.cube_engine.specs.Books.{IsWaiting, entry_waiting, with_waiting};
+ghost use Rattle.cube_engine.specs.Changes.{Refuses, changes_for, text_of, twin_for};
 ghost use Rattle.cube_engine.specs.Kept.{history_of, IsKept, IsExact, IsWithin};
 ghost use Rattle.cube_engine.specs.Opening.{StartCause, IsStartFault};
 ghost use Rattle.cube_engine.specs.Prepared.{InnerComes};
@@ -17,11 +18,12 @@ ghost use Rattle.cube_engine.specs.Worlds.{IsRuled};
 use crate::EngineFault;
 use crate::opening::open_log;
 use crate::prepared::{Prepared, prepare_query};
+use crate::witness::{NoChanges, changes_text, prepare_shape, prepare_witness, twin_text};
 use cube_admit::State;
 use cube_core::{Core, Steps};
 use cube_io::{Failed, Store};
 use cube_journal::{Journal, Line};
-use cube_model::{Fixed, Inner, Outcome, Policy, Reply};
+use cube_model::{Inner, Policy, Text};
 use std::alloc::Global;
 use std::marker::Model;
 use std::sync::ledger::Ledger;
@@ -116,6 +118,24 @@ impl Book {
         &self.state
     }
 
+    /// The changes that hide the cell that a text names, in words.
+    pub fn changes_text(&self, alloc: Global, text: &[u8]) -> Result<Text, NoChanges>
+        requires { self.now.waiting ≡ None }
+        ensures ok { IfOk result (λ words. text_of self.now.core.dims (shown self.now.core self.now.policy) (changes_for self.now.core.dims (shown self.now.core self.now.policy) self.now.history text.now) ≡ Ok words) }
+        ensures err { IfErr result (λ why. Refuses why (text_of self.now.core.dims (shown self.now.core self.now.policy) (changes_for self.now.core.dims (shown self.now.core self.now.policy) self.now.history text.now))) }
+    {
+        changes_text(alloc, &self.core, &self.policy, &self.state, text)
+    }
+
+    /// The fact file of the twin for the cell that a text names.
+    pub fn twin_text(&self, alloc: Global, text: &[u8]) -> Result<Text, NoChanges>
+        requires { self.now.waiting ≡ None }
+        ensures ok { IfOk result (λ file. twin_for self.now.core self.now.policy self.now.history text.now ≡ Ok file) }
+        ensures err { IfErr result (λ why. Refuses why (twin_for self.now.core self.now.policy self.now.history text.now)) }
+    {
+        twin_text(alloc, &self.core, &self.policy, &self.state, text)
+    }
+
     // What a query comes to.
     pub(crate) fn query<L: Ledger>(
         &mut self,
@@ -137,22 +157,22 @@ impl Book {
         )
     }
 
-    // What a question for the changes that hide a cell comes to. There is no path to it yet.
-    pub(crate) fn witness(&mut self, _text: &[u8]) -> Prepared
+    // What a question for the changes that hide a cell comes to.
+    pub(crate) fn witness(&mut self, alloc: Global, text: &[u8]) -> Prepared
         requires { self.old.waiting ≡ None }
-        ensures comes { InnerComes self.old.core.dims (world self.old.core self.old.policy) self.old.history (inner.Witness _text.now) self.new.waiting result }
+        ensures comes { InnerComes self.old.core.dims (world self.old.core self.old.policy) self.old.history (inner.Witness text.now) self.new.waiting result }
         ensures same { self.new ≡ with_waiting self.new.waiting self.old }
     {
-        Prepared::Said(Reply::Fixed(Fixed::NoPath), Outcome::Given)
+        prepare_witness(alloc, &self.core, &self.policy, &self.state, text)
     }
 
-    // What a question for the public shape comes to. There is no path to it yet.
-    pub(crate) fn shape(&mut self) -> Prepared
+    // What a question for the public shape comes to.
+    pub(crate) fn shape(&mut self, alloc: Global) -> Prepared
         requires { self.old.waiting ≡ None }
         ensures comes { InnerComes self.old.core.dims (world self.old.core self.old.policy) self.old.history inner.Shape self.new.waiting result }
         ensures same { self.new ≡ with_waiting self.new.waiting self.old }
     {
-        Prepared::Said(Reply::Fixed(Fixed::NoPath), Outcome::Given)
+        prepare_shape(alloc, &self.core, &self.policy, &self.state)
     }
 
     // What is asked of the cube comes to.
@@ -168,8 +188,8 @@ impl Book {
     {
         match ask {
             Inner::Query(text) => self.query(alloc, text.as_slice(), steps),
-            Inner::Witness(text) => self.witness(text.as_slice()),
-            Inner::Shape => self.shape(),
+            Inner::Witness(text) => self.witness(alloc, text.as_slice()),
+            Inner::Shape => self.shape(alloc),
         }
     }
 

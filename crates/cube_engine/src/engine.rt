@@ -10,6 +10,7 @@ ghost use Rattle.cube_io.specs.States.{Gained};
 ghost use Rattle.cube_io.specs.Told.{OthersStay};
 ghost use Rattle.cube_journal.specs.Keeping.{IsInRecovery};
 ghost use Rattle.cube_engine.specs.Books.{book_rooms, with_waiting};
+ghost use Rattle.cube_engine.specs.Changes.{Refuses, changes_for, text_of, twin_for};
 ghost use Rattle.cube_engine.specs.Engines.{book_of, rooms_of};
 ghost use Rattle.cube_engine.specs.Kept.{history_of, IsKept, IsExact, IsWithin};
 ghost use Rattle.cube_engine.specs.Opening.{StartCause, IsStartFault};
@@ -19,7 +20,7 @@ ghost use Rattle.cube_engine.specs.Worlds.{IsRuled, Opens};
 
 use crate::prepared::Prepared;
 use crate::turns::Turns;
-use crate::{Book, EngineFault};
+use crate::{Book, EngineFault, NoChanges};
 use cube_admit::State;
 use cube_core::{Core, Steps};
 use cube_io::Store;
@@ -74,8 +75,8 @@ fn prepare<L: Ledger>(alloc: Global, book: &mut Book, ask: &Ask, steps: &mut Ste
 {
     match ask {
         Ask::Query(text) => book.query(alloc, text.as_slice(), steps),
-        Ask::Witness(text) => book.witness(text.as_slice()),
-        Ask::Shape => book.shape(),
+        Ask::Witness(text) => book.witness(alloc, text.as_slice()),
+        Ask::Shape => book.shape(alloc),
         Ask::Group { name, ask } => prepare_group(alloc, book, name.as_slice(), ask, steps),
     }
 }
@@ -196,6 +197,23 @@ impl Engine {
         ensures stands { StandsFor (shown self.now.core self.now.policy) result.now }
     {
         self.book.state()
+    }
+
+    /// The changes that hide the cell that a text names, in words: those for the history as it stands. The text is that of
+    /// a question for changes, whose reply has the same words.
+    pub fn changes_text(&self, alloc: Global, text: &[u8]) -> Result<Text, NoChanges>
+        ensures ok { IfOk result (λ words. text_of self.now.core.dims (shown self.now.core self.now.policy) (changes_for self.now.core.dims (shown self.now.core self.now.policy) self.now.history text.now) ≡ Ok words) }
+        ensures err { IfErr result (λ why. Refuses why (text_of self.now.core.dims (shown self.now.core self.now.policy) (changes_for self.now.core.dims (shown self.now.core self.now.policy) self.now.history text.now))) }
+    {
+        self.book.changes_text(alloc, text)
+    }
+
+    /// The fact file of the twin: of the cube with these changes.
+    pub fn twin_text(&self, alloc: Global, text: &[u8]) -> Result<Text, NoChanges>
+        ensures ok { IfOk result (λ file. twin_for self.now.core self.now.policy self.now.history text.now ≡ Ok file) }
+        ensures err { IfErr result (λ why. Refuses why (twin_for self.now.core self.now.policy self.now.history text.now)) }
+    {
+        self.book.twin_text(alloc, text)
     }
 
     /// What became of the asks so far, in turn.

@@ -10,9 +10,11 @@ mod prepared;
 #[cfg(test)]
 mod tests;
 mod turns;
+mod witness;
 mod worked;
 
 pub use book::Book;
 pub use engine::Engine;
 pub use fault::EngineFault;
-pub use worked::worked_asks;
+pub use witness::NoChanges;
+pub use worked::{worked_asks, worked_changes};

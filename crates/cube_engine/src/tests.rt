@@ -289,38 +289,52 @@ fn queries_get_their_answers_and_faults(rt: HostRuntime) -> Result<(), Fail> {
     Ok(())
 }
 
-/// The constant replies of an engine, and what became of the asks.
-fn check_constants(
-    rt: &impl Abort,
-    alloc: Global,
-    engine: &mut Engine,
-    store: &mut NullStore,
-) -> Result<(), Fail>
-    requires { ⟦<Engine as Desk<NullStore>>⟧.fits engine.old store.old }
-{
-    let witness = Ask::Witness(Text::from_bytes(alloc, b"cell pay")?);
-    let replies = [
-        put(alloc, engine, store, &witness)?,
-        put(alloc, engine, store, &Ask::Shape)?,
-        put_missed(engine, store)?,
-    ];
-    assert!(rt; matches!(replies[0], Reply::Fixed(Fixed::NoPath)));
-    assert!(rt; matches!(replies[1], Reply::Fixed(Fixed::NoPath)));
-    assert!(rt; matches!(replies[2], Reply::Fixed(Fixed::NoMemory)));
-    assert_eq!(rt; room_left(engine, store), 0);
-    Ok(())
-}
-
 #[test]
 fn a_missed_ask_is_taken_down(rt: HostRuntime) -> Result<(), Fail> {
     let mut store = null_store(rt.alloc())?;
-    let mut engine = engine_of(rt.alloc(), PAY, PAY_FACTS, PAY_POLICY, &mut store, 3)?;
-    check_constants(&rt, rt.alloc(), &mut engine, &mut store)?;
+    let mut engine = engine_of(rt.alloc(), PAY, PAY_FACTS, PAY_POLICY, &mut store, 2)?;
+    let first = put(rt.alloc(), &mut engine, &mut store, &Ask::Shape)?;
+    let missed = put_missed(&mut engine, &store)?;
+    assert!(&rt; matches!(first, Reply::Made { status: 200, .. }));
+    assert!(&rt; matches!(missed, Reply::Fixed(Fixed::NoMemory)));
+    assert_eq!(&rt; room_left(&engine, &store), 0);
     assert_eq!(&rt;
         engine.finish().as_slice(),
-        [Outcome::Given, Outcome::Given, Outcome::NoMemory].as_slice()
+        [Outcome::Given, Outcome::NoMemory].as_slice()
     );
     Ok(())
+}
+
+/// A question for the changes that hide pay in Lyon in February.
+fn lyon(alloc: Global) -> Result<Ask, NoMemory> {
+    let cell = Text::from_bytes(alloc, b"cell pay region.city=Lyon, time.month=Feb")?;
+    Ok(Ask::Witness(cell))
+}
+
+const ALONE: (u16, &[u8]) = (200, b"region.city,time.month,change\nLyon,Feb,1\n");
+
+const BALANCED: (u16, &[u8]) = (
+    200,
+    b"region.city,time.month,change\nLyon,Feb,1\nParis,Feb,-1\n",
+);
+
+const MONTHS: (u16, &[u8]) = (200, b"time.month,pay\nJan,80\nFeb,70\n");
+
+const SHAPE: (u16, &[u8]) = (
+    200,
+    b"{\"dimensions\":[{\"levels\":[\"city\",\"area\"],\"name\":\"region\",\"paths\":[[\"Lyon\",\"South\"],[\"Nice\",\"South\"],[\"Paris\",\"North\"]]},{\"levels\":[\"month\",\"quarter\"],\"name\":\"time\",\"paths\":[[\"Jan\",\"Q1\"],[\"Feb\",\"Q1\"]]}],\"facts\":5,\"measures\":[{\"decimals\":0,\"method\":\"lattice\",\"name\":\"pay\"},{\"decimals\":0,\"method\":\"parity\",\"name\":\"hours\"}],\"points\":5}",
+);
+
+#[test]
+fn changes_follow_the_history(rt: HostRuntime) -> Result<(), Fail> {
+    let alloc = rt.alloc();
+    let mut store = null_store(alloc)?;
+    let mut engine = engine_of(alloc, PAY, PAY_FACTS, PAY_POLICY, &mut store, 4)?;
+    let months = ask_of(alloc, None, b"slice pay by time.month")?;
+    check_made(&rt, alloc, &mut engine, &mut store, &lyon(alloc)?, ALONE)?;
+    check_made(&rt, alloc, &mut engine, &mut store, &months, MONTHS)?;
+    check_made(&rt, alloc, &mut engine, &mut store, &lyon(alloc)?, BALANCED)?;
+    check_made(&rt, alloc, &mut engine, &mut store, &Ask::Shape, SHAPE)
 }
 
 const AREAS: &[Case] = &[(

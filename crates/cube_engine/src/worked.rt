@@ -1,6 +1,6 @@
 // Replies written by the definitions alone.
 ghost use Rattle.std.specs.Prelude.{◌≡◌, [], ◌∷◌, codes};
-ghost use Rattle.cube_model.specs.declared.ask.Ask.TheVariants.{Query, Group};
+ghost use Rattle.cube_model.specs.declared.ask.Ask.TheVariants.{Query, Witness, Group};
 ghost use Rattle.cube_model.specs.declared.ask.Inner.TheVariants.{Shape};
 ghost use Rattle.cube_model.specs.declared.entry.Entry.TheVariants.{Asked};
 ghost use Rattle.cube_model.specs.declared.outcome.Outcome.TheVariants.{Given, NoMemory};
@@ -26,4 +26,18 @@ pub fn worked_asks()
     ensures group { reply_in pay_dims (pay_rooms []) (Group (codes "none") Shape) Given ≡ Made 404 Plain (codes "unknown group\n") }
     ensures memory { reply_in pay_dims (pay_rooms []) (Query (codes "slice pay by time.month")) NoMemory ≡ Fixed constant.NoMemory }
     ensures memory_stays { next_in pay_dims (pay_rooms []) (Query (codes "slice pay by time.month")) NoMemory ≡ pay_rooms [] }
+{}
+
+/// What the definitions reply to questions for the changes that hide a cell of the pay cube.
+pub fn worked_changes()
+    ensures at_first { reply_in pay_dims (pay_rooms []) (Witness (codes "cell pay region.city=Lyon, time.month=Feb")) Given ≡ Made 200 Csv (codes "region.city,time.month,change\nLyon,Feb,1\n") }
+    ensures after_months { reply_in pay_dims (pay_rooms (Asked months ∷ [])) (Witness (codes "cell pay region.city=Lyon, time.month=Feb")) Given ≡ Made 200 Csv (codes "region.city,time.month,change\nLyon,Feb,1\nParis,Feb,-1\n") }
+    ensures stays { next_in pay_dims (pay_rooms []) (Witness (codes "cell pay region.city=Lyon, time.month=Feb")) Given ≡ pay_rooms [] }
+    ensures empty { reply_in pay_dims (pay_rooms []) (Witness (codes "cell pay region.city=Nice, time.month=Feb")) Given ≡ Made 404 Plain (codes "empty cell\n") }
+    ensures not_protected { reply_in pay_dims (pay_rooms []) (Witness (codes "cell pay region.area=South")) Given ≡ Made 404 Plain (codes "not protected\n") }
+    ensures count { reply_in pay_dims (pay_rooms []) (Witness (codes "cell count")) Given ≡ Made 400 Plain (codes "not a cell of a measure\n") }
+    ensures slice { reply_in pay_dims (pay_rooms []) (Witness (codes "slice pay by time.month")) Given ≡ Made 400 Plain (codes "not a cell of a measure\n") }
+    ensures span { reply_in pay_dims (pay_rooms []) (Witness (codes "range pay time.month=Jan..Feb")) Given ≡ Made 400 Plain (codes "not a cell of a measure\n") }
+    ensures word { reply_in pay_dims (pay_rooms []) (Witness (codes "cel pay")) Given ≡ Made 400 Plain (codes "syntax at byte 3\n") }
+    ensures memory { reply_in pay_dims (pay_rooms []) (Witness (codes "cell count")) NoMemory ≡ Fixed constant.NoMemory }
 {}

@@ -20,7 +20,8 @@ fn is_one(pick: &Option<Pick>) -> bool
     }
 }
 
-fn all_one(picks: &[Option<Pick>]) -> bool
+/// Whether each pick is of one member.
+pub fn all_one(picks: &[Option<Pick>]) -> bool
     ensures { result ≡ list_all one_test picks.now }
 {
     picks.iter().all(|pick| is_one(pick))

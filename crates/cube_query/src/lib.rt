@@ -15,7 +15,7 @@ mod resolving;
 #[cfg(test)]
 mod tests;
 
-pub use canonical::{groups, print, push_level, push_levels, push_member};
+pub use canonical::{all_one, groups, print, push_level, push_levels, push_member};
 pub use fault::{RequestFault, read_request};
 pub use query::{LevelName, Name, PickName, Query, QueryFault};
 pub use reader::parse;

@@ -4,7 +4,6 @@ use Rattle.std.proofs.lemmas.Bool.Decides.{nat_tests}
 use Rattle.cube_io.specs.Desks.{Manner, IsConstant, Answered}
 use Rattle.cube_io.specs.States.{State, Log, Gained}
 use Rattle.cube_io.proofs.Trails.{gained_none, gained_map}
-use Rattle.cube_model.specs.declared.ask.Ask.TheVariants.{Query}
 use Rattle.cube_model.specs.declared.outcome.Outcome.{Outcome}
 use Rattle.cube_model.specs.declared.outcome.Outcome.TheVariants.{JournalFault, NoMemory}
 use Rattle.cube_model.specs.declared.reply.Fixed.TheVariants as constant
@@ -12,7 +11,7 @@ use Rattle.cube_model.specs.declared.reply.Reply.{Reply}
 use Rattle.cube_model.specs.declared.reply.Reply.TheVariants.{Fixed}
 use Rattle.cube_model.specs.Rooms.{Room}
 use Rattle.cube_talk.specs.AskLaws.{asks_one, rooms_one, said_one, within_one}
-use Rattle.cube_talk.specs.Asks.{is_too_long, too_large, Answers}
+use Rattle.cube_talk.specs.Asks.{ask_of, is_too_long, too_large, Answers}
 use Rattle.cube_talk.specs.Crashes.{IsSame, IsPassed, Survives, Serves}
 use Rattle.cube_talk.specs.Replies.{reply_text}
 use Rattle.cube_talk.proofs.AskTalk.{too_long_said, too_long_adds}
@@ -44,7 +43,7 @@ short_line : (line : List ℕ) → length line ≤ 65536 → is_too_long line �
 short_line line h = grind (arith, nat_tests)
 
 answered_one : (m m' : Manner) (rooms rooms' : List Room) (os os' : List Outcome) (room room' faults faults' : ℕ) (line : List ℕ) (reply : Reply) → length line ≤ 65536 → m' ≡ m → 1 ≤ room → room' + 1 ≡ room
-    → (a : Answered m (Query line) rooms rooms' os os' faults faults' reply) → Answers m m' rooms rooms' os os' room room' faults faults' (line ∷ []) (reply_text reply)
+    → (a : Answered m (ask_of line) rooms rooms' os os' faults faults' reply) → Answers m m' rooms rooms' os os' room room' faults faults' (line ∷ []) (reply_text reply)
 answered_one m m' rooms rooms' os os' room room' faults faults' line reply short same some left a =
     let f = short_line line short in
     record {
@@ -53,7 +52,7 @@ answered_one m m' rooms rooms' os os' room room' faults faults' line reply short
       outcomes_are = a.added;
       matched = sym (asks_one line [] f);
       rooms_are = a.moved ∙ sym (rooms_one m rooms line [] a.outcome [] f);
-      text_is = ap reply_text a.replied ∙ sym (append-nil (reply_text (m.reply rooms (Query line) a.outcome))) ∙ sym (said_one m rooms line [] a.outcome [] f);
+      text_is = ap reply_text a.replied ∙ sym (append-nil (reply_text (m.reply rooms (ask_of line) a.outcome))) ∙ sym (said_one m rooms line [] a.outcome [] f);
       room_left = rw (asks_one line [] f) left;
       within = within_one room line some;
       later = a.later;
@@ -62,7 +61,7 @@ answered_one m m' rooms rooms' os os' room room' faults faults' line reply short
 
 -- what a desk says of one ask is what is said of its line
 pub one_serves : (m m' : Manner) (rooms rooms' : List Room) (os os' : List Outcome) (room room' faults faults' : ℕ) (exact exact' within within' : List Room → ℕ → State → Type 0) (told told' : Bool) (names names' : List (List ℕ)) (logs logs' : ℕ → Log) (line : List ℕ) (reply : Reply)
-    → length line ≤ 65536 → m' ≡ m → 1 ≤ room → room' + 1 ≡ room → (a : Answered m (Query line) rooms rooms' os os' faults faults' reply)
+    → length line ≤ 65536 → m' ≡ m → 1 ≤ room → room' + 1 ≡ room → (a : Answered m (ask_of line) rooms rooms' os os' faults faults' reply)
     → told' ≡ told → (IsTrue told → names' ≡ names) → IsSame exact' exact → IsSame within' within
     → (IsTrue told → (log : ℕ) → within rooms log (logs log).state → Gained (λ s. within rooms log s ⊎ within rooms' log s) (logs log) (logs' log))
     → (IsTrue told → (log : ℕ) → within rooms log (logs log).state → within' rooms' log (logs' log).state)
@@ -89,12 +88,12 @@ one_serves m m' rooms rooms' os os' room room' faults faults' exact exact' withi
 
 -- an ask that found no memory
 pub missed : (m : Manner) (rooms rooms' : List Room) (os os' : List Outcome) (faults : ℕ) (line : List ℕ) (reply : Reply) → IsConstant m → reply ≡ Fixed constant.NoMemory → os' ≡ os ++ NoMemory ∷ [] → rooms' ≡ rooms
-    → Answered m (Query line) rooms rooms' os os' faults faults reply
+    → Answered m (ask_of line) rooms rooms' os os' faults faults reply
 missed m rooms rooms' os os' faults line reply always is added stays = record {
   outcome = NoMemory;
   added = added;
-  replied = is ∙ sym (always.memory rooms (Query line)).0;
-  moved = stays ∙ sym (always.memory rooms (Query line)).1;
+  replied = is ∙ sym (always.memory rooms (ask_of line)).0;
+  moved = stays ∙ sym (always.memory rooms (ask_of line)).1;
   later = omega arith;
   steady = λ n. refl;
   failed = λ e. absurd (no_fault e);

@@ -1,7 +1,7 @@
 // The lines of `ask`, each of which a desk answers.
-ghost use Rattle.std.specs.Prelude.{◌≡◌, ◌≢◌, ◌==◌, ◌≤◌, ◌∷◌, [], true, false, length};
+ghost use Rattle.std.specs.Prelude.{◌≡◌, ◌≢◌, ◌==◌, ◌≤◌, ◌∷◌, [], true, false, length, IfOk};
 ghost use Rattle.cube_io.specs.Causes.{Rose};
-ghost use Rattle.cube_talk.specs.Asks.{Talked, NoneFailed, rooms_behind};
+ghost use Rattle.cube_talk.specs.Asks.{Talked, NoneFailed, ask_of as ask_in, rooms_behind};
 ghost use Rattle.cube_talk.specs.Crashes.{Serves, Survives};
 ghost use Rattle.cube_talk.specs.Replies.{reply_text};
 ghost use Rattle.cube_talk.specs.CrashLaws.{serves_none, serves_onward, serves_alike};
@@ -21,6 +21,26 @@ pub struct Asks<D> {
     pub desk: D,
 }
 
+// The line that asks for the shape.
+const SHAPE: &[u8] = b"shape";
+
+// What a line that asks for changes begins with.
+const WITNESS: &[u8] = b"witness ";
+
+// What a line asks for.
+fn ask_of(alloc: Global, line: &[u8]) -> Result<Ask, NoMemory>
+    ensures { IfOk result (λ ask. ask ≡ ask_in line.now) }
+{
+    if line == SHAPE {
+        return Ok(Ask::Shape);
+    }
+    if line.starts_with(WITNESS) {
+        let cell = Text::from_bytes(alloc, &line[WITNESS.len()..])?;
+        return Ok(Ask::Witness(cell));
+    }
+    Ok(Ask::Query(Text::from_bytes(alloc, line)?))
+}
+
 // Asks the desk.
 fn ask<S: Store, D: Desk<S>>(alloc: Global, desk: &mut D, store: &mut S, line: &[u8]) -> Reply
     requires short { length line.now ≤ 65536 }
@@ -30,11 +50,8 @@ fn ask<S: Store, D: Desk<S>>(alloc: Global, desk: &mut D, store: &mut S, line: &
         (D.exact desk.old) (D.exact desk.new) (D.within desk.old) (D.within desk.new) (S.told store.old) (S.told store.new) (S.names store.old) (S.names store.new) (S.logs store.old) (S.logs store.new) (line.now ∷ []) (reply_text result) }
     ensures fits { D.fits desk.new store.new }
 {
-    match Text::from_bytes(alloc, line) {
-        Ok(text) => {
-            let ask = Ask::Query(text);
-            desk.answer(alloc, store, &ask)
-        }
+    match ask_of(alloc, line) {
+        Ok(ask) => desk.answer(alloc, store, &ask),
         Err(_) => desk.miss(),
     }
 }

@@ -1,7 +1,8 @@
 // Talks of a desk that says its ask again, by the definitions alone.
 ghost use Rattle.std.specs.Prelude.{◌≡◌, ◌∷◌, [], codes};
+ghost use Rattle.cube_model.specs.declared.ask.Ask.TheVariants.{Query, Shape, Witness};
 ghost use Rattle.cube_model.specs.declared.outcome.Outcome.TheVariants.{Given as given, NoMemory};
-ghost use Rattle.cube_talk.specs.Asks.{talk};
+ghost use Rattle.cube_talk.specs.Asks.{ask_of, talk};
 ghost use Rattle.cube_talk.specs.Examples.{echo};
 
 /// What the definition writes to some lines: an ask that finds no memory takes its outcome, behind the stated asks nothing is said,
@@ -10,4 +11,14 @@ pub fn worked_talk()
     ensures stated { talk echo [] (codes "a" ∷ codes "bc" ∷ codes "d" ∷ []) (given ∷ NoMemory ∷ []) 2 ≡ codes "200 2\na\n500 10\nno memory\n" }
     ensures all { talk echo [] (codes "a" ∷ codes "bc" ∷ []) (given ∷ given ∷ []) 3 ≡ codes "200 2\na\n200 3\nbc\n" }
     ensures no_outcome { talk echo [] (codes "a" ∷ codes "bc" ∷ []) (given ∷ []) 3 ≡ codes "200 2\na\n" }
+{}
+
+/// What the definition takes some lines for.
+pub fn worked_lines()
+    ensures shape { ask_of (codes "shape") ≡ Shape }
+    ensures longer { ask_of (codes "shapes") ≡ Query (codes "shapes") }
+    ensures witness { ask_of (codes "witness cell pay") ≡ Witness (codes "cell pay") }
+    ensures nothing { ask_of (codes "witness ") ≡ Witness [] }
+    ensures no_blank { ask_of (codes "witness") ≡ Query (codes "witness") }
+    ensures query { ask_of (codes "cell pay") ≡ Query (codes "cell pay") }
 {}

@@ -1,6 +1,6 @@
 // The changes for a protected cell.
 ghost use Rattle.std.specs.Ordering.{int_eq};
-ghost use Rattle.std.specs.Prelude.{◌≡◌, ◌<◌, ℕ, true, not, List, length, slice_index_or, IfOk, IfErr, OnOk, Some, pos};
+ghost use Rattle.std.specs.Prelude.{◌≡◌, ◌<◌, ℕ, true, false, not, is_none, List, length, slice_index_or, IfOk, IfErr, OnOk, Some, pos};
 ghost use Rattle.std.specs.List.{list_any, All};
 ghost use Rattle.cube_model.specs.declared.entry.Entry.{Entry};
 ghost use Rattle.cube_model.specs.declared.policy.Policy.{Policy};
@@ -136,6 +136,7 @@ pub fn changes(
     requires grounds { HasHistory (shown core.now policy.now) measure grounds.now }
     ensures changes { IfOk result (λ made. (h : List Entry) → IsAdmissible (shown core.now policy.now) h → IsGrounds (shown core.now policy.now) h measure grounds.now → made ≡ moves (shown core.now policy.now) (changes_of (shown core.now policy.now) h measure cell.now)) }
     ensures places { IfOk result (All (λ change. change.place < length core.now.shape.points)) }
+    ensures there { OnOk result (is_none (first (covered (shown core.now policy.now) cell.now)) ≡ false) }
     ensures protected { OnOk result (list_any (same_cell cell.now) (protected (shown core.now policy.now) measure) ≡ true) }
     ensures err { IfErr result (λ fault. HasNone (shown core.now policy.now) measure cell.now fault) }
 {

@@ -5,9 +5,9 @@ use Rattle.std.specs.Str.{bytes_eq}
 use Rattle.std.specs.Str.Parse.{digits_value}
 use Rattle.cube_text.specs.Units.{is_digits}
 use Rattle.cube_words.specs.declared.words.Command.{Command}
-use Rattle.cube_words.specs.declared.words.Command.TheVariants.{Help, Version, Sum, Check, Ask}
+use Rattle.cube_words.specs.declared.words.Command.TheVariants.{Help, Version, Sum, Check, Ask, Witness, Twin}
 use Rattle.cube_words.specs.declared.words.Setting.{Setting}
-use Rattle.cube_words.specs.declared.words.Setting.TheVariants.{Dims, Facts, Policy, Journal, Requests}
+use Rattle.cube_words.specs.declared.words.Setting.TheVariants.{Dims, Facts, Policy, Journal, Cell, Requests}
 use Rattle.cube_words.specs.declared.words.Usage.{Usage}
 use Rattle.cube_words.specs.declared.words.Usage.TheVariants.{NoCommand, Wrong, Missing}
 
@@ -17,16 +17,19 @@ command_word Version = codes "--version"
 command_word Sum = codes "sum"
 command_word Check = codes "check"
 command_word Ask = codes "ask"
+command_word Witness = codes "witness"
+command_word Twin = codes "twin"
 
 abbrev pub option_word : Setting → List ℕ
 option_word Dims = codes "--dims"
 option_word Facts = codes "--facts"
 option_word Policy = codes "--policy"
 option_word Journal = codes "--journal"
+option_word Cell = codes "--cell"
 option_word Requests = codes "--requests"
 
 abbrev pub commands : List Command
-commands = Help ∷ Version ∷ Sum ∷ Check ∷ Ask ∷ []
+commands = Help ∷ Version ∷ Sum ∷ Check ∷ Ask ∷ Witness ∷ Twin ∷ []
 
 -- the options that a command needs, in the order in which a missing one is named
 abbrev pub needed : Command → List Setting
@@ -35,6 +38,8 @@ needed Version = []
 needed Sum = Facts ∷ []
 needed Check = Dims ∷ Facts ∷ Policy ∷ []
 needed Ask = Dims ∷ Facts ∷ Policy ∷ Journal ∷ []
+needed Witness = Dims ∷ Facts ∷ Policy ∷ Journal ∷ Cell ∷ []
+needed Twin = Dims ∷ Facts ∷ Policy ∷ Journal ∷ Cell ∷ []
 
 -- the options that it may have
 abbrev pub allowed : Command → List Setting
@@ -43,6 +48,8 @@ allowed Version = []
 allowed Sum = Facts ∷ []
 allowed Check = Dims ∷ Facts ∷ Policy ∷ []
 allowed Ask = Dims ∷ Facts ∷ Policy ∷ Journal ∷ Requests ∷ []
+allowed Witness = Dims ∷ Facts ∷ Policy ∷ Journal ∷ Cell ∷ []
+allowed Twin = Dims ∷ Facts ∷ Policy ∷ Journal ∷ Cell ∷ []
 
 -- the command of a word
 abbrev pub command_of : List ℕ → Option Command

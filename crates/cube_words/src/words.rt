@@ -22,6 +22,10 @@ pub enum Command {
     Check,
     /// Answer lines as asks of a cube.
     Ask,
+    /// Write the changes that hide a cell.
+    Witness,
+    /// Write the fact file of the cube with these changes.
+    Twin,
 }
 
 /// An option of a command.
@@ -35,6 +39,8 @@ pub enum Setting {
     Policy,
     /// The journal.
     Journal,
+    /// The cell of a measure.
+    Cell,
     /// The most asks that are answered.
     Requests,
 }
@@ -50,12 +56,14 @@ pub enum Usage {
     Missing(Setting),
 }
 
-const COMMANDS: [Command; 5] = [
+const COMMANDS: [Command; 7] = [
     Command::Help,
     Command::Version,
     Command::Sum,
     Command::Check,
     Command::Ask,
+    Command::Witness,
+    Command::Twin,
 ];
 
 const MAX_REQUESTS: u64 = 16_777_216;
@@ -72,6 +80,8 @@ impl Command {
             Command::Sum => b"sum",
             Command::Check => b"check",
             Command::Ask => b"ask",
+            Command::Witness => b"witness",
+            Command::Twin => b"twin",
         }
     }
 
@@ -88,6 +98,13 @@ impl Command {
                 Setting::Facts,
                 Setting::Policy,
                 Setting::Journal,
+            ],
+            Command::Witness | Command::Twin => &[
+                Setting::Dims,
+                Setting::Facts,
+                Setting::Policy,
+                Setting::Journal,
+                Setting::Cell,
             ],
         }
     }
@@ -107,6 +124,13 @@ impl Command {
                 Setting::Journal,
                 Setting::Requests,
             ],
+            Command::Witness | Command::Twin => &[
+                Setting::Dims,
+                Setting::Facts,
+                Setting::Policy,
+                Setting::Journal,
+                Setting::Cell,
+            ],
         }
     }
 }
@@ -121,6 +145,7 @@ impl Setting {
             Setting::Facts => b"--facts",
             Setting::Policy => b"--policy",
             Setting::Journal => b"--journal",
+            Setting::Cell => b"--cell",
             Setting::Requests => b"--requests",
         }
     }

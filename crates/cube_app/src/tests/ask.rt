@@ -38,7 +38,7 @@ pub fn asked_over<S: Store>(alloc: Global, given: &Given<'_>, store: &mut S) -> 
 
 #[test]
 fn each_line_is_answered_by_plain_sums(rt: HostRuntime) -> Result<(), Fail> {
-    let cases: [(&[u8], usize, &[u8]); 11] = [
+    let cases: [(&[u8], usize, &[u8]); 12] = [
         (b"", 0, b""),
         (b"cell pay", 1, b"200 8\npay\n150\n"),
         (
@@ -57,7 +57,12 @@ fn each_line_is_answered_by_plain_sums(rt: HostRuntime) -> Result<(), Fail> {
             b"200 8\nhours\n4\n",
         ),
         (b"cel pay\n", 1, b"400 17\nsyntax at byte 3\n"),
-        (b"shape\n", 1, b"400 17\nsyntax at byte 1\n"),
+        (b"shapes\n", 1, b"400 17\nsyntax at byte 1\n"),
+        (
+            b"witness cell pay region.city=Lyon, time.month=Feb\n",
+            1,
+            b"200 41\nregion.city,time.month,change\nLyon,Feb,1\n",
+        ),
         (b"\n", 1, b"400 17\nsyntax at byte 0\n"),
         (
             b"cell pay region.city=Rome\n",

@@ -1,0 +1,33 @@
+use Rattle.std.proofs.Common.{inr, subst}
+use Rattle.cube_engine.specs.Engines.{Engine}
+use Rattle.cube_opening.proofs.Accepted.{all_accepted}
+use Rattle.cube_app.specs.Cells.{Tells, cell_text}
+use Rattle.cube_app.proofs.cells.tell_cell.Goals as goal
+
+pub returns-clause-answers : goal.returns-clause-answers
+returns-clause-answers g c =
+    let core = c.in-Ok.opened.value.core in
+    let policy = c.in-Ok.opened.value.policy in
+    let engine = c.in-Ok-open_engine.started.value in
+    let text = λ (e : Engine). cell_text c.args.is_twin e.core e.policy e.history c.args.cell.now in
+    let written = g.O.Sink.written c.args.out.now in
+    let written' = g.O.Sink.written c.put_told.new.out in
+    let tells = c.put_told.ensures.tells (text engine) c.told_of-told.ensures.ok c.told_of-told.ensures.err in
+    inr (inr (
+      record {
+        core = core;
+        policy = policy;
+        history = engine.history;
+        files_make = c.in-Ok.ensures.ok.1;
+        recovered = c.in-Ok-open_engine.ensures.history;
+        tells = subst (λ (e : Engine). Tells (text e) written written' c.put_told.result) c.in-Ok-open_engine.ensures.engine tells;
+        passed = c.in-Ok-open_engine.ensures.crash;
+        exact = c.in-Ok-open_engine.ensures.exact;
+      },
+      c.in-Ok.ensures.steady,
+    ))
+
+pub returns-in-Err-clause-complete : goal.returns-in-Err-clause-complete
+returns-in-Err-clause-complete g c = λ all kept told files store out.
+    let before = g.F.Folder.faults c.args.files.now in
+    inr (all_accepted c.args.dims_name.now c.args.facts_name.now c.args.policy_name.now (g.F.Folder.files c.args.files.now) before (g.F.Folder.faults c.open_guarded.new.files) c.in-Err.report c.in-Err.ensures.err all files)
