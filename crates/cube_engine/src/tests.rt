@@ -157,15 +157,26 @@ fn room_left<S: Store, D: Desk<S>>(desk: &D, _store: &S) -> u64 {
     desk.left()
 }
 
-/// An ask for the answer to a query, of a group where one is named.
-fn ask_of(alloc: Global, group: Option<&[u8]>, query: &[u8]) -> Result<Ask, NoMemory> {
-    let text = Text::from_bytes(alloc, query)?;
-    match group {
-        None => Ok(Ask::Query(text)),
-        Some(name) => Ok(Ask::Group {
+/// What is asked by a text.
+#[derive(Clone, Copy)]
+enum Asking {
+    Query,
+    /// A query of a group.
+    Group(&'static [u8]),
+    Witness,
+    Shape,
+}
+
+fn ask_of(alloc: Global, kind: Asking, text: &[u8]) -> Result<Ask, NoMemory> {
+    let text = Text::from_bytes(alloc, text)?;
+    match kind {
+        Asking::Query => Ok(Ask::Query(text)),
+        Asking::Group(name) => Ok(Ask::Group {
             name: Text::from_bytes(alloc, name)?,
             ask: Inner::Query(text),
         }),
+        Asking::Witness => Ok(Ask::Witness(text)),
+        Asking::Shape => Ok(Ask::Shape),
     }
 }
 
@@ -191,75 +202,80 @@ fn check_made(
     }
 }
 
-/// One case: the group that is named, a query, the status of its reply, and the body.
-type Case = (Option<&'static [u8]>, &'static [u8], u16, &'static [u8]);
+/// One case: what is asked, its text, the status of its reply, and the body.
+type Case = (Asking, &'static [u8], u16, &'static [u8]);
 
 const CASES: &[Case] = &[
-    (None, b"cell pay", 200, b"pay\n150\n"),
+    (Asking::Query, b"cell pay", 200, b"pay\n150\n"),
     (
-        None,
+        Asking::Query,
         b"slice pay by region.city",
         403,
         b"source: the cuboid (region.city) does not cut the cell (region.city=Nice, time.month=Jan)\n",
     ),
     (
-        None,
+        Asking::Query,
         b"slice pay by time.month",
         200,
         b"time.month,pay\nJan,80\nFeb,70\n",
     ),
     (
-        None,
+        Asking::Query,
         b"slice pay by time.month",
         200,
         b"time.month,pay\nJan,80\nFeb,70\n",
     ),
     (
-        None,
+        Asking::Query,
         b"slice pay by time.quarter",
         200,
         b"time.quarter,pay\nQ1,150\n",
     ),
     (
-        None,
+        Asking::Query,
         b"slice pay by region.area",
         403,
         b"source: the cuboid (region.area, time.month) does not cut the cell (region.city=Lyon, time.month=Feb)\n",
     ),
     (
-        None,
+        Asking::Query,
         b"range hours region.city=Lyon..Nice, time.month=Jan..Jan",
         200,
         b"hours\n4\n",
     ),
     (
-        None,
+        Asking::Query,
         b"range hours region.city=Lyon..Nice, time.month=Jan..Feb",
         403,
         b"single: link 2, (region.city=Nice, time.month=Jan), fixes the cell (region.city=Lyon, time.month=Jan)\n",
     ),
-    (None, b"cel pay", 400, b"syntax at byte 3\n"),
-    (None, b"cell tax", 404, b"unknown measure at byte 5\n"),
+    (Asking::Query, b"cel pay", 400, b"syntax at byte 3\n"),
     (
-        None,
+        Asking::Query,
+        b"cell tax",
+        404,
+        b"unknown measure at byte 5\n",
+    ),
+    (
+        Asking::Query,
         b"cell pay region.city=Rome",
         404,
         b"unknown member at byte 21\n",
     ),
     (
-        None,
+        Asking::Query,
         b"range hours time.month=Feb..Jan",
         400,
         b"backwards at byte 23\n",
     ),
     (
-        None,
+        Asking::Query,
         b"cell pay time.month=Jan, time.month=Feb",
         400,
         b"dimension twice at byte 25\n",
     ),
-    (Some(b"red"), b"cell pay", 404, b"unknown group\n"),
-    (Some(b""), b"cell count", 200, b"count\n5\n"),
+    (Asking::Group(b"red"), b"cell pay", 404, b"unknown group\n"),
+    (Asking::Group(b""), b"cell count", 200, b"count\n5\n"),
 ];
 
 fn check_cases(
@@ -272,8 +288,8 @@ fn check_cases(
     requires { ⟦<Engine as Desk<NullStore>>⟧.fits engine.old store.old }
     ensures { ⟦<Engine as Desk<NullStore>>⟧.fits engine.new store.new }
 {
-    'cases: for (group, query, status, body) in cases {
-        let ask = ask_of(alloc, *group, query)?;
+    'cases: for (kind, text, status, body) in cases {
+        let ask = ask_of(alloc, *kind, text)?;
         check_made(rt, alloc, engine, store, &ask, (*status, *body))?;
     }
     Ok(())
@@ -305,40 +321,37 @@ fn a_missed_ask_is_taken_down(rt: HostRuntime) -> Result<(), Fail> {
     Ok(())
 }
 
-/// A question for the changes that hide pay in Lyon in February.
-fn lyon(alloc: Global) -> Result<Ask, NoMemory> {
-    let cell = Text::from_bytes(alloc, b"cell pay region.city=Lyon, time.month=Feb")?;
-    Ok(Ask::Witness(cell))
-}
+const LYON: &[u8] = b"cell pay region.city=Lyon, time.month=Feb";
 
-const ALONE: (u16, &[u8]) = (200, b"region.city,time.month,change\nLyon,Feb,1\n");
-
-const BALANCED: (u16, &[u8]) = (
-    200,
-    b"region.city,time.month,change\nLyon,Feb,1\nParis,Feb,-1\n",
-);
-
-const MONTHS: (u16, &[u8]) = (200, b"time.month,pay\nJan,80\nFeb,70\n");
-
-const SHAPE: (u16, &[u8]) = (
-    200,
-    b"{\"dimensions\":[{\"levels\":[\"city\",\"area\"],\"name\":\"region\",\"paths\":[[\"Lyon\",\"South\"],[\"Nice\",\"South\"],[\"Paris\",\"North\"]]},{\"levels\":[\"month\",\"quarter\"],\"name\":\"time\",\"paths\":[[\"Jan\",\"Q1\"],[\"Feb\",\"Q1\"]]}],\"facts\":5,\"measures\":[{\"decimals\":0,\"method\":\"lattice\",\"name\":\"pay\"},{\"decimals\":0,\"method\":\"parity\",\"name\":\"hours\"}],\"points\":5}",
-);
-
-#[test]
-fn changes_follow_the_history(rt: HostRuntime) -> Result<(), Fail> {
-    let alloc = rt.alloc();
-    let mut store = null_store(alloc)?;
-    let mut engine = engine_of(alloc, PAY, PAY_FACTS, PAY_POLICY, &mut store, 4)?;
-    let months = ask_of(alloc, None, b"slice pay by time.month")?;
-    check_made(&rt, alloc, &mut engine, &mut store, &lyon(alloc)?, ALONE)?;
-    check_made(&rt, alloc, &mut engine, &mut store, &months, MONTHS)?;
-    check_made(&rt, alloc, &mut engine, &mut store, &lyon(alloc)?, BALANCED)?;
-    check_made(&rt, alloc, &mut engine, &mut store, &Ask::Shape, SHAPE)
-}
+const CHANGES: &[Case] = &[
+    (
+        Asking::Witness,
+        LYON,
+        200,
+        b"region.city,time.month,change\nLyon,Feb,1\n",
+    ),
+    (
+        Asking::Query,
+        b"slice pay by time.month",
+        200,
+        b"time.month,pay\nJan,80\nFeb,70\n",
+    ),
+    (
+        Asking::Witness,
+        LYON,
+        200,
+        b"region.city,time.month,change\nLyon,Feb,1\nParis,Feb,-1\n",
+    ),
+    (
+        Asking::Shape,
+        b"",
+        200,
+        b"{\"dimensions\":[{\"levels\":[\"city\",\"area\"],\"name\":\"region\",\"paths\":[[\"Lyon\",\"South\"],[\"Nice\",\"South\"],[\"Paris\",\"North\"]]},{\"levels\":[\"month\",\"quarter\"],\"name\":\"time\",\"paths\":[[\"Jan\",\"Q1\"],[\"Feb\",\"Q1\"]]}],\"facts\":5,\"measures\":[{\"decimals\":0,\"method\":\"lattice\",\"name\":\"pay\"},{\"decimals\":0,\"method\":\"parity\",\"name\":\"hours\"}],\"points\":5}",
+    ),
+];
 
 const AREAS: &[Case] = &[(
-    None,
+    Asking::Query,
     b"slice pay by region.area",
     200,
     b"region.area,pay\nSouth,60\nNorth,90\n",
@@ -346,19 +359,19 @@ const AREAS: &[Case] = &[(
 
 const SOUTH: &[Case] = &[
     (
-        None,
+        Asking::Query,
         b"cell hours region.city=Paris, time.month=Jan",
         200,
         b"hours\n4\n",
     ),
     (
-        None,
+        Asking::Query,
         b"range hours region.city=Nice..Paris, time.month=Jan..Jan",
         403,
         b"pair: link 1, (region.city=Nice, time.month=Jan) and (region.city=Paris, time.month=Jan), fixes the cell (region.city=Nice, time.month=Jan)\n",
     ),
     (
-        None,
+        Asking::Query,
         b"cell hours region.area=South",
         403,
         b"single: link 2, (region.city=Nice, time.month=Jan), fixes the cell (region.city=Nice, time.month=Jan)\n",
@@ -366,10 +379,10 @@ const SOUTH: &[Case] = &[
 ];
 
 const TRIANGLE: &[Case] = &[
-    (None, b"range v col.c=c0..c1", 200, b"v\n15\n"),
-    (None, b"cell v row.r=r1", 200, b"v\n17\n"),
+    (Asking::Query, b"range v col.c=c0..c1", 200, b"v\n15\n"),
+    (Asking::Query, b"cell v row.r=r1", 200, b"v\n17\n"),
     (
-        None,
+        Asking::Query,
         b"range v col.c=c1..c2",
         403,
         b"pair: link 1, (row.r=r0, col.c=c1) and (row.r=r1, col.c=c2), fixes the cell (row.r=r0, col.c=c1)\n",
@@ -377,18 +390,38 @@ const TRIANGLE: &[Case] = &[
 ];
 
 const BOXES: &[Case] = &[
-    (None, b"range v col.c=c0..c0", 200, b"v\n5\n"),
-    (None, b"range v col.c=c1..c1", 200, b"v\n7\n"),
-    (None, b"range v col.c=c2..c2", 200, b"v\n9\n"),
-    (None, b"range v col.c=c0..c1", 200, b"v\n12\n"),
-    (None, b"range v col.c=c1..c2", 200, b"v\n16\n"),
-    (None, b"range v col.c=c0..c2", 200, b"v\n21\n"),
-    (None, b"range v row.r=r0..r0, col.c=c0..c1", 200, b"v\n3\n"),
-    (None, b"range v row.r=r0..r0, col.c=c1..c2", 200, b"v\n5\n"),
-    (None, b"range v row.r=r1..r1, col.c=c0..c1", 200, b"v\n9\n"),
-    (None, b"range v row.r=r1..r1, col.c=c1..c2", 200, b"v\n11\n"),
+    (Asking::Query, b"range v col.c=c0..c0", 200, b"v\n5\n"),
+    (Asking::Query, b"range v col.c=c1..c1", 200, b"v\n7\n"),
+    (Asking::Query, b"range v col.c=c2..c2", 200, b"v\n9\n"),
+    (Asking::Query, b"range v col.c=c0..c1", 200, b"v\n12\n"),
+    (Asking::Query, b"range v col.c=c1..c2", 200, b"v\n16\n"),
+    (Asking::Query, b"range v col.c=c0..c2", 200, b"v\n21\n"),
     (
-        None,
+        Asking::Query,
+        b"range v row.r=r0..r0, col.c=c0..c1",
+        200,
+        b"v\n3\n",
+    ),
+    (
+        Asking::Query,
+        b"range v row.r=r0..r0, col.c=c1..c2",
+        200,
+        b"v\n5\n",
+    ),
+    (
+        Asking::Query,
+        b"range v row.r=r1..r1, col.c=c0..c1",
+        200,
+        b"v\n9\n",
+    ),
+    (
+        Asking::Query,
+        b"range v row.r=r1..r1, col.c=c1..c2",
+        200,
+        b"v\n11\n",
+    ),
+    (
+        Asking::Query,
         b"cell v row.r=r0",
         403,
         b"single: link 2, (row.r=r0, col.c=c2), fixes the cell (row.r=r0, col.c=c0)\n",
@@ -408,6 +441,11 @@ fn check_history(
     let room = cases.len() as u64;
     let mut engine = engine_of(alloc, dims, facts, policy, &mut store, room)?;
     check_cases(rt, alloc, &mut engine, &mut store, cases)
+}
+
+#[test]
+fn changes_follow_the_history(rt: HostRuntime) -> Result<(), Fail> {
+    check_history(&rt, rt.alloc(), PAY, PAY_FACTS, PAY_POLICY, CHANGES)
 }
 
 #[test]

@@ -1,5 +1,5 @@
 // What a wire in memory keeps of its log, in room that was taken when it was made.
-ghost use Rattle.std.specs.Prelude.{◌≡◌, ◌<◌, ◌≤◌, ◌+◌, ◌-◌, ◌++◌, [], ◌∷◌, length, map, vec_len, vec_capacity, IfOk};
+ghost use Rattle.std.specs.Prelude.{◌≡◌, ◌<◌, ◌≤◌, ◌+◌, ◌-◌, ◌++◌, [], ◌∷◌, length, map, slice_get, vec_len, vec_capacity, Some, IfOk};
 ghost use Rattle.cube_io.specs.Scrolls.{entry_of};
 
 use cube_model::NoMemory;
@@ -98,6 +98,23 @@ impl Scroll {
         ensures { result ≡ self.now.bytes_left }
     {
         self.most_bytes - self.bytes.len()
+    }
+
+    /// How many entries there are.
+    pub fn len(&self) -> usize
+        ensures { result ≡ length self.now.log }
+    {
+        self.entries.len()
+    }
+
+    /// The entry at a place, counted from 0, and its bytes.
+    pub fn entry(&self, place: usize) -> (Note, &[u8])
+        requires { place < length self.now.log }
+        ensures { slice_get self.now.log place ≡ Some (entry_of result.0 result.1.now) }
+    {
+        let written = self.entries[place];
+        let end = written.start + written.len;
+        (written.note, &self.bytes[written.start..end])
     }
 
     /// Puts an entry at the end.

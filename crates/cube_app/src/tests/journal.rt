@@ -1,9 +1,11 @@
-// `ask` over a store in memory: what a log gains, what it gives back, and calls that fail.
+// `ask` over stores in memory and files: what a log gains, what it gives back, and calls that fail.
 use super::ask::{asked_over, lines};
 use super::{Got, LOG};
-use cube_io::{Failing, MemStore, Reach, Store};
+use cube_edge::FileStore;
+use cube_io::{Failing, MemStore, Reach, StopStore, Store};
 use cube_model::Text;
 use std::alloc::Global;
+use std::fs;
 use std::process::Abort;
 use std::test::Fail;
 
@@ -156,6 +158,29 @@ fn any_call_may_fail(rt: HostRuntime) -> Result<(), Fail> {
         check_failing(&rt, rt.alloc(), call, Reach::Nothing)?;
         check_failing(&rt, rt.alloc(), call, Reach::Part(3))?;
         check_failing(&rt, rt.alloc(), call, Reach::All)?;
+    }
+    Ok(())
+}
+
+// What the months get over files that stop behind so many calls, and what the areas get when they are opened again.
+fn stopped(rt: &HostRuntime, calls: u64) -> Result<(Got, Got), Fail> {
+    let alloc = rt.alloc();
+    let mut first = StopStore::new(FileStore::new(alloc, rt)?, calls);
+    let got = asked_over(alloc, &lines(MONTHS), &mut first)?;
+    let mut opened = FileStore::new(alloc, rt)?;
+    let later = asked_over(alloc, &lines(b"slice pay by region.area\n"), &mut opened)?;
+    fs::remove_file(rt, "log")?;
+    Ok((got, later))
+}
+
+#[test]
+fn files_that_stop_hold_what_was_answered(rt: HostRuntime) -> Result<(), Fail> {
+    for calls in 0..10u64 {
+        let (got, later) = stopped(&rt, calls)?;
+        let is_kept = later.written.as_slice() == AREAS_REFUSED;
+        assert_eq!(rt; later.status, 0);
+        assert!(rt; is_kept || later.written.as_slice() == AREAS_GIVEN);
+        assert!(rt; is_kept || got.written.as_slice() != MONTHS_KEPT);
     }
     Ok(())
 }

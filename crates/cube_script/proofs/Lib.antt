@@ -1,0 +1,5 @@
+pub mod Opening
+pub mod Playable
+pub mod Reading
+pub mod Ready
+pub mod Rendering

@@ -1,0 +1,343 @@
+-- One call more of a wire that plays a script: its log, and the room behind it.
+use Rattle.std.proofs.Common.{◌≡◌, ◌<◌, ◌≤◌, ℕ, zero, suc, ◌+◌, ◌-◌, ◌^◌, Bool, true, false, ◌&&◌, ◌||◌, List, [], ◌∷◌, ◌++◌, length, take, drop, Option, Some, None, Result, Err, inl, inr, ◌⊎◌, refl, sym, ◌∙◌, ap, subst, arith, add-one, append-nil, unwrap_or, if◌then◌else◌, sum_by, count_by}
+use Rattle.std.specs.Prelude.{slice_get, ◌↔◌}
+use Rattle.std.proofs.Math.Bool.{or-false}
+use Rattle.std.proofs.Math.Seq.{take-suc, drop-cons}
+use Rattle.std.proofs.lemmas.List.{take-append-drop, length-take-le}
+use Rattle.std.proofs.lemmas.List.Elements.{filter_map-append}
+use Rattle.std.proofs.lemmas.List.Folds.{list_any-append, list_all-append}
+use Rattle.std.proofs.lemmas.List.Sums.{sum_by_push, sum_by-cons}
+use Rattle.std.proofs.lemmas.Option.{slice_get_past, slice_get_within, get_or_from_slice_get}
+use Rattle.std.specs.List.{list_all}
+use Rattle.cube_model.specs.Cubes.{Each}
+use Rattle.cube_io.specs.Scrolls.{Roll, owed_by}
+use Rattle.cube_io.specs.Wires.{Arrival, LogEntry, IsOpen, IsSound}
+use Rattle.cube_io.specs.Wires.{Arrival as arrival}
+use Rattle.cube_io.specs.Wires.LogEntry.{Heard, Sent, Torn, Shut}
+use Rattle.cube_io.specs.declared.scroll.Note.TheVariants as note
+use Rattle.cube_io.proofs.Scrolled.{event_owes, sent_owes, torn_pays, shut_pays}
+use Rattle.cube_script.specs.Playing.{IsPlaying, started, event_in, events_in, is_torn, has_torn, is_sent, sent_size, is_settled}
+use Rattle.cube_script.specs.declared.play.ScriptFault.{ScriptFault}
+use Rattle.cube_script.specs.declared.play.ScriptFault.TheVariants.{Line, NoMemory}
+use Rattle.cube_script.specs.Plays.{Refuses}
+use Rattle.cube_script.specs.Rooms.{IsPlayable, entries_owed, entries_for, bytes_for, IsReady, IsListening}
+
+-- ---- one entry more
+
+events_heard : (log : List LogEntry) (e : Arrival) → events_in (log ++ Heard e ∷ []) ≡ events_in log ++ e ∷ []
+events_heard log e = filter_map-append event_in log (Heard e ∷ [])
+
+events_sent : (log : List LogEntry) (c : ℕ) (bytes : List ℕ) → events_in (log ++ Sent c bytes ∷ []) ≡ events_in log
+events_sent log c bytes = filter_map-append event_in log (Sent c bytes ∷ []) ∙ append-nil (events_in log)
+
+events_torn : (log : List LogEntry) (c : ℕ) (bytes : List ℕ) → events_in (log ++ Torn c bytes ∷ []) ≡ events_in log
+events_torn log c bytes = filter_map-append event_in log (Torn c bytes ∷ []) ∙ append-nil (events_in log)
+
+events_shut : (log : List LogEntry) (c : ℕ) → events_in (log ++ Shut c ∷ []) ≡ events_in log
+events_shut log c = filter_map-append event_in log (Shut c ∷ []) ∙ append-nil (events_in log)
+
+torn_more : (log : List LogEntry) (e : LogEntry) → is_torn e ≡ false → has_torn (log ++ e ∷ []) ≡ has_torn log
+torn_more log e well = list_any-append is_torn log (e ∷ []) ∙ ap (λ (b : Bool). has_torn log || (b || false)) well ∙ or-false (has_torn log)
+
+or_true : (b : Bool) → (b || true) ≡ true
+or_true true = refl
+or_true false = refl
+
+torn_now : (log : List LogEntry) (c : ℕ) (bytes : List ℕ) → has_torn (log ++ Torn c bytes ∷ []) ≡ true
+torn_now log c bytes = list_any-append is_torn log (Torn c bytes ∷ []) ∙ or_true (has_torn log)
+
+settled_more : (log : List LogEntry) (e : LogEntry) → is_settled e ≡ true → list_all is_settled log ≡ true → list_all is_settled (log ++ e ∷ []) ≡ true
+settled_more log e well all = list_all-append is_settled log (e ∷ []) ∙ ap (λ (b : Bool). b && (is_settled e && true)) all ∙ ap (λ (b : Bool). b && true) well
+
+sends_more : (log : List LogEntry) (e : LogEntry) → count_by is_sent (log ++ e ∷ []) ≡ count_by is_sent log + (if is_sent e then 1 else 0)
+sends_more log e = sum_by_push _ log e
+
+sizes_more : (log : List LogEntry) (e : LogEntry) → sum_by sent_size (log ++ e ∷ []) ≡ sum_by sent_size log + sent_size e
+sizes_more log e = sum_by_push sent_size log e
+
+-- ---- the event that is played
+
+pub take_next : {A : Type 0} (xs : List A) (place : ℕ) (x : A) → slice_get xs place ≡ Some x → take (place + 1) xs ≡ take place xs ++ x ∷ []
+take_next xs place x at =
+    rw (add-one place, take-suc xs place x (slice_get_within xs place x at), get_or_from_slice_get xs place x x at) refl
+
+drop_next : (script : List Arrival) (taken : ℕ) (e : Arrival) → slice_get script taken ≡ Some e → drop taken script ≡ e ∷ drop (taken + 1) script
+drop_next script taken e at =
+    rw (add-one taken, drop-cons script taken e (slice_get_within script taken e at), get_or_from_slice_get script taken e e at) refl
+
+sum_next : (f : Arrival → ℕ) (script : List Arrival) (taken : ℕ) (e : Arrival) → slice_get script taken ≡ Some e → sum_by f (drop taken script) ≡ f e + sum_by f (drop (taken + 1) script)
+sum_next f script taken e at = ap (sum_by f) (drop_next script taken e at) ∙ sum_by-cons f e (drop (taken + 1) script)
+
+-- what holds of each holds of the one at a place
+playable_at : (script : List Arrival) (taken : ℕ) (e : Arrival) → Each IsPlayable script → slice_get script taken ≡ Some e → IsPlayable e
+playable_at [] taken e each at = absurd (cc)
+playable_at (x ∷ xs) zero e each at = subst IsPlayable (ap (λ (o : Option Arrival). unwrap_or o x) at) each.0
+playable_at (x ∷ xs) (suc n) e each at = playable_at xs n e each.1 at
+
+arrival_owes : (e : Arrival) (log : List LogEntry) → owed_by (log ++ Heard e ∷ []) ≤ owed_by log + entries_owed e
+arrival_owes (arrival.Opened c) log = event_owes (note.Opened c) [] log refl
+arrival_owes (arrival.Came c bytes) log = event_owes (note.Came c) bytes log refl
+arrival_owes (arrival.Closed c) log = event_owes (note.Closed c) [] log refl
+arrival_owes arrival.End log = event_owes note.End [] log refl
+
+-- ---- the room behind a call
+
+pub next_room : (script : List Arrival) (taken : ℕ) (roll : Roll) (owed sl bl ms mb : ℕ) (over spilled : Bool) (f sf : ℕ) (e : Arrival)
+    → IsReady script taken roll owed sl bl ms mb over spilled f sf → slice_get script taken ≡ Some e
+    → (IsPlayable e) × (0 < roll.entries_left) × (bytes_for e ≤ roll.bytes_left) × (owed + entries_owed e < 2 ^ 64)
+next_room script taken roll owed sl bl ms mb over spilled f sf e r at =
+    let n = sum_next entries_for script taken e at in
+    let b = sum_next bytes_for script taken e at in
+    (playable_at script taken e r.playable at, omega (arith, n, r.entries), omega (arith, b, r.bytes), omega (arith, n, r.entries, r.small))
+
+pub ready_next : (script : List Arrival) (taken : ℕ) (roll : Roll) (owed sl bl ms mb : ℕ) (over spilled : Bool) (f sf : ℕ) (e : Arrival) (roll' : Roll)
+    → IsReady script taken roll owed sl bl ms mb over spilled f sf → slice_get script taken ≡ Some e
+    → roll'.log ≡ roll.log ++ Heard e ∷ [] → roll'.entries_left + 1 ≡ roll.entries_left → roll'.bytes_left + bytes_for e ≡ roll.bytes_left
+    → IsReady script (taken + 1) roll' (owed + entries_owed e) sl bl ms mb over spilled f sf
+ready_next script taken roll owed sl bl ms mb over spilled f sf e roll' r at log entries bytes =
+    let n = sum_next entries_for script taken e at in
+    let b = sum_next bytes_for script taken e at in
+    let within = slice_get_within script taken e at in
+    let same = torn_more roll.log (Heard e) refl in
+    let stays = ap has_torn log ∙ same in
+    let owes = arrival_owes e roll.log in
+    let count = sends_more roll.log (Heard e) in
+    let size = sizes_more roll.log (Heard e) in
+    record {
+      events = ap events_in log ∙ events_heard roll.log e ∙ ap (λ (l : List Arrival). l ++ e ∷ []) r.events ∙ sym (take_next script taken e at);
+      few = omega (arith, within);
+      ends = r.ends;
+      playable = r.playable;
+      enough = rw log (omega (arith, owes, r.enough));
+      entries = omega (arith, n, r.entries, entries);
+      small = omega (arith, r.small, entries);
+      bytes = omega (arith, b, r.bytes, bytes);
+      sends = rw (log, count) (omega (arith, r.sends));
+      sent = rw (log, size) (omega (arith, r.sent));
+      nothing = ap (list_all is_settled) log ∙ settled_more roll.log (Heard e) refl r.nothing;
+      torn = r.torn ∙ sym stays;
+      sound = λ none. r.sound (sym stays ∙ none);
+      broken = λ some. r.broken (sym stays ∙ some);
+      steady = λ none dry more. r.steady (sym stays ∙ none) dry within;
+    }
+
+pub ready_sent : (script : List Arrival) (taken : ℕ) (roll : Roll) (owed sl bl ms mb : ℕ) (over spilled : Bool) (f sf c : ℕ) (piece : List ℕ) (roll' : Roll)
+    → IsReady script taken roll owed sl bl ms mb over spilled f sf → 0 < sl → length piece ≤ bl
+    → roll'.log ≡ roll.log ++ Sent c piece ∷ [] → roll'.entries_left + 1 ≡ roll.entries_left → roll'.bytes_left + length piece ≡ roll.bytes_left
+    → IsReady script taken roll' owed (sl - 1) (bl - length piece) ms mb over spilled f sf
+ready_sent script taken roll owed sl bl ms mb over spilled f sf c piece roll' r some fits log entries bytes =
+    let stays = ap has_torn log ∙ torn_more roll.log (Sent c piece) refl in
+    let owes = sent_owes c piece roll.log in
+    let count = sends_more roll.log (Sent c piece) in
+    let size = sizes_more roll.log (Sent c piece) in
+    record {
+      events = ap events_in log ∙ events_sent roll.log c piece ∙ r.events;
+      few = r.few;
+      ends = r.ends;
+      playable = r.playable;
+      enough = rw log (omega (arith, owes, r.enough));
+      entries = omega (arith, r.entries, entries, some);
+      small = omega (arith, r.small, entries);
+      bytes = omega (arith, r.bytes, bytes, fits);
+      sends = rw (log, count) (omega (arith, r.sends, some));
+      sent = rw (log, size) (omega (arith, r.sent, fits));
+      nothing = ap (list_all is_settled) log ∙ settled_more roll.log (Sent c piece) refl r.nothing;
+      torn = r.torn ∙ sym stays;
+      sound = λ none. r.sound (sym stays ∙ none);
+      broken = λ broke. r.broken (sym stays ∙ broke);
+      steady = λ none dry more. r.steady (sym stays ∙ none) dry more;
+    }
+
+no_way : true ≡ false → ⊥
+no_way e = cc
+
+pub torn_room : (script : List Arrival) (taken : ℕ) (roll : Roll) (owed sl bl ms mb : ℕ) (over spilled : Bool) (f sf c : ℕ)
+    → IsReady script taken roll owed sl bl ms mb over spilled f sf → IsSound c roll.log → (0 < owed) × (0 < roll.entries_left)
+torn_room script taken roll owed sl bl ms mb over spilled f sf c r sound =
+    let pays = torn_pays c [] roll.log sound in
+    (omega (arith, pays, r.enough), omega (arith, pays, r.enough, r.entries))
+
+pub ready_torn : (script : List Arrival) (taken : ℕ) (roll : Roll) (owed sl bl ms mb : ℕ) (over spilled : Bool) (f sf c sf' : ℕ) (roll' : Roll)
+    → IsReady script taken roll owed sl bl ms mb over spilled f sf → IsSound c roll.log → 0 < sf'
+    → roll'.log ≡ roll.log ++ Torn c [] ∷ [] → roll'.entries_left + 1 ≡ roll.entries_left → roll'.bytes_left + 0 ≡ roll.bytes_left
+    → IsReady script taken roll' (owed - 1) sl bl ms mb true spilled f sf'
+ready_torn script taken roll owed sl bl ms mb over spilled f sf c sf' roll' r sound rose log entries bytes =
+    let now = ap has_torn log ∙ torn_now roll.log c [] in
+    let pays = torn_pays c [] roll.log sound in
+    let count = sends_more roll.log (Torn c []) in
+    let size = sizes_more roll.log (Torn c []) in
+    record {
+      events = ap events_in log ∙ events_torn roll.log c [] ∙ r.events;
+      few = r.few;
+      ends = r.ends;
+      playable = r.playable;
+      enough = rw log (omega (arith, pays, r.enough));
+      entries = omega (arith, r.entries, entries, pays, r.enough);
+      small = omega (arith, r.small, entries);
+      bytes = omega (arith, r.bytes, bytes);
+      sends = rw (log, count) (omega (arith, r.sends));
+      sent = rw (log, size) (omega (arith, r.sent));
+      nothing = ap (list_all is_settled) log ∙ settled_more roll.log (Torn c []) refl r.nothing;
+      torn = sym now;
+      sound = λ none. absurd (no_way (sym now ∙ none));
+      broken = λ broke. rose;
+      steady = λ none dry more. absurd (no_way (sym now ∙ none));
+    }
+
+pub shut_room : (script : List Arrival) (taken : ℕ) (roll : Roll) (owed sl bl ms mb : ℕ) (over spilled : Bool) (f sf c : ℕ)
+    → IsReady script taken roll owed sl bl ms mb over spilled f sf → IsOpen c roll.log → (0 < owed) × (0 < roll.entries_left)
+shut_room script taken roll owed sl bl ms mb over spilled f sf c r opens =
+    let pays = shut_pays c roll.log opens in
+    (omega (arith, pays, r.enough), omega (arith, pays, r.enough, r.entries))
+
+pub ready_shut : (script : List Arrival) (taken : ℕ) (roll : Roll) (owed sl bl ms mb : ℕ) (over spilled : Bool) (f sf c : ℕ) (roll' : Roll)
+    → IsReady script taken roll owed sl bl ms mb over spilled f sf → IsOpen c roll.log
+    → roll'.log ≡ roll.log ++ Shut c ∷ [] → roll'.entries_left + 1 ≡ roll.entries_left → roll'.bytes_left + 0 ≡ roll.bytes_left
+    → IsReady script taken roll' (owed - 1) sl bl ms mb over spilled f sf
+ready_shut script taken roll owed sl bl ms mb over spilled f sf c roll' r opens log entries bytes =
+    let stays = ap has_torn log ∙ torn_more roll.log (Shut c) refl in
+    let pays = shut_pays c roll.log opens in
+    let count = sends_more roll.log (Shut c) in
+    let size = sizes_more roll.log (Shut c) in
+    record {
+      events = ap events_in log ∙ events_shut roll.log c ∙ r.events;
+      few = r.few;
+      ends = r.ends;
+      playable = r.playable;
+      enough = rw log (omega (arith, pays, r.enough));
+      entries = omega (arith, r.entries, entries, pays, r.enough);
+      small = omega (arith, r.small, entries);
+      bytes = omega (arith, r.bytes, bytes);
+      sends = rw (log, count) (omega (arith, r.sends));
+      sent = rw (log, size) (omega (arith, r.sent));
+      nothing = ap (list_all is_settled) log ∙ settled_more roll.log (Shut c) refl r.nothing;
+      torn = r.torn ∙ sym stays;
+      sound = λ none. r.sound (sym stays ∙ none);
+      broken = λ broke. r.broken (sym stays ∙ broke);
+      steady = λ none dry more. r.steady (sym stays ∙ none) dry more;
+    }
+
+-- a `next` that fails behind a failed send, or behind the end
+pub ready_fails : (script : List Arrival) (taken : ℕ) (roll : Roll) (owed sl bl ms mb : ℕ) (over spilled : Bool) (f sf f' : ℕ)
+    → IsReady script taken roll owed sl bl ms mb over spilled f sf → (over ≡ false → taken < length script → ⊥)
+    → IsReady script taken roll owed sl bl ms mb over spilled f' sf
+ready_fails script taken roll owed sl bl ms mb over spilled f sf f' r never = record {
+  events = r.events;
+  few = r.few;
+  ends = r.ends;
+  playable = r.playable;
+  enough = r.enough;
+  entries = r.entries;
+  small = r.small;
+  bytes = r.bytes;
+  sends = r.sends;
+  sent = r.sent;
+  nothing = r.nothing;
+  torn = r.torn;
+  sound = r.sound;
+  broken = r.broken;
+  steady = λ none dry more. absurd (never (r.torn ∙ none) more);
+}
+
+-- an address that is refused
+pub ready_spills : (script : List Arrival) (taken : ℕ) (roll : Roll) (owed sl bl ms mb : ℕ) (over spilled : Bool) (f sf f' : ℕ)
+    → IsReady script taken roll owed sl bl ms mb over spilled f sf → IsReady script taken roll owed sl bl ms mb over true f' sf
+ready_spills script taken roll owed sl bl ms mb over spilled f sf f' r = record {
+  events = r.events;
+  few = r.few;
+  ends = r.ends;
+  playable = r.playable;
+  enough = r.enough;
+  entries = r.entries;
+  small = r.small;
+  bytes = r.bytes;
+  sends = r.sends;
+  sent = r.sent;
+  nothing = r.nothing;
+  torn = r.torn;
+  sound = r.sound;
+  broken = r.broken;
+  steady = λ none dry more. absurd (no_way dry);
+}
+
+-- ---- what is seen of it
+
+taken_is : (script : List Arrival) (taken : ℕ) (roll : Roll) (owed sl bl ms mb : ℕ) (over spilled : Bool) (f sf : ℕ)
+    → IsReady script taken roll owed sl bl ms mb over spilled f sf → length (events_in roll.log) ≡ taken
+taken_is script taken roll owed sl bl ms mb over spilled f sf r = ap length r.events ∙ length-take-le taken script r.few
+
+coming : (b : Bool) (script : List Arrival) (at : ℕ) (e : Arrival) → b ≡ false → slice_get script at ≡ Some e → (if b then None else slice_get script at) ≡ Some e
+coming true script at e b is = absurd (no_way b)
+coming false script at e b is = is
+
+none_coming : (b : Bool) (script : List Arrival) (at : ℕ) → (b ≡ false → length script ≤ at) → (if b then None else slice_get script at) ≡ None
+none_coming true script at past = refl
+none_coming false script at past = slice_get_past script at (past refl)
+
+pub next_some : (script : List Arrival) (taken : ℕ) (roll : Roll) (owed sl bl ms mb : ℕ) (over spilled : Bool) (f sf : ℕ) (e : Arrival)
+    → IsReady script taken roll owed sl bl ms mb over spilled f sf → over ≡ false → slice_get script taken ≡ Some e
+    → (if has_torn roll.log then None else slice_get script (length (events_in roll.log))) ≡ Some e
+next_some script taken roll owed sl bl ms mb over spilled f sf e r sound at =
+    coming (has_torn roll.log) script (length (events_in roll.log)) e (sym r.torn ∙ sound) (ap (slice_get script) (taken_is script taken roll owed sl bl ms mb over spilled f sf r) ∙ at)
+
+pub next_none : (script : List Arrival) (taken : ℕ) (roll : Roll) (owed sl bl ms mb : ℕ) (over spilled : Bool) (f sf : ℕ)
+    → IsReady script taken roll owed sl bl ms mb over spilled f sf → (over ≡ false → length script ≤ taken)
+    → (if has_torn roll.log then None else slice_get script (length (events_in roll.log))) ≡ None
+next_none script taken roll owed sl bl ms mb over spilled f sf r past =
+    let is = taken_is script taken roll owed sl bl ms mb over spilled f sf r in
+    none_coming (has_torn roll.log) script (length (events_in roll.log)) (λ none. rw is (past (r.torn ∙ none)))
+
+pub playing : (script : List Arrival) (taken : ℕ) (roll : Roll) (owed sl bl ms mb : ℕ) (over spilled : Bool) (f sf : ℕ) (heard : List (List ℕ))
+    → IsReady script taken roll owed sl bl ms mb over spilled f sf
+    → IsPlaying (record { script = script; log = roll.log; heard = heard; most_sends = ms; most_bytes = mb; spilled = spilled; faults = f; send_faults = sf })
+playing script taken roll owed sl bl ms mb over spilled f sf heard r =
+    let is = taken_is script taken roll owed sl bl ms mb over spilled f sf r in
+    record {
+      ends = r.ends;
+      nothing = r.nothing;
+      events = (drop taken script, sym (take-append-drop taken script) ∙ ap (λ (l : List Arrival). l ++ drop taken script) (sym r.events));
+      sends = omega (arith, r.sends);
+      sent = omega (arith, r.sent);
+      sound = r.sound;
+      broken = r.broken;
+      steady = λ none dry more. r.steady none dry (omega (arith, is, more));
+    }
+
+-- ---- the beginning
+
+pub ready_start : (script events : List Arrival) (roll : Roll) (sl bl : ℕ) → script ≡ events ++ arrival.End ∷ [] → Each IsPlayable script → roll.log ≡ [] → roll.entries_left ≡ sum_by entries_for script + sl → roll.bytes_left ≡ sum_by bytes_for script + bl → roll.entries_left < 2 ^ 64
+    → IsReady script 0 roll 0 sl bl sl bl false false 0 0
+ready_start script events roll sl bl is each none entries bytes small = record {
+  ends = (events, is);
+  nothing = ap (list_all is_settled) none;
+  events = ap events_in none;
+  few = omega arith;
+  playable = each;
+  enough = rw none (omega arith);
+  entries = omega (arith, entries);
+  small = small;
+  bytes = omega (arith, bytes);
+  sends = rw none (omega arith);
+  sent = rw none (omega arith);
+  torn = sym (ap has_torn none);
+  sound = λ _. refl;
+  broken = λ broke. absurd (no_way (sym broke ∙ ap has_torn none));
+  steady = λ _ _ _. refl;
+}
+
+pub listening_start : (roll : Roll) → roll.log ≡ [] → roll.entries_left ≡ 8 → roll.bytes_left ≡ 1024 → IsListening roll
+listening_start roll none entries bytes = record { few = rw none (omega (arith, entries)); short = rw none (omega (arith, bytes)) }
+
+pub overrun_is : (script : List Arrival) (taken : ℕ) (roll : Roll) (owed sl bl ms mb : ℕ) (over spilled : Bool) (f sf : ℕ)
+    → IsReady script taken roll owed sl bl ms mb over spilled f sf → over ≡ true ↔ (0 < sf)
+overrun_is script taken roll owed sl bl ms mb over spilled f sf r = by over r.torn r.sound r.broken
+  where
+    by : (b : Bool) → b ≡ has_torn roll.log → (has_torn roll.log ≡ false → sf ≡ 0) → (has_torn roll.log ≡ true → 0 < sf) → b ≡ true ↔ (0 < sf)
+    by true is sound broken = (λ _. broken (sym is), λ _. refl)
+    by false is sound broken = (λ h. absurd (no_way (sym h)), λ some. absurd (omega (arith, some, sound (sym is))))
+
+-- ---- the answer to a script
+
+pub refused : (fault : ScriptFault) (said : Result (List Arrival) ℕ) (sends bytes : ℕ) → Refuses fault said → (fault ≡ NoMemory) ⊎ (started said sends bytes ≡ Err fault)
+refused (Line n) said sends bytes h = inr (ap (λ (r : Result (List Arrival) ℕ). started r sends bytes) h)
+refused NoMemory said sends bytes h = inl refl

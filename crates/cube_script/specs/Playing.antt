@@ -1,0 +1,108 @@
+-- A wire that plays a script: what it plays, its log and its room, and what each call is answered.
+use Rattle.std.specs.Prelude.{◌≡◌, ◌<◌, ◌≤◌, ℕ, ◌+◌, Bool, true, false, ◌&&◌, ◌||◌, ◌==◌, nat_lt, nat_le, List, [], ◌∷◌, ◌++◌, length, if◌then◌else◌, sum_by, count_by, Option, Some, None, slice_get, Result, Ok, Err}
+use Rattle.std.specs.List.{filter_map, list_any, list_all}
+use Rattle.cube_io.specs.Wires.{Arrival, LogEntry}
+use Rattle.cube_io.specs.Wires.Arrival.{End}
+use Rattle.cube_io.specs.Wires.LogEntry.{Heard, Sent, Torn, Shut}
+use Rattle.cube_script.specs.declared.play.ScriptFault.{ScriptFault}
+use Rattle.cube_script.specs.declared.play.ScriptFault.TheVariants.{Line}
+
+-- the event that an entry notes
+abbrev pub event_in : LogEntry → Option Arrival
+event_in (Heard e) = Some e
+event_in (Sent c bytes) = None
+event_in (Torn c bytes) = None
+event_in (Shut c) = None
+
+-- the events that were taken
+abbrev pub events_in : List LogEntry → List Arrival
+events_in log = filter_map event_in log
+
+-- the entry notes a send that failed
+abbrev pub is_torn : LogEntry → Bool
+is_torn (Heard e) = false
+is_torn (Sent c bytes) = false
+is_torn (Torn c bytes) = true
+is_torn (Shut c) = false
+
+-- a send failed
+abbrev pub has_torn : List LogEntry → Bool
+has_torn log = list_any is_torn log
+
+-- the entry notes a send that went well
+abbrev pub is_sent : LogEntry → Bool
+is_sent (Heard e) = false
+is_sent (Sent c bytes) = true
+is_sent (Torn c bytes) = false
+is_sent (Shut c) = false
+
+-- how many bytes it has
+abbrev pub sent_size : LogEntry → ℕ
+sent_size (Heard e) = 0
+sent_size (Sent c bytes) = length bytes
+sent_size (Torn c bytes) = 0
+sent_size (Shut c) = 0
+
+-- no byte went out by a send that failed
+abbrev pub is_settled : LogEntry → Bool
+is_settled (Heard e) = true
+is_settled (Sent c bytes) = true
+is_settled (Torn c bytes) = length bytes == 0
+is_settled (Shut c) = true
+
+-- A wire that plays a script: all that it plays, its log, the addresses that were heard, the most sends and the most bytes of
+-- them, whether an address was refused, and how often calls failed.
+pub record Playing : Type 0 where
+  pub script : List Arrival
+  pub log : List LogEntry
+  pub heard : List (List ℕ)
+  pub most_sends : ℕ
+  pub most_bytes : ℕ
+  pub spilled : Bool
+  pub faults : ℕ
+  pub send_faults : ℕ
+
+-- as it begins: it plays the events, and then the end
+abbrev pub starting : List Arrival → ℕ → ℕ → Playing
+starting events sends bytes = record { script = events ++ End ∷ []; log = []; heard = []; most_sends = sends; most_bytes = bytes; spilled = false; faults = 0; send_faults = 0 }
+
+-- what is answered to the events of a script, or to its first line that is refused
+abbrev pub started : Result (List Arrival) ℕ → ℕ → ℕ → Result Playing ScriptFault
+started (Ok events) sends bytes = Ok (starting events sends bytes)
+started (Err n) sends bytes = Err (Line n)
+
+-- the event that comes next, if one does: none comes behind a send that failed
+abbrev pub next_of : Playing → Option Arrival
+next_of w = if has_torn w.log then None else slice_get w.script (length (events_in w.log))
+
+-- a send of these bytes would pass the room for so many sends, and for so many bytes of them all
+abbrev pub passes_room : ℕ → ℕ → List LogEntry → List ℕ → Bool
+passes_room sends bytes log piece = nat_le sends (count_by is_sent log) || nat_lt bytes (sum_by sent_size log + length piece)
+
+-- a send of these bytes fails: an earlier one did, or it would pass the room for sends
+abbrev pub is_refused : Playing → List ℕ → Bool
+is_refused w piece = has_torn w.log || passes_room w.most_sends w.most_bytes w.log piece
+
+-- the most addresses, and the most bytes of them
+abbrev pub max_addresses : ℕ
+max_addresses = 8
+
+abbrev pub max_address_bytes : ℕ
+max_address_bytes = 1024
+
+-- there is room for an address
+abbrev pub has_room_for : Playing → List ℕ → Bool
+has_room_for w address = nat_lt (length w.heard) max_addresses && nat_le (sum_by length w.heard + length address) max_address_bytes
+
+-- What holds of each such wire, whatever was called: its script ends with the end, and it has given the first events of it;
+-- no send passed the room, and nothing went out of one that failed; one failed where the count of failed sends is not 0; and while
+-- none failed no other call did, but for one with an address too many or behind the end.
+pub record IsPlaying (w : Playing) : Type 0 where
+  pub ends : (events : List Arrival) × (w.script ≡ events ++ End ∷ [])
+  pub events : (rest : List Arrival) × (w.script ≡ events_in w.log ++ rest)
+  pub sends : count_by is_sent w.log ≤ w.most_sends
+  pub sent : sum_by sent_size w.log ≤ w.most_bytes
+  pub nothing : list_all is_settled w.log ≡ true
+  pub sound : has_torn w.log ≡ false → w.send_faults ≡ 0
+  pub broken : has_torn w.log ≡ true → 0 < w.send_faults
+  pub steady : has_torn w.log ≡ false → w.spilled ≡ false → length (events_in w.log) < length w.script → w.faults ≡ 0

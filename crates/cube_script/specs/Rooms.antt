@@ -1,0 +1,68 @@
+-- The room that a wire needs which plays a script, and that it has it.
+use Rattle.std.specs.Prelude.{◌≡◌, ◌<◌, ◌≤◌, ⊤, ℕ, ◌+◌, ◌^◌, Bool, true, false, List, [], ◌∷◌, ◌++◌, length, take, drop, map, sum_by, count_by}
+use Rattle.std.specs.List.{list_all}
+use Rattle.cube_model.specs.Cubes.{Each}
+use Rattle.cube_io.specs.Scrolls.{Roll, owed_by}
+use Rattle.cube_io.specs.Wires.{Arrival, LogEntry}
+use Rattle.cube_io.specs.Wires.Arrival.{Opened, Came, Closed, End}
+use Rattle.cube_io.specs.Wires.LogEntry.{Heard, Sent, Torn, Shut}
+use Rattle.cube_script.specs.Playing.{events_in, has_torn, is_sent, sent_size, is_settled, max_addresses, max_address_bytes}
+
+-- a piece has a byte and fits the buffer
+abbrev pub IsPlayable : Arrival → Type 0
+IsPlayable (Opened c) = ⊤
+IsPlayable (Came c bytes) = (0 < length bytes) × (length bytes ≤ 65536)
+IsPlayable (Closed c) = ⊤
+IsPlayable End = ⊤
+
+-- how many entries may follow from an event: a close and a failed send for each connection that opens
+abbrev pub entries_owed : Arrival → ℕ
+entries_owed (Opened c) = 2
+entries_owed (Came c bytes) = 0
+entries_owed (Closed c) = 0
+entries_owed End = 0
+
+-- the entries of an event, with its own
+abbrev pub entries_for : Arrival → ℕ
+entries_for e = 1 + entries_owed e
+
+-- the bytes of an event
+abbrev pub bytes_for : Arrival → ℕ
+bytes_for (Opened c) = 0
+bytes_for (Came c bytes) = length bytes
+bytes_for (Closed c) = 0
+bytes_for End = 0
+
+-- What a wire keeps beside its log agrees with it, and there is room for all that may come: the events that are left, the sends
+-- that are left, and what is owed.
+pub record IsReady (script : List Arrival) (taken : ℕ) (roll : Roll) (owed sends_left bytes_left most_sends most_bytes : ℕ) (overrun spilled : Bool) (faults send_faults : ℕ) : Type 0 where
+  pub events : events_in roll.log ≡ take taken script
+  pub few : taken ≤ length script
+  pub ends : (events : List Arrival) × (script ≡ events ++ End ∷ [])
+  pub playable : Each IsPlayable script
+  pub enough : owed_by roll.log ≤ owed
+  pub entries : sum_by entries_for (drop taken script) + sends_left + owed ≤ roll.entries_left
+  pub small : roll.entries_left < 2 ^ 64
+  pub bytes : sum_by bytes_for (drop taken script) + bytes_left ≤ roll.bytes_left
+  pub sends : count_by is_sent roll.log + sends_left ≡ most_sends
+  pub sent : sum_by sent_size roll.log + bytes_left ≡ most_bytes
+  pub nothing : list_all is_settled roll.log ≡ true
+  pub torn : overrun ≡ has_torn roll.log
+  pub sound : has_torn roll.log ≡ false → send_faults ≡ 0
+  pub broken : has_torn roll.log ≡ true → 0 < send_faults
+  pub steady : has_torn roll.log ≡ false → spilled ≡ false → taken < length script → faults ≡ 0
+
+-- the address that an entry keeps, as bytes that came
+abbrev pub address_in : LogEntry → List ℕ
+address_in (Heard (Opened c)) = []
+address_in (Heard (Came c bytes)) = bytes
+address_in (Heard (Closed c)) = []
+address_in (Heard End) = []
+address_in (Sent c bytes) = []
+address_in (Torn c bytes) = []
+address_in (Shut c) = []
+
+-- the room for addresses
+pub record IsListening (roll : Roll) : Type 0 where
+  pub few : length (map address_in roll.log) + roll.entries_left ≡ max_addresses
+  pub short : sum_by length (map address_in roll.log) + roll.bytes_left ≡ max_address_bytes
