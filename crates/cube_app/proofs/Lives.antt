@@ -1,7 +1,5 @@
--- What a crash may leave of the log of a run, and when its journal is accepted.
-use Rattle.std.proofs.Common.{◌≡◌, ◌≤◌, ◌^◌, ℕ, Bool, IsTrue, List, [], length, inl, inr, sym, subst, arith, Ok, Err}
-use Rattle.std.specs.Prelude.{Result, IsOk, IfSome}
-use Rattle.std.proofs.lemmas.Bool.{false≢true}
+-- What a crash may leave of the log of a talk.
+use Rattle.std.proofs.Common.{◌≡◌, ℕ, Bool, IsTrue, List, [], inl, inr, sym, subst}
 use Rattle.std.specs.declared.option.Option.{Option}
 use Rattle.cube_model.specs.declared.entry.Entry.{Entry}
 use Rattle.cube_model.specs.declared.outcome.Outcome.{Outcome}
@@ -9,23 +7,18 @@ use Rattle.cube_model.specs.declared.policy.Policy.{Policy}
 use Rattle.cube_model.specs.Cores.{Core, world}
 use Rattle.cube_model.specs.Rooms.{Room, alone}
 use Rattle.cube_model.specs.TwoWorlds.{Extends}
-use Rattle.cube_io.specs.Causes.{Rose}
 use Rattle.cube_io.specs.States.{State, Log, Gained}
 use Rattle.cube_io.proofs.Trails.{gained_then, gained_map}
 use Rattle.cube_journal.specs.Keeping.{Journal, IsInRecovery}
 use Rattle.cube_engine.specs.Engines.{Engine, rooms_of}
 use Rattle.cube_engine.specs.Kept.{history_of, IsExact, IsWithin}
-use Rattle.cube_engine.specs.Opening.{IsStartFault}
 use Rattle.cube_engine.specs.Steps.{manner}
 use Rattle.cube_engine.specs.Worlds.{first_history}
-use Rattle.cube_engine.specs.declared.fault.EngineFault.{EngineFault}
-use Rattle.cube_engine.specs.declared.fault.EngineFault.TheVariants.{Failed, TooLong, Damaged, OtherCube, Inadmissible, NoMemory}
 use Rattle.cube_talk.specs.Asks.{rooms_behind, Talked}
 use Rattle.cube_talk.specs.declared.talk.Ending.{Ending}
 use Rattle.cube_talk.specs.Crashes.{IsOnTheWay, IsPassed, Survives}
-use Rattle.cube_opening.specs.Opening.{MakesAll}
-use Rattle.cube_app.specs.Starting.{journal_status, Unstarted, HasJournal, IsBetween, Survived}
-use Rattle.cube_opening.specs.declared.report.Report.{Report}
+use Rattle.cube_starting.specs.Starting.{IsBetween, Survived}
+use Rattle.cube_starting.proofs.Started.{exact_of, within_of, begun}
 use Rattle.cube_app.proofs.Worlds.{behind_grows, behind_more}
 
 -- ---- the log while the lines are answered
@@ -66,23 +59,12 @@ survived core policy h ls os rooms' exact exact' within within' told told' names
 
 -- ---- what was asked of an engine
 
--- what its desk says of a log
-abbrev pub exact_of : Engine → List Room → ℕ → State → Type 0
-exact_of e rooms log s = (log ≡ e.journal.log) × IsExact e.core e.policy (first_history rooms) s
-
-abbrev pub within_of : Engine → List Room → ℕ → State → Type 0
-within_of e rooms log s = (log ≡ e.journal.log) × IsWithin e.core e.policy (first_history rooms) s
-
 -- what was said to the lines that an engine was asked, and what a crash left meanwhile
 abbrev pub Served : Engine → Engine → List Outcome → Ending → ℕ → Option (List ℕ) → Option (List ℕ) → Option (List ℕ) → Option (List ℕ) → Bool → Bool → List (List ℕ) → List (List ℕ) → (ℕ → Log) → (ℕ → Log) → Type 0
 Served e last os ending bytes left left' written written' told told' names names' logs logs' =
     (t : Talked (manner e.core.dims) (rooms_of e) e.left ending os bytes left left' written written')
     × (rooms_of last ≡ rooms_behind (manner e.core.dims) (rooms_of e) t.first os)
     × Survives (manner e.core.dims) (rooms_of e) (rooms_of last) os (exact_of e) (exact_of last) (within_of e) (within_of last) told told' names names' logs logs' t.first
-
--- an engine that was asked nothing
-abbrev pub begun : Core → Policy → List Entry → Journal → ℕ → Engine
-begun core policy h j stated = record { core = core; policy = policy; history = h; journal = j; outcomes = []; left = stated }
 
 pub kept_log : (core : Core) (policy : Policy) (h : List Entry) (j : Journal) (stated : ℕ) (last : Engine) (os : List Outcome) (ending : Ending) (bytes : ℕ) (left left' written written' : Option (List ℕ)) (told told' : Bool) (names names' : List (List ℕ)) (logs logs' : ℕ → Log) (old : Log)
     → j.log ≡ 0 → IsTrue told → IsExact core policy h (logs 0).state → Gained (IsInRecovery (history_of core policy) old.state) old (logs 0)
@@ -92,24 +74,3 @@ kept_log core policy h j stated last os ending bytes left left' written written'
     let e = begun core policy h j stated in
     survived core policy h (v.0).first os (rooms_of last) (exact_of e) (exact_of last) (within_of e) (within_of last) told told' names names' logs logs' old
     (λ rooms s x. x.1) (λ rooms s x. x.1) (sym zeroth, exact) (sym zeroth, λ b image. inl (exact b image)) tells opened v.1 v.2
-
--- ---- where the journal is accepted
-
-not_err : (said : Result (List Entry) EngineFault) (fault : EngineFault) → IsOk said → said ≡ Err fault → ⊥
-not_err (Ok h) fault ok e = cc
-not_err (Err other) fault ok e = false≢true ok
-
-not_refused : (said : Result (List Entry) EngineFault) (log : List ℕ) (fault : EngineFault) → journal_status fault ≡ 4 → length log ≤ 2 ^ 28 → IsOk said → IsStartFault said log fault → ⊥
-not_refused said log Failed four short ok by = cc
-not_refused said log TooLong four short ok by = omega (arith, short, by)
-not_refused said log (Damaged line) four short ok by = not_err said (Damaged line) ok by.1
-not_refused said log (OtherCube kept now) four short ok by = not_err said (OtherCube kept now) ok by.1
-not_refused said log (Inadmissible line) four short ok by = not_err said (Inadmissible line) ok by.1
-not_refused said log NoMemory four short ok by = cc
-
-pub started : (core : Core) (policy : Policy) (d f p : List ℕ) (files : Option (List (List ℕ × List ℕ))) (told : Bool) (log : List ℕ) (before now : ℕ) (r : Report) → IfSome files (MakesAll d f p core policy) → HasJournal d f p files told log → ¬ Rose before now
-    → Unstarted core policy told log before now r → r.status ≡ 7
-started core policy d f p files told log before now r make has calm (inl e) = e.0.0
-started core policy d f p files told log before now r make has calm (inr (inl e)) = e.0.0
-started core policy d f p files told log before now r make has calm (inr (inr (inl e))) = absurd (calm e.1)
-started core policy d f p files told log before now r make has calm (inr (inr (inr (fault, refused, same)))) = absurd (not_refused (history_of core policy log) log fault refused.0 has.1 (has.2 core policy make) (refused.2 has.0))

@@ -29,7 +29,7 @@ use Rattle.cube_talk.specs.AskLaws.{by_test, said_long, said_one, rooms_long, ro
 use Rattle.cube_talk.specs.Asks.{is_too_long, too_large, ask_of, said, rooms_behind, up_to_asks, talk, Says, Talked}
 use Rattle.cube_talk.specs.Lines.{ended_lines}
 use Rattle.cube_talk.specs.Replies.{reply_text}
-use Rattle.cube_app.specs.Worlds.{history_behind, twin_behind, Hides}
+use Rattle.cube_app.specs.Worlds.{history_behind, twin_by, Hides}
 use Rattle.cube_talk.specs.declared.talk.Ending.{Ending}
 use Rattle.cube_talk.specs.declared.talk.Ending.TheVariants.{Ended, InputFailed, OutputFailed, NoMemory, Spent}
 
@@ -119,31 +119,34 @@ said_open s w h last (line ∷ rest) (o ∷ os) m t ok adm ext within = by_test 
     ∙ ap (λ (text : List ℕ). reply_text (reply_in s (alone w h) (ask_of line) o) ++ text) more
     ∙ sym (said_one (manner s) (alone w h) line rest o os short))
 
-talk_open : (s : Dims) (w : World) (h : List Entry) (ls : List (List ℕ)) (os : List Outcome) (stated m : ℕ) (t : Cell) → IsWorld w → IsAdmissible w.shown h → IsIn t (protected w.shown m) → talk (manner s) (alone (twin_behind s w h stated ls os m t) h) ls os stated ≡ talk (manner s) (alone w h) ls os stated
-talk_open s w h ls os stated m t ok adm within = said_open s w h (history_behind s w h stated ls os) (up_to_asks stated ls) os m t ok (behind_stays s w h (up_to_asks stated ls) os adm) (extends_refl (history_behind s w h stated ls os)) within
+talk_open : (s : Dims) (w : World) (h last : List Entry) (ls : List (List ℕ)) (os : List Outcome) (stated m : ℕ) (t : Cell) → IsWorld w → IsAdmissible w.shown last → Extends (history_behind s w h stated ls os) last → IsIn t (protected w.shown m)
+    → talk (manner s) (alone (twin_by w last m t) h) ls os stated ≡ talk (manner s) (alone w h) ls os stated
+talk_open s w h last ls os stated m t ok adm ext within = said_open s w h last (up_to_asks stated ls) os m t ok adm ext within
 
 -- ---- what was written of it
 
--- some lines, with the changes behind which the same was written
-record IsSaid (s : Dims) (w : World) (h : List Entry) (ending : Ending) (stated : ℕ) (os : List Outcome) (text : List ℕ) (old new : Option (List ℕ)) (m : ℕ) (t : Cell) : Type 0 where
-  ls : List (List ℕ)
-  says : Says ending (manner s) (alone (twin_behind s w h stated ls os m t) h) stated os text old new
+-- the lines whose talk was written, or begun
+abbrev talked_lines : Ending → (s : Dims) (w : World) (h : List Entry) (stated : ℕ) (os : List Outcome) (text : List ℕ) (old new : Option (List ℕ)) → Type 0
+talked_lines ending s w h stated os text old new = (ls : List (List ℕ)) × ((last : List Entry) (m : ℕ) (t : Cell) → IsAdmissible w.shown last → Extends (history_behind s w h stated ls os) last → IsIn t (protected w.shown m) → Says ending (manner s) (alone (twin_by w last m t) h) stated os text old new)
 
-says_open : (s : Dims) (w : World) (h : List Entry) (ending : Ending) (stated : ℕ) (os : List Outcome) (text : List ℕ) (old new : Option (List ℕ)) (m : ℕ) (t : Cell) → IsWorld w → IsAdmissible w.shown h → IsIn t (protected w.shown m) → Says ending (manner s) (alone w h) stated os text old new → IsSaid s w h ending stated os text old new m t
-says_open s w h Ended stated os text old new m t ok adm within says = record { ls = lines text; says = (says.0, says.1, says.2, subst (Appends old new) (sym (talk_open s w h (lines text) os stated m t ok adm within)) says.3) }
-says_open s w h InputFailed stated os text old new m t ok adm within says = record { ls = ended_lines text; says = (says.0, says.1, says.2, subst (Appends old new) (sym (talk_open s w h (ended_lines text) os stated m t ok adm within)) says.3) }
-says_open s w h OutputFailed stated os text old new m t ok adm within says = record { ls = lines text; says = subst (AppendsPrefix old new) (sym (talk_open s w h (lines text) os stated m t ok adm within)) says }
-says_open s w h NoMemory stated os text old new m t ok adm within says = absurd says
-says_open s w h Spent stated os text old new m t ok adm within (inl all) = record { ls = lines text; says = inl (all.0, all.1, subst (Appends old new) (sym (talk_open s w h (lines text) os stated m t ok adm within)) all.2) }
-says_open s w h Spent stated os text old new m t ok adm within (inr full) = record { ls = ended_lines text; says = inr (full.0, full.1, full.2, subst (Appends old new) (sym (talk_open s w h (ended_lines text) os stated m t ok adm within)) full.3) }
+says_open : (s : Dims) (w : World) (h : List Entry) (ending : Ending) (stated : ℕ) (os : List Outcome) (text : List ℕ) (old new : Option (List ℕ)) → IsWorld w → Says ending (manner s) (alone w h) stated os text old new → talked_lines ending s w h stated os text old new
+says_open s w h Ended stated os text old new ok says = (lines text, λ last m t adm ext within. (says.0, says.1, says.2, subst (Appends old new) (sym (talk_open s w h last (lines text) os stated m t ok adm ext within)) says.3))
+says_open s w h InputFailed stated os text old new ok says = (ended_lines text, λ last m t adm ext within. (says.0, says.1, says.2, subst (Appends old new) (sym (talk_open s w h last (ended_lines text) os stated m t ok adm ext within)) says.3))
+says_open s w h OutputFailed stated os text old new ok says = (lines text, λ last m t adm ext within. subst (AppendsPrefix old new) (sym (talk_open s w h last (lines text) os stated m t ok adm ext within)) says)
+says_open s w h NoMemory stated os text old new ok says = absurd says
+says_open s w h Spent stated os text old new ok (inl all) = (lines text, λ last m t adm ext within. inl (all.0, all.1, subst (Appends old new) (sym (talk_open s w h last (lines text) os stated m t ok adm ext within)) all.2))
+says_open s w h Spent stated os text old new ok (inr full) = (ended_lines text, λ last m t adm ext within. inr (full.0, full.1, full.2, subst (Appends old new) (sym (talk_open s w h last (ended_lines text) os stated m t ok adm ext within)) full.3))
 
 pub hidden : (core : Core) (policy : Policy) (h : List Entry) (stated : ℕ) (ending : Ending) (os : List Outcome) (bytes : ℕ) (left left' written written' : Option (List ℕ)) → IsCore core → IsPolicy core.dims policy → IsAdmissible (shown core policy) h
     → Talked (manner core.dims) (alone (world core policy) h) stated ending os bytes left left' written written' → Hides core policy h stated ending os bytes left left' written written'
-hidden core policy h stated ending os bytes left left' written written' is_core is_policy adm talked m t within =
+hidden core policy h stated ending os bytes left left' written written' is_core is_policy adm talked =
     let ok : IsWorld (world core policy) = cores_are_worlds core policy is_core is_policy.methods in
-    let said = says_open core.dims (world core policy) h ending stated os talked.text written written' m t ok adm within talked.says in
+    let said = says_open core.dims (world core policy) h ending stated os talked.text written written' ok talked.says in
     record {
-      lines = said.ls;
-      talked = record { text = talked.text; taken = talked.taken; counted = talked.counted; first = talked.first; more = talked.more; split = talked.split; matched = talked.matched; says = said.says };
-      other_sum = other_sum (world core policy) (history_behind core.dims (world core policy) h stated said.ls os) m t ok (behind_stays core.dims (world core policy) h (up_to_asks stated said.ls) os adm) within;
+      lines = said.0;
+      admissible = behind_stays core.dims (world core policy) h (up_to_asks stated said.0) os adm;
+      hides = λ last good ext m t within. record {
+        talked = record { text = talked.text; taken = talked.taken; counted = talked.counted; first = talked.first; more = talked.more; split = talked.split; matched = talked.matched; says = said.1 last m t good ext within };
+        other_sum = other_sum (world core policy) last m t ok good within;
+      };
     }

@@ -14,7 +14,7 @@ use Rattle.cube_io.specs.Causes.{Rose}
 use Rattle.cube_opening.specs.Opening.{MakesAll, EndsUnopened, AsksAll, HasAll}
 use Rattle.cube_opening.specs.Reports.{IsReport, NoRoom, Prints}
 use Rattle.cube_opening.specs.declared.report.Report.{Report}
-use Rattle.cube_app.specs.Starting.{EndsUnstarted, AsksStore, HasJournal}
+use Rattle.cube_starting.specs.Starting.{EndsUnstarted, AsksStore, HasJournal}
 
 -- the fact file of the twin, or the changes in words; or the status and the line that say why there is none
 abbrev pub cell_text : Bool → Core → Policy → List Entry → List ℕ → Result (List ℕ) (ℕ × List ℕ)

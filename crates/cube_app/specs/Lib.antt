@@ -1,5 +1,6 @@
-pub mod Starting
 pub mod Cells
+pub mod Serves
+pub mod Making
 pub mod Summary
 pub mod Worlds
 pub mod Run

@@ -17,7 +17,7 @@ use Rattle.cube_engine.specs.Worlds.{first_history}
 use Rattle.cube_talk.specs.Asks as asks
 use Rattle.cube_talk.specs.Asks.{NoneFailed}
 use Rattle.cube_opening.specs.Reports.{IsReport, Prints}
-use Rattle.cube_app.specs.Starting.{Survived}
+use Rattle.cube_starting.specs.Starting.{Survived}
 use Rattle.cube_app.specs.Summary.{check_text}
 use Rattle.cube_talk.specs.Sums.{Talked}
 use Rattle.cube_words.specs.Words.{option_word, value_of}
@@ -37,7 +37,7 @@ usage_text words (Wrong number) = codes "usage: " ++ slice_index_or words number
 usage_text words (Missing option) = codes "usage: missing " ++ option_word option ++ codes "\n"
 
 abbrev pub help_text : List ℕ
-help_text = codes "cube sum --facts FILE\n    answers each line of the input by a sum over the file\ncube check --dims FILE --facts FILE --policy FILE\n    says what the files hold\ncube ask --dims FILE --facts FILE --policy FILE --journal FILE [--requests N]\n    answers each line of the input as a query, or as `shape` or `witness CELL`\ncube witness --dims FILE --facts FILE --policy FILE --journal FILE --cell CELL\n    prints the changes that hide a cell\ncube twin --dims FILE --facts FILE --policy FILE --journal FILE --cell CELL\n    prints the fact file of the cube with these changes\ncube --help\n    prints this text\ncube --version\n    prints the version\n"
+help_text = codes "cube sum --facts FILE\n    answers each line of the input by a sum over the file\ncube check --dims FILE --facts FILE --policy FILE\n    says what the files hold\ncube ask --dims FILE --facts FILE --policy FILE --journal FILE [--requests N]\n    answers each line of the input as a query, or as `shape` or `witness CELL`\ncube witness --dims FILE --facts FILE --policy FILE --journal FILE --cell CELL\n    prints the changes that hide a cell\ncube twin --dims FILE --facts FILE --policy FILE --journal FILE --cell CELL\n    prints the fact file of the cube with these changes\ncube serve --dims FILE --facts FILE --policy FILE --journal FILE --address ADDRESS [--requests N]\n    answers asks over HTTP\ncube replay --dims FILE --facts FILE --policy FILE --journal FILE --script FILE [--requests N]\n    plays a script of connections and writes what was sent\ncube demo --number N --size S\n    makes a cube of 20,000 S facts and says how 200 S queries on it are judged\ncube --help\n    prints this text\ncube --version\n    prints the version\n"
 
 abbrev pub version_text : List ℕ
 version_text = codes "cube 0.1.0\n"
@@ -58,6 +58,12 @@ journal_name words = unwrap_or (value_of setting.Journal words) []
 
 abbrev pub cell_name : List (List ℕ) → List ℕ
 cell_name words = unwrap_or (value_of setting.Cell words) []
+
+abbrev pub address_name : List (List ℕ) → List ℕ
+address_name words = unwrap_or (value_of setting.Address words) []
+
+abbrev pub script_name : List (List ℕ) → List ℕ
+script_name words = unwrap_or (value_of setting.Script words) []
 
 abbrev pub status_of : Ending → ℕ
 status_of Ended = 0

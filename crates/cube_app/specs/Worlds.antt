@@ -11,6 +11,8 @@ use Rattle.cube_model.specs.Dims.{Dims}
 use Rattle.cube_model.specs.Protection.{protected}
 use Rattle.cube_model.specs.Rooms.{alone}
 use Rattle.cube_model.specs.Twins.{changes, twin, sum_of}
+use Rattle.cube_model.specs.TwoWorlds.{Extends}
+use Rattle.cube_model.specs.Verdicts.{IsAdmissible}
 use Rattle.cube_engine.specs.Steps.{manner}
 use Rattle.cube_engine.specs.Worlds.{first_history}
 use Rattle.cube_talk.specs.Asks.{rooms_behind, up_to_asks, Talked}
@@ -20,17 +22,19 @@ use Rattle.cube_talk.specs.declared.talk.Ending.{Ending}
 abbrev pub history_behind : Dims → World → List Entry → ℕ → List (List ℕ) → List Outcome → List Entry
 history_behind s w h stated ls os = first_history (rooms_behind (manner s) (alone w h) (up_to_asks stated ls) os)
 
--- the world with the changes for a cell by the history behind them
-abbrev pub twin_behind : Dims → World → List Entry → ℕ → List (List ℕ) → List Outcome → ℕ → Cell → World
-twin_behind s w h stated ls os m t = twin w m (changes w.shown (history_behind s w h stated ls os) m t)
+-- the world with the changes for a cell by a history
+abbrev pub twin_by : World → List Entry → ℕ → Cell → World
+twin_by w last m t = twin w m (changes w.shown last m t)
 
 -- Over the other world the same would have been written, while the sum of the cell is greater by one there.
-pub record IsHidden (core : Core) (policy : Policy) (history : List Entry) (stated : ℕ) (ending : Ending) (os : List Outcome) (bytes : ℕ) (left left' written written' : Option (List ℕ)) (m : ℕ) (t : Cell) : Type 0 where
-  pub lines : List (List ℕ)
-  pub talked : Talked (manner core.dims) (alone (twin_behind core.dims (world core policy) history stated lines os m t) history) stated ending os bytes left left' written written'
-  pub other_sum : sum_of (twin_behind core.dims (world core policy) history stated lines os m t) m t ≡ sum_of (world core policy) m t +ℤ pos 1
+pub record IsHidden (core : Core) (policy : Policy) (history last : List Entry) (stated : ℕ) (ending : Ending) (os : List Outcome) (bytes : ℕ) (left left' written written' : Option (List ℕ)) (m : ℕ) (t : Cell) : Type 0 where
+  pub talked : Talked (manner core.dims) (alone (twin_by (world core policy) last m t) history) stated ending os bytes left left' written written'
+  pub other_sum : sum_of (twin_by (world core policy) last m t) m t ≡ sum_of (world core policy) m t +ℤ pos 1
 
--- The two worlds: so it is for whatever protected cell of whatever measure.
-abbrev pub Hides : Core → Policy → List Entry → ℕ → Ending → List Outcome → ℕ → Option (List ℕ) → Option (List ℕ) → Option (List ℕ) → Option (List ℕ) → Type 0
-Hides core policy history stated ending os bytes left left' written written' =
-    (m : ℕ) (t : Cell) → IsIn t (protected (shown core policy) m) → IsHidden core policy history stated ending os bytes left left' written written' m t
+-- The two worlds: so it is for whatever protected cell of whatever measure, with the changes by the history behind the lines that were
+-- answered, and by whatever admissible history that goes on from it, in this run or a later one.
+pub record Hides (core : Core) (policy : Policy) (history : List Entry) (stated : ℕ) (ending : Ending) (os : List Outcome) (bytes : ℕ) (left left' written written' : Option (List ℕ)) : Type 0 where
+  pub lines : List (List ℕ)
+  pub admissible : IsAdmissible (shown core policy) (history_behind core.dims (world core policy) history stated lines os)
+  pub hides : (last : List Entry) → IsAdmissible (shown core policy) last → Extends (history_behind core.dims (world core policy) history stated lines os) last
+      → (m : ℕ) (t : Cell) → IsIn t (protected (shown core policy) m) → IsHidden core policy history last stated ending os bytes left left' written written' m t

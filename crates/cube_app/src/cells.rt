@@ -8,14 +8,14 @@ ghost use Rattle.cube_opening.specs.Opening.{EndsUnopened, AsksAll, HasAll};
 ghost use Rattle.cube_opening.specs.Reports.{IsReport, NoRoom};
 ghost use Rattle.cube_app.specs.Cells.{CellRun, Tells, Told, HasCell, cell_text};
 ghost use Rattle.cube_app.specs.Run.{dims_name, facts_name, policy_name, journal_name, cell_name};
-ghost use Rattle.cube_app.specs.Starting.{EndsUnstarted, AsksStore, HasJournal};
+ghost use Rattle.cube_starting.specs.Starting.{EndsUnstarted, AsksStore, HasJournal};
 
 use crate::run::print;
-use crate::starting::open_engine;
 use cube_engine::{Engine, NoChanges};
 use cube_io::{Folder, Sink, Store};
 use cube_model::{NoMemory, Text};
 use cube_opening::{Guarded, Report, Room, no_room, open_guarded, with_text};
+use cube_starting::open_engine;
 use cube_words::{Command, Setting, needed_value};
 use std::alloc::Global;
 

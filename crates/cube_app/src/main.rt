@@ -2,14 +2,14 @@
 #![tactic(auto)]
 
 mod cells;
+mod making;
 mod run;
-mod starting;
+mod serving;
 mod summary;
 #[cfg(test)]
 mod tests;
 
-use cube_edge::{FileFolder, FileStore, ReaderSource, WriterSink};
-use cube_io::NullWire;
+use cube_edge::{FileFolder, FileStore, ReaderSource, TcpWire, WriterSink};
 use cube_model::{Items, Text, Texts};
 use run::run;
 use std::env::{Env, FillError};
@@ -47,7 +47,7 @@ fn main(rt: HostRuntime) -> ExitCode {
     };
     let mut input = ReaderSource::new(rt.reader());
     let mut out = WriterSink::new(io::writer(&rt));
-    let mut wire = NullWire;
+    let mut wire = TcpWire::new(&rt, rt.stderr());
     let report = run(
         rt.alloc(),
         words.as_slice(),

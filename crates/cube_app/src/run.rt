@@ -1,27 +1,33 @@
 // The top call: all that the program does.
 ghost use Rattle.std.specs.Prelude.{◌≡◌, ◌≢◌, ◌⊎◌, ◌≤◌, ◌+◌, ◌++◌, [], true, false, length, decimal, codes, Some, IfErr, IsErr, IfOk, IsTrue, Ok};
 ghost use Rattle.cube_io.specs.Causes.{Rose};
-ghost use Rattle.cube_words.specs.Words.{orders_of as orders_in, stated as stated_in};
+ghost use Rattle.cube_words.specs.Words.{orders_of as orders_in, stated as stated_in, number_of as number_in, size_of as size_in};
 ghost use Rattle.cube_opening.specs.Reports.{IsReport, NoRoom, Prints};
 ghost use Rattle.cube_opening.specs.Opening.{flat_said, Unopened, AsksOnce, EndsUnopened, AsksAll, HasAll};
 ghost use Rattle.cube_app.specs.Cells.{CellRun};
-ghost use Rattle.cube_app.specs.Starting.{EndsUnstarted, AsksStore, HasJournal};
-ghost use Rattle.cube_app.specs.Run.{usage_text as usage_words, help_text, version_text, dims_name, facts_name, policy_name, journal_name, cell_name, status_of as status_in, ending_text, Answered, HasFlat, Checked, Asked};
+ghost use Rattle.cube_app.specs.Making.{DemoRun};
+ghost use Rattle.cube_app.specs.Serves.{ServeRun, ReplayRun};
+ghost use Rattle.cube_starting.specs.Starting.{EndsUnstarted, AsksStore, HasJournal};
+ghost use Rattle.cube_app.specs.Run.{usage_text as usage_words, help_text, version_text, dims_name, facts_name, policy_name, journal_name, cell_name, address_name, script_name, status_of as status_in, ending_text, Answered, HasFlat, Checked, Asked};
 ghost use Rattle.cube_words.specs.declared.words.Command.TheVariants as orders;
 
 use crate::cells::tell;
-use crate::starting::open_engine;
+use crate::making::demo_words;
+use crate::serving::{replay_words, serve_words};
 use crate::summary::check_text;
 use cube_engine::Engine;
 use cube_io::{Folder, Sink, Source, Store, Wire};
 use cube_model::{NoMemory, Text};
-use cube_opening::{Guarded, Report, Room, no_room, open_flat, open_guarded, with_text};
+use cube_opening::{
+    Guarded, Report, Room, no_room, open_flat, open_guarded, spent_room, with_text,
+};
+use cube_starting::open_engine;
 use cube_talk::{Carry, Ending, TalkEnd, converse_by_asks, converse_by_sums};
 use cube_words::{Command, Setting, Usage, needed_value, orders_of, stated};
 use std::alloc::Global;
 
 const HELP: &[u8] =
-    b"cube sum --facts FILE\n    answers each line of the input by a sum over the file\ncube check --dims FILE --facts FILE --policy FILE\n    says what the files hold\ncube ask --dims FILE --facts FILE --policy FILE --journal FILE [--requests N]\n    answers each line of the input as a query, or as `shape` or `witness CELL`\ncube witness --dims FILE --facts FILE --policy FILE --journal FILE --cell CELL\n    prints the changes that hide a cell\ncube twin --dims FILE --facts FILE --policy FILE --journal FILE --cell CELL\n    prints the fact file of the cube with these changes\ncube --help\n    prints this text\ncube --version\n    prints the version\n";
+    b"cube sum --facts FILE\n    answers each line of the input by a sum over the file\ncube check --dims FILE --facts FILE --policy FILE\n    says what the files hold\ncube ask --dims FILE --facts FILE --policy FILE --journal FILE [--requests N]\n    answers each line of the input as a query, or as `shape` or `witness CELL`\ncube witness --dims FILE --facts FILE --policy FILE --journal FILE --cell CELL\n    prints the changes that hide a cell\ncube twin --dims FILE --facts FILE --policy FILE --journal FILE --cell CELL\n    prints the fact file of the cube with these changes\ncube serve --dims FILE --facts FILE --policy FILE --journal FILE --address ADDRESS [--requests N]\n    answers asks over HTTP\ncube replay --dims FILE --facts FILE --policy FILE --journal FILE --script FILE [--requests N]\n    plays a script of connections and writes what was sent\ncube demo --number N --size S\n    makes a cube of 20,000 S facts and says how 200 S queries on it are judged\ncube --help\n    prints this text\ncube --version\n    prints the version\n";
 
 const VERSION: &[u8] = b"cube 0.1.0\n";
 
@@ -80,17 +86,6 @@ fn status_of(ending: Ending) -> u8
         Ending::NoMemory => 7,
         Ending::Spent => 10,
     }
-}
-
-fn spent_room(room: Room, lines: u64, bytes: u64) -> Room
-    requires { room ≡ [] }
-    ensures { result ≡ codes "spent: " ++ decimal lines ++ codes " requests, " ++ decimal bytes ++ codes " events\n" }
-{
-    room.with(b"spent: ")
-        .with_number(lines)
-        .with(b" requests, ")
-        .with_number(bytes)
-        .with(b" events\n")
 }
 
 fn ending_room(room: Room, end: TalkEnd, requests: u64) -> Room
@@ -250,7 +245,7 @@ fn ask<F: Folder, S: Store, I: Source, O: Sink>(
 }
 
 // Does what a command asks for.
-fn obey<F: Folder, S: Store, I: Source, O: Sink>(
+fn obey<F: Folder, S: Store, I: Source, O: Sink, W: Wire>(
     alloc: Global,
     room: Room,
     command: Command,
@@ -259,9 +254,11 @@ fn obey<F: Folder, S: Store, I: Source, O: Sink>(
     store: &mut S,
     input: &mut I,
     out: &mut O,
+    wire: &mut W,
 ) -> Report
     requires room { room ≡ [] }
     requires orders { orders_in words.now ≡ Ok command }
+    requires quiet { IsTrue (W.told wire.old) → W.log wire.old ≡ [] }
     // The texts about the program go to the sink.
     ensures help { command ≡ orders.Help → Prints help_text (O.written out.old) (O.written out.new) result }
     ensures version { command ≡ orders.Version → Prints version_text (O.written out.old) (O.written out.new) result }
@@ -293,6 +290,17 @@ fn obey<F: Folder, S: Store, I: Source, O: Sink>(
     ensures twin { command ≡ orders.Twin → CellRun true (dims_name words.now) (facts_name words.now) (policy_name words.now) (journal_name words.now) (cell_name words.now) (F.files files.old) (F.asked files.old) (F.asked files.new) (F.faults files.old) (F.faults files.new)
         (S.told store.old) (S.names store.old) (S.names store.new) (S.calls store.old) (S.calls store.new) (S.logs store.old 0) (S.logs store.new 0) (S.faults store.old) (S.faults store.new) (O.written out.old) (O.written out.new) (O.faults out.old) (O.faults out.new) store.old store.new out.old out.new result }
 
+    // The connections of the wire are served by the cube of the files, unless the run ended before.
+    ensures serve { command ≡ orders.Serve → ServeRun (dims_name words.now) (facts_name words.now) (policy_name words.now) (journal_name words.now) (address_name words.now) (stated_in words.now) (F.files files.old) (F.asked files.old) (F.asked files.new) (F.faults files.old) (F.faults files.new)
+        (S.told store.old) (S.names store.old) (S.names store.new) (S.logs store.old 0) (S.logs store.new 0) (S.faults store.old) (S.faults store.new) (W.told wire.old) (W.heard wire.old) (W.heard wire.new) (W.log wire.new) (W.faults wire.old) (W.faults wire.new) store.old store.new wire.old wire.new result }
+
+    // The script is played to the cube of the files, and the log of what was sent is put on the sink, unless the run ended before.
+    ensures replay { command ≡ orders.Replay → ReplayRun (dims_name words.now) (facts_name words.now) (policy_name words.now) (journal_name words.now) (script_name words.now) (stated_in words.now) (F.files files.old) (F.asked files.old) (F.asked files.new) (F.faults files.old) (F.faults files.new)
+        (S.told store.old) (S.names store.old) (S.names store.new) (S.logs store.old 0) (S.logs store.new 0) (S.faults store.old) (S.faults store.new) (O.written out.old) (O.written out.new) (O.faults out.old) (O.faults out.new) store.old store.new out.old out.new result }
+
+    // The summary of a made cube is put on the sink, unless the run ended before.
+    ensures demo { command ≡ orders.Demo → DemoRun (number_in words.now) (size_in words.now) (O.written out.old) (O.written out.new) out.old out.new result }
+
     // A fault is answered only where it was counted in this call, and at most one count rises.
     ensures unreadable { result.status ≡ 5 → (Rose (F.faults files.old) (F.faults files.new) × (I.faults input.new ≡ I.faults input.old)) ⊎ (Rose (I.faults input.old) (I.faults input.new) × (F.faults files.new ≡ F.faults files.old)) }
     ensures output { result.status ≡ 6 → Rose (O.faults out.old) (O.faults out.new) }
@@ -312,10 +320,13 @@ fn obey<F: Folder, S: Store, I: Source, O: Sink>(
 
     // What a command doesn't use is as at entry.
     ensures unread { command ≢ orders.Sum → command ≢ orders.Ask → input.new ≡ input.old }
-    ensures unused { command ≢ orders.Sum → command ≢ orders.Check → command ≢ orders.Ask → command ≢ orders.Witness → command ≢ orders.Twin → files.new ≡ files.old }
+    ensures unused { command ≢ orders.Sum → command ≢ orders.Check → command ≢ orders.Ask → command ≢ orders.Witness → command ≢ orders.Twin → command ≢ orders.Serve → command ≢ orders.Replay → files.new ≡ files.old }
     ensures words { result.status ≢ 2 }
-    ensures store { command ≢ orders.Ask → command ≢ orders.Witness → command ≢ orders.Twin → store.new ≡ store.old }
-    ensures outcomes { command ≢ orders.Ask → result.outcomes ≡ [] }
+    ensures store { command ≢ orders.Ask → command ≢ orders.Witness → command ≢ orders.Twin → command ≢ orders.Serve → command ≢ orders.Replay → store.new ≡ store.old }
+    ensures outcomes { command ≢ orders.Ask → command ≢ orders.Serve → command ≢ orders.Replay → result.outcomes ≡ [] }
+    ensures wire { command ≢ orders.Serve → wire.new ≡ wire.old }
+    ensures unheard { result.status ≡ 8 → Rose (W.faults wire.old) (W.faults wire.new) }
+    ensures wire_steady { result.status ≢ 8 → W.faults wire.new ≡ W.faults wire.old }
 {
     match command {
         Command::Help => print(alloc, room, HELP, out),
@@ -342,7 +353,7 @@ fn obey<F: Folder, S: Store, I: Source, O: Sink>(
                 facts,
                 policy,
                 journal,
-                stated(words),
+                stated(words, command),
                 files,
                 store,
                 input,
@@ -351,6 +362,9 @@ fn obey<F: Folder, S: Store, I: Source, O: Sink>(
         }
         Command::Witness => tell(alloc, room, command, false, words, files, store, out),
         Command::Twin => tell(alloc, room, command, true, words, files, store, out),
+        Command::Serve => serve_words(alloc, room, words, files, store, wire),
+        Command::Replay => replay_words(alloc, room, words, files, store, out),
+        Command::Demo => demo_words(alloc, room, words, out),
     }
 }
 
@@ -401,6 +415,17 @@ pub fn run<F: Folder, S: Store, I: Source, O: Sink, W: Wire>(
     ensures twin { orders_in words.now ≡ Ok orders.Twin → CellRun true (dims_name words.now) (facts_name words.now) (policy_name words.now) (journal_name words.now) (cell_name words.now) (F.files files.old) (F.asked files.old) (F.asked files.new) (F.faults files.old) (F.faults files.new)
         (S.told store.old) (S.names store.old) (S.names store.new) (S.calls store.old) (S.calls store.new) (S.logs store.old 0) (S.logs store.new 0) (S.faults store.old) (S.faults store.new) (O.written out.old) (O.written out.new) (O.faults out.old) (O.faults out.new) store.old store.new out.old out.new result }
 
+    // The connections of the wire are served by the cube of the files, unless the run ended before.
+    ensures serve { orders_in words.now ≡ Ok orders.Serve → ServeRun (dims_name words.now) (facts_name words.now) (policy_name words.now) (journal_name words.now) (address_name words.now) (stated_in words.now) (F.files files.old) (F.asked files.old) (F.asked files.new) (F.faults files.old) (F.faults files.new)
+        (S.told store.old) (S.names store.old) (S.names store.new) (S.logs store.old 0) (S.logs store.new 0) (S.faults store.old) (S.faults store.new) (W.told wire.old) (W.heard wire.old) (W.heard wire.new) (W.log wire.new) (W.faults wire.old) (W.faults wire.new) store.old store.new wire.old wire.new result }
+
+    // The script is played to the cube of the files, and the log of what was sent is put on the sink, unless the run ended before.
+    ensures replay { orders_in words.now ≡ Ok orders.Replay → ReplayRun (dims_name words.now) (facts_name words.now) (policy_name words.now) (journal_name words.now) (script_name words.now) (stated_in words.now) (F.files files.old) (F.asked files.old) (F.asked files.new) (F.faults files.old) (F.faults files.new)
+        (S.told store.old) (S.names store.old) (S.names store.new) (S.logs store.old 0) (S.logs store.new 0) (S.faults store.old) (S.faults store.new) (O.written out.old) (O.written out.new) (O.faults out.old) (O.faults out.new) store.old store.new out.old out.new result }
+
+    // The summary of a made cube is put on the sink, unless the run ended before.
+    ensures demo { orders_in words.now ≡ Ok orders.Demo → DemoRun (number_in words.now) (size_in words.now) (O.written out.old) (O.written out.new) out.old out.new result }
+
     // A fault is answered only where it was counted in this call, and at most one count rises.
     ensures unreadable { result.status ≡ 5 → (Rose (F.faults files.old) (F.faults files.new) × (I.faults input.new ≡ I.faults input.old)) ⊎ (Rose (I.faults input.old) (I.faults input.new) × (F.faults files.new ≡ F.faults files.old)) }
     ensures output { result.status ≡ 6 → Rose (O.faults out.old) (O.faults out.new) }
@@ -420,17 +445,18 @@ pub fn run<F: Folder, S: Store, I: Source, O: Sink, W: Wire>(
 
     // What a command doesn't use is as at entry.
     ensures unread { orders_in words.now ≢ Ok orders.Sum → orders_in words.now ≢ Ok orders.Ask → input.new ≡ input.old }
-    ensures unused { orders_in words.now ≢ Ok orders.Sum → orders_in words.now ≢ Ok orders.Check → orders_in words.now ≢ Ok orders.Ask → orders_in words.now ≢ Ok orders.Witness → orders_in words.now ≢ Ok orders.Twin → files.new ≡ files.old }
-    ensures store { orders_in words.now ≢ Ok orders.Ask → orders_in words.now ≢ Ok orders.Witness → orders_in words.now ≢ Ok orders.Twin → store.new ≡ store.old }
-    ensures wire { wire.new ≡ wire.old }
-    ensures outcomes { orders_in words.now ≢ Ok orders.Ask → result.outcomes ≡ [] }
+    ensures unused { orders_in words.now ≢ Ok orders.Sum → orders_in words.now ≢ Ok orders.Check → orders_in words.now ≢ Ok orders.Ask → orders_in words.now ≢ Ok orders.Witness → orders_in words.now ≢ Ok orders.Twin → orders_in words.now ≢ Ok orders.Serve → orders_in words.now ≢ Ok orders.Replay → files.new ≡ files.old }
+    ensures store { orders_in words.now ≢ Ok orders.Ask → orders_in words.now ≢ Ok orders.Witness → orders_in words.now ≢ Ok orders.Twin → orders_in words.now ≢ Ok orders.Serve → orders_in words.now ≢ Ok orders.Replay → store.new ≡ store.old }
+    ensures wire { orders_in words.now ≢ Ok orders.Serve → wire.new ≡ wire.old }
+    ensures unheard { result.status ≡ 8 → Rose (W.faults wire.old) (W.faults wire.new) }
+    ensures wire_steady { result.status ≢ 8 → W.faults wire.new ≡ W.faults wire.old }
+    ensures outcomes { orders_in words.now ≢ Ok orders.Ask → orders_in words.now ≢ Ok orders.Serve → orders_in words.now ≢ Ok orders.Replay → result.outcomes ≡ [] }
 {
-    let _wire = wire;
     let Ok(room) = Room::new(alloc) else {
         return no_room(alloc);
     };
     match orders_of(words) {
         Err(usage) => refuse_words(alloc, words, usage),
-        Ok(command) => obey(alloc, room, command, words, files, store, input, out),
+        Ok(command) => obey(alloc, room, command, words, files, store, input, out, wire),
     }
 }

@@ -1,12 +1,15 @@
 // Runs over objects in memory, some of whose calls fail.
+ghost use Rattle.std.specs.Prelude.{◌≡◌, [], IsTrue};
+
 mod ask;
 mod cells;
 mod check;
 mod journal;
 mod policy;
+mod serve;
 
 use crate::run::run;
-use cube_io::{MemFolder, MemSink, MemSource, NullStore, NullWire, Store};
+use cube_io::{MemFolder, MemSink, MemSource, NullStore, NullWire, Store, Wire};
 use cube_model::{Items, Text, Texts};
 use std::alloc::Global;
 use std::test::Fail;
@@ -75,6 +78,18 @@ fn ran_over<S: Store>(
     given: &Given<'_>,
     store: &mut S,
 ) -> Result<Got, Fail> {
+    ran_on(alloc, words, given, store, &mut NullWire)
+}
+
+fn ran_on<S: Store, W: Wire>(
+    alloc: Global,
+    words: &[&[u8]],
+    given: &Given<'_>,
+    store: &mut S,
+    wire: &mut W,
+) -> Result<Got, Fail>
+    requires { IsTrue (W.told wire.old) → W.log wire.old ≡ [] }
+{
     let words = texts(alloc, words)?;
     let mut named = Vec::new(alloc);
     named.push((
@@ -103,7 +118,7 @@ fn ran_over<S: Store>(
         store,
         &mut source,
         &mut sink,
-        &mut NullWire,
+        wire,
     );
     Ok(Got {
         status: report.status,
@@ -167,7 +182,7 @@ fn a_refused_file_is_named_with_its_fault(rt: HostRuntime) -> Result<(), Fail> {
 
 #[test]
 fn wrong_words_are_named(rt: HostRuntime) -> Result<(), Fail> {
-    let cases: [(&[&[u8]], &[u8]); 19] = [
+    let cases: [(&[&[u8]], &[u8]); 26] = [
         (&[], b"usage: no command\n"),
         (&[b"ask", b"--dims"], b"usage: --dims\n"),
         (&[b"ask", b"--facts", b"f"], b"usage: missing --dims\n"),
@@ -209,6 +224,32 @@ fn wrong_words_are_named(rt: HostRuntime) -> Result<(), Fail> {
         (&[b"sum", b"--dims", b"a"], b"usage: --dims\n"),
         (&[b"sun"], b"usage: sun\n"),
         (&[b"--help", b"sum"], b"usage: sum\n"),
+        (&[b"serve", b"--script", b"s"], b"usage: --script\n"),
+        (&[b"replay", b"--address", b"a"], b"usage: --address\n"),
+        (
+            &[
+                b"replay",
+                b"--dims",
+                b"d",
+                b"--facts",
+                b"f",
+                b"--policy",
+                b"p",
+                b"--journal",
+                b"l",
+            ],
+            b"usage: missing --script\n",
+        ),
+        (&[b"demo", b"--size", b"21"], b"usage: 21\n"),
+        (
+            &[b"demo", b"--number", b"18446744073709551616"],
+            b"usage: 18446744073709551616\n",
+        ),
+        (
+            &[b"demo", b"--number", b"18446744073709551615"],
+            b"usage: missing --size\n",
+        ),
+        (&[b"demo", b"--size", b"0"], b"usage: 0\n"),
     ];
     for (words, text) in cases {
         let got = ran(rt.alloc(), words, &world(FACTS, b"*,*\n"))?;

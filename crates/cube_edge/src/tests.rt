@@ -84,7 +84,8 @@ fn a_store_of_no_file_fails(rt: HostRuntime) -> Result<(), Fail> {
 
 #[test]
 fn a_client_is_heard_and_answered(rt: HostRuntime) -> Result<(), Fail> {
-    let mut wire = TcpWire::new(&rt);
+    let mut notes = [0u8; 64];
+    let mut wire = TcpWire::new(&rt, notes.as_mut_slice());
     let address = Text::from_bytes(rt.alloc(), b"127.0.0.1:0")?;
     assert!(rt; wire.listen(&address).is_ok());
     let port = wire.port().ok_or("no port")?;

@@ -1,6 +1,6 @@
 // The connections of the machine.
 ghost use Rattle.std.specs.Prelude.{◌≡◌, [], false, length};
-ghost use Rattle.cube_io.specs.Wires.{FitsBuffer};
+ghost use Rattle.cube_io.specs.Wires.{FitsBuffer, no_plan};
 
 use cube_io::{Event, Failed, Wire};
 use cube_model::Text;
@@ -13,21 +13,24 @@ const NUMBER: u32 = 0;
 
 /// The connections that a listener of the machine accepts, one at a time. Each has the number 0. It tells no content.
 ///
-/// A connection whose read fails counts as closed by the other side. The wire has no end.
+/// A connection whose read fails counts as closed by the other side. The wire has no end. Where it listens it says so in
+/// its notes, with the port, in a line.
 #[derive(Drop)]
-pub struct TcpWire<'a, R: Net> {
+pub struct TcpWire<'a, R: Net, N: Write> {
     rt: &'a R,
+    notes: N,
     listener: Option<R::Listener>,
     stream: Option<R::Stream>,
     faults: u64,
     send_faults: u64,
 }
 
-impl<'a, R: Net> TcpWire<'a, R> {
+impl<'a, R: Net, N: Write> TcpWire<'a, R, N> {
     /// A wire that does not listen yet.
-    pub fn new(rt: &'a R) -> Self {
+    pub fn new(rt: &'a R, notes: N) -> Self {
         TcpWire {
             rt,
+            notes,
             listener: None,
             stream: None,
             faults: 0,
@@ -78,7 +81,7 @@ fn read_piece<T: Read>(stream: &mut T, buf: &mut [u8]) -> Event
     }
 }
 
-impl<R: Net> Wire for TcpWire<'_, R> {
+impl<R: Net, N: Write> Wire for TcpWire<'_, R, N> {
     ghost faults = { λ w. w.faults };
 
     ghost send_faults = { λ w. w.send_faults };
@@ -89,9 +92,14 @@ impl<R: Net> Wire for TcpWire<'_, R> {
 
     ghost heard = { λ w. [] };
 
+    ghost plan = { λ _. no_plan };
+
     fn listen(&mut self, address: &Text) -> Result<(), Failed> {
         match bind(self.rt, address) {
             Ok(listener) => {
+                if let Ok(address) = listener.local_addr() {
+                    let _ = writeln!(self.notes, "listening on {address}");
+                }
                 self.listener = Some(listener);
                 Ok(())
             }

@@ -1,6 +1,6 @@
 -- What a wire tells: events, sends and closes in order.
-use Rattle.std.specs.Prelude.{◌≡◌, ◌≤◌, ◌<◌, ℕ, ◌==◌, Bool, true, false, IsTrue, List, [], ◌∷◌, ◌++◌, length, take, if◌then◌else◌, codes, Result, Ok, Err}
-use Rattle.std.specs.List.{flat_map}
+use Rattle.std.specs.Prelude.{◌≡◌, ◌≤◌, ◌<◌, ℕ, ◌==◌, Bool, true, false, IsTrue, List, [], ◌∷◌, ◌++◌, length, take, if◌then◌else◌, codes, Option, Some, None, Result, Ok, Err}
+use Rattle.std.specs.List.{flat_map, filter_map}
 use Rattle.std.specs.Fmt.{decimal}
 use Rattle.cube_io.specs.declared.faults.Failed.{Failed}
 use Rattle.cube_io.specs.declared.wire.Event.{Event}
@@ -19,6 +19,18 @@ pub data LogEntry : Type 0 where
   Sent : ℕ → List ℕ → LogEntry
   Torn : ℕ → List ℕ → LogEntry
   Shut : ℕ → LogEntry
+
+-- What a wire is to play: events, and room for so many sends that go well and for so many bytes of them all; and whether it refused
+-- to listen before.
+pub record Plan : Type 0 where
+  pub events : List Arrival
+  pub sends : ℕ
+  pub bytes : ℕ
+  pub refused : Bool
+
+-- nothing is known of what will come
+abbrev pub no_plan : Plan
+no_plan = record { events = []; sends = 0; bytes = 0; refused = false }
 
 -- an event with the bytes at the front of the buffer
 abbrev pub arrival_of : Event → List ℕ → Arrival
@@ -80,6 +92,17 @@ SendTells c piece (Err e) old new = (said : List ℕ) × (unsaid : List ℕ) × 
 abbrev pub NextTells : Result Event Failed → List ℕ → List LogEntry → List LogEntry → Type 0
 NextTells (Ok e) buf old new = new ≡ old ++ Heard (arrival_of e buf) ∷ []
 NextTells (Err f) buf old new = new ≡ old
+
+-- the event that an entry notes
+abbrev pub event_in : LogEntry → Option Arrival
+event_in (Heard e) = Some e
+event_in (Sent c bytes) = None
+event_in (Torn c bytes) = None
+event_in (Shut c) = None
+
+-- the events that were taken
+abbrev pub events_in : List LogEntry → List Arrival
+events_in log = filter_map event_in log
 
 -- the text of a log: a line and the bytes for each send that did not fail, a line for each close
 abbrev pub rendered : LogEntry → List ℕ

@@ -2,7 +2,7 @@
 ghost use Rattle.std.specs.Prelude.{◌≡◌, [], true, length, IfOk};
 ghost use Rattle.cube_io.specs.Mem.{names_in};
 ghost use Rattle.cube_io.specs.Scrolls.{entry_of, is_event};
-ghost use Rattle.cube_io.specs.Wires.{NextTells, FitsBuffer, arrival_of};
+ghost use Rattle.cube_io.specs.Wires.{NextTells, FitsBuffer, arrival_of, no_plan};
 ghost use Rattle.cube_io.specs.Wires.LogEntry.{Heard};
 
 use crate::book::Book;
@@ -144,6 +144,8 @@ impl Wire for MemWire {
     ghost log = { λ w. w.book.scroll.log };
 
     ghost heard = { λ w. names_in w.heard };
+
+    ghost plan = { λ _. no_plan };
 
     fn listen(&mut self, address: &Text) -> Result<(), Failed> {
         match self.heard.write(Target::Names, address.as_slice()) {

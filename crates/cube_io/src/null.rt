@@ -2,6 +2,7 @@
 ghost use Rattle.std.specs.Prelude.{[], false, None};
 ghost use Rattle.std.proofs.Common.{rules};
 ghost use Rattle.cube_io.specs.States.{settled};
+ghost use Rattle.cube_io.specs.Wires.{no_plan};
 
 use crate::{Event, Failed, Sink, Store, StoreFault, Wire};
 use cube_model::Text;
@@ -84,6 +85,8 @@ impl Wire for NullWire {
     ghost log = { λ _. [] };
 
     ghost heard = { λ _. [] };
+
+    ghost plan = { λ _. no_plan };
 
     fn listen(&mut self, _address: &Text) -> Result<(), Failed> {
         Ok(())

@@ -2,7 +2,7 @@
 ghost use Rattle.std.specs.Prelude.{◌≡◌, ℕ, Bool, List, [], ◌∷◌, ◌++◌, length, IsTrue, IfOk, OnOk};
 ghost use Rattle.cube_io.specs.Causes.{HasCause};
 ghost use Rattle.cube_io.specs.Told.{AsksFor};
-ghost use Rattle.cube_io.specs.Wires.{LogEntry, FitsBuffer, IsOpen, IsSound, SendTells, NextTells};
+ghost use Rattle.cube_io.specs.Wires.{LogEntry, Plan, FitsBuffer, IsOpen, IsSound, SendTells, NextTells};
 ghost use Rattle.cube_io.specs.Wires.LogEntry.{Shut};
 
 use crate::Failed;
@@ -38,6 +38,9 @@ pub trait Wire {
     /// The addresses that `listen` was asked for.
     ghost heard: { Self → List (List ℕ) };
 
+    /// What the wire is to play: it stays while it plays.
+    ghost plan: { Self → Plan };
+
     /// Listens on an address.
     fn listen(&mut self, address: &Text) -> Result<(), Failed>
         ensures cause { HasCause (faults self.old) (faults self.new) result }
@@ -52,6 +55,7 @@ pub trait Wire {
         ensures cause { HasCause (faults self.old) (faults self.new) result }
         ensures sends { send_faults self.new ≡ send_faults self.old }
         ensures told { told self.new ≡ told self.old }
+        ensures plan { plan self.new ≡ plan self.old }
         ensures fits { IfOk result (λ event. FitsBuffer event buf.new) }
         ensures log { IsTrue (told self.old) → NextTells result buf.new (log self.old) (log self.new) }
         ensures heard { IsTrue (told self.old) → heard self.new ≡ heard self.old };
@@ -62,6 +66,7 @@ pub trait Wire {
         ensures cause { HasCause (send_faults self.old) (send_faults self.new) result }
         ensures faults { faults self.new ≡ faults self.old }
         ensures told { told self.new ≡ told self.old }
+        ensures plan { plan self.new ≡ plan self.old }
         ensures log { IsTrue (told self.old) → SendTells c piece.now result (log self.old) (log self.new) }
         ensures heard { IsTrue (told self.old) → heard self.new ≡ heard self.old };
 
@@ -71,6 +76,7 @@ pub trait Wire {
         ensures faults { faults self.new ≡ faults self.old }
         ensures sends { send_faults self.new ≡ send_faults self.old }
         ensures told { told self.new ≡ told self.old }
+        ensures plan { plan self.new ≡ plan self.old }
         ensures log { IsTrue (told self.old) → log self.new ≡ log self.old ++ Shut c ∷ [] }
         ensures heard { IsTrue (told self.old) → heard self.new ≡ heard self.old };
 }

@@ -4,5 +4,5 @@
 mod opening;
 mod report;
 
-pub use opening::{Guarded, Opened, open_flat, open_guarded};
-pub use report::{Report, Room, no_room, with_text};
+pub use opening::{Guarded, Opened, open_flat, open_guarded, read_bytes};
+pub use report::{Report, Room, no_room, spent_room, with_text};

@@ -48,8 +48,8 @@ pub struct Guarded {
     pub policy: Policy,
 }
 
-// Reads the bytes of a file of a kind, as `dims`.
-fn read_bytes<F: Folder>(
+/// Reads the bytes of a file of a kind, as `dims`, which is named where the file is too long.
+pub fn read_bytes<F: Folder>(
     alloc: Global,
     room: Room,
     kind: &[u8],

@@ -1,5 +1,5 @@
 // How a run ended, and the room for the text that says so.
-ghost use Rattle.std.specs.Prelude.{◌≡◌, ◌≤◌, ◌+◌, ◌++◌, [], length, decimal, IfOk};
+ghost use Rattle.std.specs.Prelude.{◌≡◌, ◌≤◌, ◌+◌, ◌++◌, [], length, decimal, codes, IfOk};
 ghost use Rattle.cube_opening.specs.Reports.{IsReport, NoRoom};
 
 use cube_model::{Items, NoMemory, Outcomes, Text};
@@ -106,4 +106,16 @@ impl Room {
     {
         with_text(alloc, status, Text::from_vec(self.bytes))
     }
+}
+
+/// The text on a run that took as much as is taken at most.
+pub fn spent_room(room: Room, requests: u64, events: u64) -> Room
+    requires { room ≡ [] }
+    ensures { result ≡ codes "spent: " ++ decimal requests ++ codes " requests, " ++ decimal events ++ codes " events\n" }
+{
+    room.with(b"spent: ")
+        .with_number(requests)
+        .with(b" requests, ")
+        .with_number(events)
+        .with(b" events\n")
 }

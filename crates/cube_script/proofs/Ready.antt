@@ -11,12 +11,12 @@ use Rattle.std.proofs.lemmas.Option.{slice_get_past, slice_get_within, get_or_fr
 use Rattle.std.specs.List.{list_all}
 use Rattle.cube_model.specs.Cubes.{Each}
 use Rattle.cube_io.specs.Scrolls.{Roll, owed_by}
-use Rattle.cube_io.specs.Wires.{Arrival, LogEntry, IsOpen, IsSound}
+use Rattle.cube_io.specs.Wires.{Arrival, LogEntry, IsOpen, IsSound, event_in, events_in}
 use Rattle.cube_io.specs.Wires.{Arrival as arrival}
 use Rattle.cube_io.specs.Wires.LogEntry.{Heard, Sent, Torn, Shut}
 use Rattle.cube_io.specs.declared.scroll.Note.TheVariants as note
 use Rattle.cube_io.proofs.Scrolled.{event_owes, sent_owes, torn_pays, shut_pays}
-use Rattle.cube_script.specs.Playing.{IsPlaying, started, event_in, events_in, is_torn, has_torn, is_sent, sent_size, is_settled}
+use Rattle.cube_script.specs.Playing.{IsPlaying, started, is_torn, has_torn, is_sent, sent_size, is_settled}
 use Rattle.cube_script.specs.declared.play.ScriptFault.{ScriptFault}
 use Rattle.cube_script.specs.declared.play.ScriptFault.TheVariants.{Line, NoMemory}
 use Rattle.cube_script.specs.Plays.{Refuses}

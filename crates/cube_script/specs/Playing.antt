@@ -1,22 +1,11 @@
 -- A wire that plays a script: what it plays, its log and its room, and what each call is answered.
 use Rattle.std.specs.Prelude.{◌≡◌, ◌<◌, ◌≤◌, ℕ, ◌+◌, Bool, true, false, ◌&&◌, ◌||◌, ◌==◌, nat_lt, nat_le, List, [], ◌∷◌, ◌++◌, length, if◌then◌else◌, sum_by, count_by, Option, Some, None, slice_get, Result, Ok, Err}
-use Rattle.std.specs.List.{filter_map, list_any, list_all}
-use Rattle.cube_io.specs.Wires.{Arrival, LogEntry}
+use Rattle.std.specs.List.{list_any, list_all}
+use Rattle.cube_io.specs.Wires.{Arrival, LogEntry, events_in}
 use Rattle.cube_io.specs.Wires.Arrival.{End}
 use Rattle.cube_io.specs.Wires.LogEntry.{Heard, Sent, Torn, Shut}
 use Rattle.cube_script.specs.declared.play.ScriptFault.{ScriptFault}
 use Rattle.cube_script.specs.declared.play.ScriptFault.TheVariants.{Line}
-
--- the event that an entry notes
-abbrev pub event_in : LogEntry → Option Arrival
-event_in (Heard e) = Some e
-event_in (Sent c bytes) = None
-event_in (Torn c bytes) = None
-event_in (Shut c) = None
-
--- the events that were taken
-abbrev pub events_in : List LogEntry → List Arrival
-events_in log = filter_map event_in log
 
 -- the entry notes a send that failed
 abbrev pub is_torn : LogEntry → Bool

@@ -3,10 +3,10 @@ use Rattle.std.specs.Prelude.{◌≡◌, ◌<◌, ◌≤◌, ⊤, ℕ, ◌+◌, 
 use Rattle.std.specs.List.{list_all}
 use Rattle.cube_model.specs.Cubes.{Each}
 use Rattle.cube_io.specs.Scrolls.{Roll, owed_by}
-use Rattle.cube_io.specs.Wires.{Arrival, LogEntry}
+use Rattle.cube_io.specs.Wires.{Arrival, LogEntry, events_in}
 use Rattle.cube_io.specs.Wires.Arrival.{Opened, Came, Closed, End}
 use Rattle.cube_io.specs.Wires.LogEntry.{Heard, Sent, Torn, Shut}
-use Rattle.cube_script.specs.Playing.{events_in, has_torn, is_sent, sent_size, is_settled, max_addresses, max_address_bytes}
+use Rattle.cube_script.specs.Playing.{has_torn, is_sent, sent_size, is_settled, max_addresses, max_address_bytes}
 
 -- a piece has a byte and fits the buffer
 abbrev pub IsPlayable : Arrival → Type 0

@@ -5,9 +5,9 @@ ghost use Rattle.cube_model.specs.Answers.{Answers};
 ghost use Rattle.cube_io.specs.Causes.{HasCause};
 ghost use Rattle.cube_io.specs.Content.{AppendsPrefix};
 ghost use Rattle.cube_io.specs.Told.{AsksFor};
-ghost use Rattle.cube_io.specs.Wires.{Arrival, FitsBuffer, IsOpen, IsSound, SendTells, NextTells, arrival_of, render};
+ghost use Rattle.cube_io.specs.Wires.{Arrival, FitsBuffer, IsOpen, IsSound, SendTells, NextTells, arrival_of, render, events_in};
 ghost use Rattle.cube_io.specs.Wires.LogEntry.{Heard, Sent, Torn, Shut};
-ghost use Rattle.cube_script.specs.Playing.{Playing, IsPlaying, started, events_in, has_torn, next_of, is_refused, has_room_for};
+ghost use Rattle.cube_script.specs.Playing.{Playing, IsPlaying, started, has_torn, next_of, is_refused, has_room_for};
 ghost use Rattle.cube_script.specs.Scripts.{script_of};
 ghost use Rattle.cube_script.specs.declared.play.ScriptFault.TheVariants.{NoMemory};
 
@@ -162,6 +162,8 @@ impl Wire for ScriptWire {
     ghost log = { λ w. w.log };
 
     ghost heard = { λ w. w.heard };
+
+    ghost plan = { λ w. record { events = w.script; sends = w.most_sends; bytes = w.most_bytes; refused = w.spilled } };
 
     fn listen(&mut self, address: &Text) -> Result<(), Failed>
         ensures cause { HasCause self.old.faults self.new.faults result }

@@ -3,13 +3,13 @@ use Rattle.std.proofs.Common.{◌≡◌, ℕ, ◌==◌, Bool, true, false, List,
 use Rattle.std.proofs.lemmas.List.{append-nil}
 use Rattle.std.proofs.Math.Seq.{take-append_seam}
 use Rattle.std.proofs.lemmas.List.Elements.{filter_map-append}
-use Rattle.cube_io.specs.Wires.{LogEntry, IsSound, sound_after, sound_by, IsOpen, open_after, open_by}
+use Rattle.cube_io.specs.Wires.{LogEntry, IsSound, sound_after, sound_by, IsOpen, open_after, open_by, events_in, event_in}
 use Rattle.cube_io.specs.Wires.Arrival.{Opened, Came, Closed, End}
 use Rattle.cube_io.specs.Wires.LogEntry.{Heard, Sent, Torn, Shut}
 use Rattle.cube_model.specs.declared.reply.Reply.{Reply}
 use Rattle.cube_http.specs.Responses.{head_bytes, body_of}
 use Rattle.cube_server.specs.Logs.{Course, Turn, spoken, spoken_all, shut_if, replied}
-use Rattle.cube_server.specs.Steps.{Talks, Speaks, turn, speaking, sends_in, events_in, send_of, event_of, body_sends}
+use Rattle.cube_server.specs.Steps.{Talks, Speaks, turn, speaking, sends_in, send_of, body_sends}
 
 false_is_not_true : false ≡ true → ⊥
 false_is_not_true e = cc
@@ -22,7 +22,7 @@ pub sends_more : (log more : List LogEntry) → sends_in (log ++ more) ≡ sends
 sends_more log more = filter_map-append send_of log more
 
 pub events_more : (log more : List LogEntry) → events_in (log ++ more) ≡ events_in log ++ events_in more
-events_more log more = filter_map-append event_of log more
+events_more log more = filter_map-append event_in log more
 
 open_more : (c : ℕ) (was : Bool) (log more : List LogEntry) → open_after c was (log ++ more) ≡ open_after c (open_after c was log) more
 open_more c was [] more = refl

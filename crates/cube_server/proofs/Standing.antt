@@ -6,13 +6,13 @@ use Rattle.std.proofs.lemmas.Bool.Decides.{nat_tests}
 use Rattle.cube_model.specs.declared.outcome.Outcome.{Outcome}
 use Rattle.cube_model.specs.Rooms.{Room}
 use Rattle.cube_io.specs.Desks.{Manner}
-use Rattle.cube_io.specs.Wires.{Arrival, LogEntry}
+use Rattle.cube_io.specs.Wires.{Arrival, LogEntry, events_in}
 use Rattle.cube_io.specs.Wires.Arrival.{End}
 use Rattle.cube_io.specs.Wires.LogEntry.{Heard}
 use Rattle.cube_server.specs.declared.lines.Line.{Line}
 use Rattle.cube_server.specs.Ears.{AreKept, AreOpen}
 use Rattle.cube_server.specs.Logs.{Call, Run, met, taken as took, is_over, run_on, begin, run_of}
-use Rattle.cube_server.specs.Steps.{Takes, Serves, course, run, luck_of, sends_in, events_in, has_end, is_end}
+use Rattle.cube_server.specs.Steps.{Takes, Serves, course, run, luck_of, sends_in, has_end, is_end}
 use Rattle.cube_server.proofs.Spoken.{sends_more, events_more}
 
 -- one event more

@@ -6,7 +6,7 @@ use Rattle.cube_model.specs.declared.ask.Ask.{Ask}
 use Rattle.cube_model.specs.declared.outcome.Outcome.{Outcome}
 use Rattle.cube_model.specs.Rooms.{Room}
 use Rattle.cube_io.specs.Desks.{Manner}
-use Rattle.cube_io.specs.Wires.{Arrival, LogEntry, sound_after}
+use Rattle.cube_io.specs.Wires.{Arrival, LogEntry, sound_after, events_in}
 use Rattle.cube_io.specs.Wires.Arrival.{Opened, Came, Closed, End}
 use Rattle.cube_io.specs.Wires.LogEntry.{Heard, Sent, Torn, Shut}
 use Rattle.cube_model.specs.declared.reply.Reply.{Reply}
@@ -35,16 +35,6 @@ send_of (Shut c) = None
 
 abbrev pub sends_in : List LogEntry → List (Option ℕ)
 sends_in log = filter_map send_of log
-
--- the events of a log
-abbrev pub event_of : LogEntry → Option Arrival
-event_of (Heard e) = Some e
-event_of (Sent c bytes) = None
-event_of (Torn c bytes) = None
-event_of (Shut c) = None
-
-abbrev pub events_in : List LogEntry → List Arrival
-events_in log = filter_map event_of log
 
 -- the sends of a body
 abbrev pub body_sends : Bool → List ℕ → List (List ℕ)

@@ -45,6 +45,7 @@ fn reply_to<S: Store, D: Desk<S>>(
     ensures fits { D.fits desk.new store.new }
     ensures endures { Endures (D.manner desk.old) (D.within desk.old) (D.within desk.new) (D.exact desk.old) (D.exact desk.new) (S.told store.old) (S.told store.new) (S.logs store.old) (S.logs store.new)
         (D.rooms desk.old) (D.rooms desk.new) (D.outcomes desk.old) (D.outcomes desk.new) (S.faults store.old) (S.faults store.new) }
+    ensures stored { IsTrue (S.told store.old) → S.names store.new ≡ S.names store.old }
     ensures counted { D.room desk.new + length (D.outcomes desk.new) ≡ D.room desk.old + length (D.outcomes desk.old) }
     ensures fewer { D.room desk.new ≤ D.room desk.old }
 {
@@ -70,6 +71,7 @@ fn make_reply<S: Store, D: Desk<S>>(
     ensures fits { D.fits desk.new store.new }
     ensures endures { Endures (D.manner desk.old) (D.within desk.old) (D.within desk.new) (D.exact desk.old) (D.exact desk.new) (S.told store.old) (S.told store.new) (S.logs store.old) (S.logs store.new)
         (D.rooms desk.old) (D.rooms desk.new) (D.outcomes desk.old) (D.outcomes desk.new) (S.faults store.old) (S.faults store.new) }
+    ensures stored { IsTrue (S.told store.old) → S.names store.new ≡ S.names store.old }
     ensures counted { D.room desk.new + length (D.outcomes desk.new) ≡ D.room desk.old + length (D.outcomes desk.old) }
     ensures fewer { D.room desk.new ≤ D.room desk.old }
 {
@@ -98,9 +100,12 @@ fn answer_request<S: Store, D: Desk<S>, W: Wire>(
     ensures fits { D.fits desk.new store.new }
     ensures endures { Endures (D.manner desk.old) (D.within desk.old) (D.within desk.new) (D.exact desk.old) (D.exact desk.new) (S.told store.old) (S.told store.new) (S.logs store.old) (S.logs store.new)
         (D.rooms desk.old) (D.rooms desk.new) (D.outcomes desk.old) (D.outcomes desk.new) (S.faults store.old) (S.faults store.new) }
+    ensures stored { IsTrue (S.told store.old) → S.names store.new ≡ S.names store.old }
     ensures counted { D.room desk.new + length (D.outcomes desk.new) ≡ D.room desk.old + length (D.outcomes desk.old) }
     ensures fewer { D.room desk.new ≤ D.room desk.old }
     ensures told { W.told wire.new ≡ W.told wire.old }
+    ensures plan { W.plan wire.new ≡ W.plan wire.old }
+    ensures names { IsTrue (W.told wire.old) → W.heard wire.new ≡ W.heard wire.old }
     ensures faults { W.faults wire.new ≡ W.faults wire.old }
     ensures sends { W.send_faults wire.old ≤ W.send_faults wire.new }
 {
@@ -124,6 +129,8 @@ fn deal_body<W: Wire>(wire: &mut W, c: u32, body: BodyConn, waits: bool) -> Left
     ensures says { IsTrue (W.told wire.old) → Speaks c (body_said c waits) (W.log wire.old) (W.log wire.new) (is_on result) }
     ensures keeps { OnKeeps result body }
     ensures told { W.told wire.new ≡ W.told wire.old }
+    ensures plan { W.plan wire.new ≡ W.plan wire.old }
+    ensures names { IsTrue (W.told wire.old) → W.heard wire.new ≡ W.heard wire.old }
     ensures faults { W.faults wire.new ≡ W.faults wire.old }
     ensures sends { W.send_faults wire.old ≤ W.send_faults wire.new }
 {
@@ -144,6 +151,8 @@ fn deal_dead<W: Wire>(wire: &mut W, c: u32, dead: DeadConn, heard: Heard) -> Lef
     ensures says { IsTrue (W.told wire.old) → Speaks c (dead_said c heard) (W.log wire.old) (W.log wire.new) false }
     ensures off { is_on result ≡ false }
     ensures told { W.told wire.new ≡ W.told wire.old }
+    ensures plan { W.plan wire.new ≡ W.plan wire.old }
+    ensures names { IsTrue (W.told wire.old) → W.heard wire.new ≡ W.heard wire.old }
     ensures faults { W.faults wire.new ≡ W.faults wire.old }
     ensures sends { W.send_faults wire.old ≤ W.send_faults wire.new }
 {
@@ -176,9 +185,12 @@ fn deal_done<S: Store, D: Desk<S>, W: Wire>(
     ensures fits { D.fits desk.new store.new }
     ensures endures { Endures (D.manner desk.old) (D.within desk.old) (D.within desk.new) (D.exact desk.old) (D.exact desk.new) (S.told store.old) (S.told store.new) (S.logs store.old) (S.logs store.new)
         (D.rooms desk.old) (D.rooms desk.new) (D.outcomes desk.old) (D.outcomes desk.new) (S.faults store.old) (S.faults store.new) }
+    ensures stored { IsTrue (S.told store.old) → S.names store.new ≡ S.names store.old }
     ensures counted { D.room desk.new + length (D.outcomes desk.new) ≡ D.room desk.old + length (D.outcomes desk.old) }
     ensures fewer { D.room desk.new ≤ D.room desk.old }
     ensures told { W.told wire.new ≡ W.told wire.old }
+    ensures plan { W.plan wire.new ≡ W.plan wire.old }
+    ensures names { IsTrue (W.told wire.old) → W.heard wire.new ≡ W.heard wire.old }
     ensures faults { W.faults wire.new ≡ W.faults wire.old }
     ensures sends { W.send_faults wire.old ≤ W.send_faults wire.new }
 {
@@ -211,9 +223,12 @@ fn deal<S: Store, D: Desk<S>, W: Wire>(
     ensures fits { D.fits desk.new store.new }
     ensures endures { Endures (D.manner desk.old) (D.within desk.old) (D.within desk.new) (D.exact desk.old) (D.exact desk.new) (S.told store.old) (S.told store.new) (S.logs store.old) (S.logs store.new)
         (D.rooms desk.old) (D.rooms desk.new) (D.outcomes desk.old) (D.outcomes desk.new) (S.faults store.old) (S.faults store.new) }
+    ensures stored { IsTrue (S.told store.old) → S.names store.new ≡ S.names store.old }
     ensures counted { D.room desk.new + length (D.outcomes desk.new) ≡ D.room desk.old + length (D.outcomes desk.old) }
     ensures fewer { D.room desk.new ≤ D.room desk.old }
     ensures told { W.told wire.new ≡ W.told wire.old }
+    ensures plan { W.plan wire.new ≡ W.plan wire.old }
+    ensures names { IsTrue (W.told wire.old) → W.heard wire.new ≡ W.heard wire.old }
     ensures faults { W.faults wire.new ≡ W.faults wire.old }
     ensures sends { W.send_faults wire.old ≤ W.send_faults wire.new }
 {
@@ -255,9 +270,12 @@ pub fn hear_piece<S: Store, D: Desk<S>, W: Wire>(
     ensures fits { D.fits desk.new store.new }
     ensures endures { Endures (D.manner desk.old) (D.within desk.old) (D.within desk.new) (D.exact desk.old) (D.exact desk.new) (S.told store.old) (S.told store.new) (S.logs store.old) (S.logs store.new)
         (D.rooms desk.old) (D.rooms desk.new) (D.outcomes desk.old) (D.outcomes desk.new) (S.faults store.old) (S.faults store.new) }
+    ensures stored { IsTrue (S.told store.old) → S.names store.new ≡ S.names store.old }
     ensures counted { D.room desk.new + length (D.outcomes desk.new) ≡ D.room desk.old + length (D.outcomes desk.old) }
     ensures fewer { D.room desk.new ≤ D.room desk.old }
     ensures told { W.told wire.new ≡ W.told wire.old }
+    ensures plan { W.plan wire.new ≡ W.plan wire.old }
+    ensures names { IsTrue (W.told wire.old) → W.heard wire.new ≡ W.heard wire.old }
     ensures faults { W.faults wire.new ≡ W.faults wire.old }
     ensures sends { W.send_faults wire.old ≤ W.send_faults wire.new }
 {

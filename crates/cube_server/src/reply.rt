@@ -17,6 +17,8 @@ pub fn send_piece<W: Wire>(wire: &mut W, c: u32, piece: &[u8]) -> bool
     requires { IsTrue (W.told wire.old) → IsSound c (W.log wire.old) }
     ensures says { IsTrue (W.told wire.old) → Speaks c (spoken c piece.now) (W.log wire.old) (W.log wire.new) result }
     ensures told { W.told wire.new ≡ W.told wire.old }
+    ensures plan { W.plan wire.new ≡ W.plan wire.old }
+    ensures names { IsTrue (W.told wire.old) → W.heard wire.new ≡ W.heard wire.old }
     ensures faults { W.faults wire.new ≡ W.faults wire.old }
     ensures sends { W.send_faults wire.old ≤ W.send_faults wire.new }
 {
@@ -34,6 +36,8 @@ fn send_body<W: Wire>(wire: &mut W, c: u32, body: &[u8], head_only: bool) -> boo
     requires { IsTrue (W.told wire.old) → IsSound c (W.log wire.old) }
     ensures says { IsTrue (W.told wire.old) → Speaks c (spoken_all c (body_sends head_only body.now)) (W.log wire.old) (W.log wire.new) result }
     ensures told { W.told wire.new ≡ W.told wire.old }
+    ensures plan { W.plan wire.new ≡ W.plan wire.old }
+    ensures names { IsTrue (W.told wire.old) → W.heard wire.new ≡ W.heard wire.old }
     ensures faults { W.faults wire.new ≡ W.faults wire.old }
     ensures sends { W.send_faults wire.old ≤ W.send_faults wire.new }
 {
@@ -48,6 +52,8 @@ fn end_reply<W: Wire>(wire: &mut W, c: u32, close: bool) -> bool
     requires { IsTrue (W.told wire.old) → IsSound c (W.log wire.old) }
     ensures says { IsTrue (W.told wire.old) → Speaks c (shut_if close c) (W.log wire.old) (W.log wire.new) result }
     ensures told { W.told wire.new ≡ W.told wire.old }
+    ensures plan { W.plan wire.new ≡ W.plan wire.old }
+    ensures names { IsTrue (W.told wire.old) → W.heard wire.new ≡ W.heard wire.old }
     ensures faults { W.faults wire.new ≡ W.faults wire.old }
     ensures sends { W.send_faults wire.old ≤ W.send_faults wire.new }
     ensures closed { close ≡ true → result ≡ false }
@@ -71,6 +77,8 @@ pub fn send_reply<W: Wire>(
     requires phrase { IsTrue (has_phrase (status_of reply.now)) }
     ensures says { IsTrue (W.told wire.old) → Speaks c (replied c reply.now close head_only) (W.log wire.old) (W.log wire.new) result }
     ensures told { W.told wire.new ≡ W.told wire.old }
+    ensures plan { W.plan wire.new ≡ W.plan wire.old }
+    ensures names { IsTrue (W.told wire.old) → W.heard wire.new ≡ W.heard wire.old }
     ensures faults { W.faults wire.new ≡ W.faults wire.old }
     ensures sends { W.send_faults wire.old ≤ W.send_faults wire.new }
     ensures closed { close ≡ true → result ≡ false }

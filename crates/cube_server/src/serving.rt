@@ -4,14 +4,14 @@ ghost use Rattle.cube_model.specs.declared.outcome.Outcome.{Outcome};
 ghost use Rattle.cube_model.specs.Rooms.{Room};
 ghost use Rattle.cube_io.specs.Causes.{Rose};
 ghost use Rattle.cube_io.specs.Desks.{Manner};
-ghost use Rattle.cube_io.specs.Wires.{Arrival, LogEntry, IsSound, FitsBuffer, arrival_of};
+ghost use Rattle.cube_io.specs.Wires.{Arrival, LogEntry, IsSound, FitsBuffer, arrival_of, events_in};
 ghost use Rattle.cube_io.specs.Wires.LogEntry.{Heard};
 ghost use Rattle.cube_io.specs.Wires.Arrival.{Opened, Came, Closed, End};
 ghost use Rattle.cube_server.specs.Crashes.{Endures};
 ghost use Rattle.cube_server.specs.Ears.{has, IsAnew, HasRoom, AreKept, AreOpen, AreOpenBut, AreOpenAt, is_last};
 ghost use Rattle.cube_server.specs.Logs.{met};
 ghost use Rattle.cube_server.specs.Pools.{IsFree};
-ghost use Rattle.cube_server.specs.Steps.{IsPhrased, IsCounted, Meets, Takes, Serves, events_in, has_end};
+ghost use Rattle.cube_server.specs.Steps.{IsPhrased, IsCounted, Meets, Takes, Serves, has_end};
 
 use crate::deal::{Left, hear_piece};
 use crate::lines::{Ear, Lines};
@@ -67,6 +67,8 @@ fn open_conn<W: Wire>(wire: &mut W, lines: &mut Lines, c: u32)
     ensures meets { IsTrue (W.told wire.old) → (conns : List (ℕ × List ℕ)) → AreKept lines.old.lines.items conns → AreOpenBut c lines.old.lines.items (W.log wire.old)
         → (m : Manner) (rooms : List Room) (asks : ℕ) (outs : List Outcome) → Meets (met m (Opened c)) lines.new.lines.items conns rooms rooms asks asks outs outs (W.log wire.old) (W.log wire.new) }
     ensures told { W.told wire.new ≡ W.told wire.old }
+    ensures plan { W.plan wire.new ≡ W.plan wire.old }
+    ensures names { IsTrue (W.told wire.old) → W.heard wire.new ≡ W.heard wire.old }
     ensures faults { W.faults wire.new ≡ W.faults wire.old }
     ensures sends { W.send_faults wire.old ≤ W.send_faults wire.new }
 {
@@ -114,9 +116,12 @@ fn hear<S: Store, D: Desk<S>, W: Wire>(
     ensures fits { D.fits desk.new store.new }
     ensures endures { Endures (D.manner desk.old) (D.within desk.old) (D.within desk.new) (D.exact desk.old) (D.exact desk.new) (S.told store.old) (S.told store.new) (S.logs store.old) (S.logs store.new)
         (D.rooms desk.old) (D.rooms desk.new) (D.outcomes desk.old) (D.outcomes desk.new) (S.faults store.old) (S.faults store.new) }
+    ensures stored { IsTrue (S.told store.old) → S.names store.new ≡ S.names store.old }
     ensures counted { D.room desk.new + length (D.outcomes desk.new) ≡ D.room desk.old + length (D.outcomes desk.old) }
     ensures fewer { D.room desk.new ≤ D.room desk.old }
     ensures told { W.told wire.new ≡ W.told wire.old }
+    ensures plan { W.plan wire.new ≡ W.plan wire.old }
+    ensures names { IsTrue (W.told wire.old) → W.heard wire.new ≡ W.heard wire.old }
     ensures faults { W.faults wire.new ≡ W.faults wire.old }
     ensures sends { W.send_faults wire.old ≤ W.send_faults wire.new }
 {
@@ -154,9 +159,12 @@ fn meet<S: Store, D: Desk<S>, W: Wire>(
     ensures fits { D.fits desk.new store.new }
     ensures endures { Endures (D.manner desk.old) (D.within desk.old) (D.within desk.new) (D.exact desk.old) (D.exact desk.new) (S.told store.old) (S.told store.new) (S.logs store.old) (S.logs store.new)
         (D.rooms desk.old) (D.rooms desk.new) (D.outcomes desk.old) (D.outcomes desk.new) (S.faults store.old) (S.faults store.new) }
+    ensures stored { IsTrue (S.told store.old) → S.names store.new ≡ S.names store.old }
     ensures counted { D.room desk.new + length (D.outcomes desk.new) ≡ D.room desk.old + length (D.outcomes desk.old) }
     ensures fewer { D.room desk.new ≤ D.room desk.old }
     ensures told { W.told wire.new ≡ W.told wire.old }
+    ensures plan { W.plan wire.new ≡ W.plan wire.old }
+    ensures names { IsTrue (W.told wire.old) → W.heard wire.new ≡ W.heard wire.old }
     ensures faults { W.faults wire.new ≡ W.faults wire.old }
     ensures sends { W.send_faults wire.old ≤ W.send_faults wire.new }
 {
@@ -203,9 +211,12 @@ fn take_event<S: Store, D: Desk<S>, W: Wire>(
     ensures fits { D.fits desk.new store.new }
     ensures endures { Endures (D.manner desk.old) (D.within desk.old) (D.within desk.new) (D.exact desk.old) (D.exact desk.new) (S.told store.old) (S.told store.new) (S.logs store.old) (S.logs store.new)
         (D.rooms desk.old) (D.rooms desk.new) (D.outcomes desk.old) (D.outcomes desk.new) (S.faults store.old) (S.faults store.new) }
+    ensures stored { IsTrue (S.told store.old) → S.names store.new ≡ S.names store.old }
     ensures counted { D.room desk.new + length (D.outcomes desk.new) ≡ D.room desk.old + length (D.outcomes desk.old) }
     ensures fewer { D.room desk.new ≤ D.room desk.old }
     ensures told { W.told wire.new ≡ W.told wire.old }
+    ensures plan { W.plan wire.new ≡ W.plan wire.old }
+    ensures names { IsTrue (W.told wire.old) → W.heard wire.new ≡ W.heard wire.old }
     ensures steady { result ≢ Taken.Failed → W.faults wire.new ≡ W.faults wire.old }
     ensures sends { W.send_faults wire.old ≤ W.send_faults wire.new }
 {
@@ -248,10 +259,13 @@ fn serve_lines<S: Store, D: Desk<S>, W: Wire>(
     ensures steady { result ≢ Err ServeFault.WireFailed → W.faults wire.new ≡ W.faults wire.old }
     ensures sends { W.send_faults wire.old ≤ W.send_faults wire.new }
     ensures told { W.told wire.new ≡ W.told wire.old }
+    ensures plan { W.plan wire.new ≡ W.plan wire.old }
+    ensures names { IsTrue (W.told wire.old) → W.heard wire.new ≡ W.heard wire.old }
     ensures manner { D.manner desk.new ≡ D.manner desk.old }
     ensures fits { D.fits desk.new store.new }
     ensures endures { Endures (D.manner desk.old) (D.within desk.old) (D.within desk.new) (D.exact desk.old) (D.exact desk.new) (S.told store.old) (S.told store.new) (S.logs store.old) (S.logs store.new)
         (D.rooms desk.old) (D.rooms desk.new) (D.outcomes desk.old) (D.outcomes desk.new) (S.faults store.old) (S.faults store.new) }
+    ensures stored { IsTrue (S.told store.old) → S.names store.new ≡ S.names store.old }
     ensures counted { D.room desk.new + length (D.outcomes desk.new) ≡ D.room desk.old + length (D.outcomes desk.old) }
     ensures fewer { D.room desk.new ≤ D.room desk.old }
 {
@@ -306,10 +320,13 @@ pub fn serve<S: Store, D: Desk<S>, W: Wire>(
     ensures steady { result ≢ Err ServeFault.WireFailed → W.faults wire.new ≡ W.faults wire.old }
     ensures sends { W.send_faults wire.old ≤ W.send_faults wire.new }
     ensures told { W.told wire.new ≡ W.told wire.old }
+    ensures plan { W.plan wire.new ≡ W.plan wire.old }
+    ensures names { IsTrue (W.told wire.old) → W.heard wire.new ≡ W.heard wire.old }
     ensures manner { D.manner desk.new ≡ D.manner desk.old }
     ensures fits { D.fits desk.new store.new }
     ensures endures { Endures (D.manner desk.old) (D.within desk.old) (D.within desk.new) (D.exact desk.old) (D.exact desk.new) (S.told store.old) (S.told store.new) (S.logs store.old) (S.logs store.new)
         (D.rooms desk.old) (D.rooms desk.new) (D.outcomes desk.old) (D.outcomes desk.new) (S.faults store.old) (S.faults store.new) }
+    ensures stored { IsTrue (S.told store.old) → S.names store.new ≡ S.names store.old }
     ensures counted { D.room desk.new + length (D.outcomes desk.new) ≡ D.room desk.old + length (D.outcomes desk.old) }
     ensures fewer { D.room desk.new ≤ D.room desk.old }
 {

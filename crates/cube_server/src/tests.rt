@@ -1,7 +1,7 @@
 // A small desk over a wire that plays some events.
 ghost use Rattle.std.specs.Prelude.{◌≡◌, ◌+◌, ◌≤◌, [], ◌∷◌, ◌++◌, ⊤, false, length, IfOk, vec_len, vec_capacity};
 ghost use Rattle.cube_model.specs.declared.outcome.Outcome.TheVariants as outcome;
-ghost use Rattle.cube_io.specs.Wires.{FitsBuffer};
+ghost use Rattle.cube_io.specs.Wires.{FitsBuffer, no_plan};
 ghost use Rattle.cube_server.specs.Rows.{echo, echo_is_constant, echoed as spec_echoed};
 
 use crate::{Pool, ServeFault, serve};
@@ -134,6 +134,8 @@ impl Wire for Played<'_> {
     ghost log = { λ w. [] };
 
     ghost heard = { λ w. [] };
+
+    ghost plan = { λ _. no_plan };
 
     fn listen(&mut self, _address: &Text) -> Result<(), Failed> {
         Ok(())

@@ -1,13 +1,14 @@
--- The options that a command needs have values, and a stated number of asks is one.
+-- The options that a command needs have values, and the values that are numbers are in their range.
 use Rattle.std.proofs.Common.{◌≡◌, ℕ, List, [], ◌∷◌, ◌++◌, Bool, true, false, not, ◌||◌, length, ◌+◌, Option, Some, None, Ok, refl, sym, ap, ◌∙◌, codes}
 use Rattle.std.specs.Str.{bytes_eq}
+use Rattle.std.proofs.lemmas.Slice.Eq.{bytes_eq-Decides}
 use Rattle.std.proofs.lemmas.Bool.{false≢true}
 use Rattle.cube_model.specs.Cubes.{IsIn}
 use Rattle.cube_model.proofs.Members.{tested, find_none}
 use Rattle.cube_words.specs.declared.words.Command.{Command}
 use Rattle.cube_words.specs.declared.words.Setting.{Setting}
-use Rattle.cube_words.specs.declared.words.Setting.TheVariants.{Requests}
-use Rattle.cube_words.specs.Words.{option_word, needed, command_of, is_option, is_requests, is_wrong_value, stands_in, options_in, first_wrong, first_missing, unless_missing, unless_wrong, with_command, orders_of, value_behind, value_of}
+use Rattle.cube_words.specs.declared.words.Setting.TheVariants.{Requests, Number, Size}
+use Rattle.cube_words.specs.Words.{option_word, needed, command_of, is_option, is_requests, is_number, is_size, is_wrong_value, stands_in, options_in, first_wrong, first_missing, unless_missing, unless_wrong, with_command, orders_of, value_behind, value_of}
 
 pub not_none : {X : Type 0} (x : X) → Some x ≡ None → ⊥
 not_none x e = cc
@@ -53,35 +54,52 @@ given (word ∷ words) c s e h = by_command (command_of word) refl
         none k = cc
     by_command (Some d) is = given_by d words s (first_wrong d [] words) (first_missing d words) refl refl c (sym (ap (with_command words) is) ∙ e) h
 
--- words in pairs, none of them wrong, state a number of asks
-states : (c : Command) (before words : List (List ℕ)) (v : List ℕ) → first_wrong c before words ≡ None → value_behind (codes "--requests") words ≡ Some v → is_requests v ≡ true
-states c before [] v right there = absurd (cc)
-states c before (option ∷ []) v right there = absurd (cc)
-states c before (option ∷ value ∷ more) v right there = tested (not (is_option c option) || stands_in option (options_in before))
+-- words in pairs, none of them wrong, have no wrong value
+right_behind : (c : Command) (before words : List (List ℕ)) (o v : List ℕ) → first_wrong c before words ≡ None → value_behind o words ≡ Some v → is_wrong_value o v ≡ false
+right_behind c before [] o v right there = absurd (cc)
+right_behind c before (option ∷ []) o v right there = absurd (cc)
+right_behind c before (option ∷ value ∷ more) o v right there = tested (not (is_option c option) || stands_in option (options_in before))
     (λ wrong. absurd (not_none (length before + 1) (sym (rw wrong refl) ∙ right)))
-    (λ fine. tested (bytes_eq option (codes "--requests"))
-    (λ t. tested (is_requests value)
-    (λ yes. (
+    (λ fine. tested (is_wrong_value option value)
+    (λ wrong. absurd (not_none (length before + 2) (sym (rw (fine, wrong) refl) ∙ right)))
+    (λ good. tested (bytes_eq option o)
+    (λ t. (
     let same : Some value ≡ Some v = rw t at there in
     let is : value ≡ v = cc in
-    rw (sym is) yes))
-    (λ no. absurd (not_none (length before + 2) (sym (rw (fine, t, no) refl) ∙ right))))
-    (λ f. tested (is_wrong_value option value)
-    (λ wrong. absurd (not_none (length before + 2) (sym (rw (fine, wrong) refl) ∙ right)))
-    (λ good. states c (before ++ option ∷ value ∷ []) more v (rw (fine, good) at right) (rw f at there))))
+    let named : option ≡ o = (bytes_eq-Decides option o).0 t in
+    rw (sym is, sym named) good))
+    (λ f. right_behind c (before ++ option ∷ value ∷ []) more o v (rw (fine, good) at right) (rw f at there))))
 
-states_by : (c d : Command) (words : List (List ℕ)) (v : List ℕ) (wrong : Option ℕ) → first_wrong c [] words ≡ wrong → unless_wrong c words wrong ≡ Ok d → value_behind (codes "--requests") words ≡ Some v → is_requests v ≡ true
-states_by c d words v (Some n) w e there = absurd (cc)
-states_by c d words v None w e there = states c [] words v w there
+right_by : (c d : Command) (words : List (List ℕ)) (o v : List ℕ) (wrong : Option ℕ) → first_wrong c [] words ≡ wrong → unless_wrong c words wrong ≡ Ok d → value_behind o words ≡ Some v → is_wrong_value o v ≡ false
+right_by c d words o v (Some n) w e there = absurd (cc)
+right_by c d words o v None w e there = right_behind c [] words o v w there
 
--- a command that the words give states a number of asks, where it states one
-pub stated : (words : List (List ℕ)) (c : Command) (v : List ℕ) → orders_of words ≡ Ok c → value_of Requests words ≡ Some v → is_requests v ≡ true
-stated [] c v e there = absurd (cc)
-stated (word ∷ words) c v e there = by_command (command_of word) refl
+-- the value of an option of a command that the words give is not wrong
+pub right : (words : List (List ℕ)) (c : Command) (s : Setting) (v : List ℕ) → orders_of words ≡ Ok c → value_of s words ≡ Some v → is_wrong_value (option_word s) v ≡ false
+right [] c s v e there = absurd (cc)
+right (word ∷ words) c s v e there = by_command (command_of word) refl
   where
-    by_command : (o : Option Command) → command_of word ≡ o → is_requests v ≡ true
+    by_command : (o : Option Command) → command_of word ≡ o → is_wrong_value (option_word s) v ≡ false
     by_command None is = absurd (none (sym (ap (with_command words) is) ∙ e))
       where
         none : with_command words None ≡ Ok c → ⊥
         none k = cc
-    by_command (Some d) is = states_by d c words v (first_wrong d [] words) refl (sym (ap (with_command words) is) ∙ e) there
+    by_command (Some d) is = right_by d c words (option_word s) v (first_wrong d [] words) refl (sym (ap (with_command words) is) ∙ e) there
+
+unwrong : (b : Bool) → not b ≡ false → b ≡ true
+unwrong true e = refl
+unwrong false e = absurd (false≢true (sym e))
+
+left_of : (a b : Bool) → (a || b) ≡ false → a ≡ false
+left_of true b e = e
+left_of false b e = refl
+
+-- so a stated number of asks, a number and a size are ones
+pub stated : (words : List (List ℕ)) (c : Command) (v : List ℕ) → orders_of words ≡ Ok c → value_of Requests words ≡ Some v → is_requests v ≡ true
+stated words c v e there = unwrong (is_requests v) (left_of (not (is_requests v)) false (left_of (not (is_requests v) || false) false (right words c Requests v e there)))
+
+pub numbered : (words : List (List ℕ)) (c : Command) (v : List ℕ) → orders_of words ≡ Ok c → value_of Number words ≡ Some v → is_number v ≡ true
+numbered words c v e there = unwrong (is_number v) (left_of (not (is_number v)) false (right words c Number v e there))
+
+pub sized : (words : List (List ℕ)) (c : Command) (v : List ℕ) → orders_of words ≡ Ok c → value_of Size words ≡ Some v → is_size v ≡ true
+sized words c v e there = unwrong (is_size v) (right words c Size v e there)

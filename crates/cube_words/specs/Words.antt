@@ -1,13 +1,13 @@
 -- The words of a command line: a command, and pairs of an option and its value in any order, each option once.
-use Rattle.std.specs.Prelude.{ℕ, ◌+◌, Bool, not, ◌||◌, ◌&&◌, nat_le, length, List, [], ◌∷◌, ◌++◌, find, codes, if◌then◌else◌, Option, Some, None, Result, Ok, Err}
+use Rattle.std.specs.Prelude.{ℕ, ◌+◌, Bool, not, ◌^◌, ◌||◌, ◌&&◌, nat_le, nat_lt, length, List, [], ◌∷◌, ◌++◌, find, codes, unwrap_or, if◌then◌else◌, Option, Some, None, Result, Ok, Err}
 use Rattle.std.specs.List.{list_any}
 use Rattle.std.specs.Str.{bytes_eq}
 use Rattle.std.specs.Str.Parse.{digits_value}
 use Rattle.cube_text.specs.Units.{is_digits}
 use Rattle.cube_words.specs.declared.words.Command.{Command}
-use Rattle.cube_words.specs.declared.words.Command.TheVariants.{Help, Version, Sum, Check, Ask, Witness, Twin}
+use Rattle.cube_words.specs.declared.words.Command.TheVariants.{Help, Version, Sum, Check, Ask, Witness, Twin, Serve, Replay, Demo}
 use Rattle.cube_words.specs.declared.words.Setting.{Setting}
-use Rattle.cube_words.specs.declared.words.Setting.TheVariants.{Dims, Facts, Policy, Journal, Cell, Requests}
+use Rattle.cube_words.specs.declared.words.Setting.TheVariants.{Dims, Facts, Policy, Journal, Cell, Address, Script, Requests, Number, Size}
 use Rattle.cube_words.specs.declared.words.Usage.{Usage}
 use Rattle.cube_words.specs.declared.words.Usage.TheVariants.{NoCommand, Wrong, Missing}
 
@@ -19,6 +19,9 @@ command_word Check = codes "check"
 command_word Ask = codes "ask"
 command_word Witness = codes "witness"
 command_word Twin = codes "twin"
+command_word Serve = codes "serve"
+command_word Replay = codes "replay"
+command_word Demo = codes "demo"
 
 abbrev pub option_word : Setting → List ℕ
 option_word Dims = codes "--dims"
@@ -26,10 +29,14 @@ option_word Facts = codes "--facts"
 option_word Policy = codes "--policy"
 option_word Journal = codes "--journal"
 option_word Cell = codes "--cell"
+option_word Address = codes "--address"
+option_word Script = codes "--script"
 option_word Requests = codes "--requests"
+option_word Number = codes "--number"
+option_word Size = codes "--size"
 
 abbrev pub commands : List Command
-commands = Help ∷ Version ∷ Sum ∷ Check ∷ Ask ∷ Witness ∷ Twin ∷ []
+commands = Help ∷ Version ∷ Sum ∷ Check ∷ Ask ∷ Witness ∷ Twin ∷ Serve ∷ Replay ∷ Demo ∷ []
 
 -- the options that a command needs, in the order in which a missing one is named
 abbrev pub needed : Command → List Setting
@@ -40,6 +47,9 @@ needed Check = Dims ∷ Facts ∷ Policy ∷ []
 needed Ask = Dims ∷ Facts ∷ Policy ∷ Journal ∷ []
 needed Witness = Dims ∷ Facts ∷ Policy ∷ Journal ∷ Cell ∷ []
 needed Twin = Dims ∷ Facts ∷ Policy ∷ Journal ∷ Cell ∷ []
+needed Serve = Dims ∷ Facts ∷ Policy ∷ Journal ∷ Address ∷ []
+needed Replay = Dims ∷ Facts ∷ Policy ∷ Journal ∷ Script ∷ []
+needed Demo = Number ∷ Size ∷ []
 
 -- the options that it may have
 abbrev pub allowed : Command → List Setting
@@ -50,6 +60,9 @@ allowed Check = Dims ∷ Facts ∷ Policy ∷ []
 allowed Ask = Dims ∷ Facts ∷ Policy ∷ Journal ∷ Requests ∷ []
 allowed Witness = Dims ∷ Facts ∷ Policy ∷ Journal ∷ Cell ∷ []
 allowed Twin = Dims ∷ Facts ∷ Policy ∷ Journal ∷ Cell ∷ []
+allowed Serve = Dims ∷ Facts ∷ Policy ∷ Journal ∷ Address ∷ Requests ∷ []
+allowed Replay = Dims ∷ Facts ∷ Policy ∷ Journal ∷ Script ∷ Requests ∷ []
+allowed Demo = Number ∷ Size ∷ []
 
 -- the command of a word
 abbrev pub command_of : List ℕ → Option Command
@@ -80,9 +93,20 @@ usual_requests = 1000000
 abbrev pub is_requests : List ℕ → Bool
 is_requests text = is_digits text && nat_le 1 (digits_value 10 text) && nat_le (digits_value 10 text) max_requests
 
+-- from 1 to 20 decimal digits that write a number below 2^64
+abbrev pub is_number : List ℕ → Bool
+is_number text = nat_le (length text) 20 && is_digits text && nat_lt (digits_value 10 text) (2 ^ 64)
+
+-- decimal digits that write a size
+abbrev pub is_size : List ℕ → Bool
+is_size text = is_digits text && nat_le 1 (digits_value 10 text) && nat_le (digits_value 10 text) 20
+
 -- the value is none that the option may have
 abbrev pub is_wrong_value : List ℕ → List ℕ → Bool
-is_wrong_value option value = bytes_eq option (codes "--requests") && not (is_requests value)
+is_wrong_value option value =
+    (bytes_eq option (codes "--requests") && not (is_requests value))
+    || (bytes_eq option (codes "--number") && not (is_number value))
+    || (bytes_eq option (codes "--size") && not (is_size value))
 
 -- The number of the first wrong word behind these pairs, the command being word 0: no option of the command, one that
 -- stood before, one without a value, or a wrong value.
@@ -134,3 +158,10 @@ stated_by (Some text) = digits_value 10 text
 
 abbrev pub stated : List (List ℕ) → ℕ
 stated words = stated_by (value_of Requests words)
+
+-- the number, and the size, that a cube is made of
+abbrev pub number_of : List (List ℕ) → ℕ
+number_of words = digits_value 10 (unwrap_or (value_of Number words) [])
+
+abbrev pub size_of : List (List ℕ) → ℕ
+size_of words = digits_value 10 (unwrap_or (value_of Size words) [])

@@ -4,5 +4,7 @@
 mod words;
 mod worked;
 
-pub use words::{Command, Setting, Usage, needed_value, orders_of, stated, value_of};
-pub use worked::worked_requests;
+pub use words::{
+    Command, Setting, Usage, needed_value, number_of, orders_of, size_of, stated, value_of,
+};
+pub use worked::{worked_makings, worked_requests};

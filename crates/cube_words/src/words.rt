@@ -1,10 +1,12 @@
 // The words of the command line.
-ghost use Rattle.std.specs.Prelude.{◌≡◌, ◌≤◌, not, length, take, drop, find, option_copied, if◌then◌else◌, [], Some, None, IfSome, Ok};
+ghost use Rattle.std.specs.Prelude.{◌≡◌, ◌≤◌, not, min, length, take, drop, find, option_copied, if◌then◌else◌, [], Some, None, IfSome, IsTrue, Ok};
+ghost use Rattle.std.specs.Char.{is_ascii_digit};
+ghost use Rattle.std.specs.List.{list_all};
 ghost use Rattle.std.specs.Str.{bytes_eq};
 ghost use Rattle.std.specs.Str.Parse.{digits_value};
 ghost use Rattle.cube_model.specs.Cubes.{IsIn};
 ghost use Rattle.cube_words.specs.declared.words.Command.TheVariants as orders;
-ghost use Rattle.cube_words.specs.Words.{command_word, option_word, needed as needed_by, allowed as allowed_by, is_requests, is_wrong_value as is_wrong, stated as stated_in, command_of as command_in, is_option as is_option_of, stands_in, options_in, first_wrong as first_wrong_behind, orders_of as orders_in, value_behind as value_in, value_of as value_given};
+ghost use Rattle.cube_words.specs.Words.{command_word, option_word, needed as needed_by, allowed as allowed_by, is_requests, is_number, is_size, is_wrong_value as is_wrong, stated as stated_in, number_of as number_stated, size_of as size_stated, command_of as command_in, is_option as is_option_of, stands_in, options_in, first_wrong as first_wrong_behind, orders_of as orders_in, value_behind as value_in, value_of as value_given};
 
 use cube_model::Text;
 use cube_text::read_digits;
@@ -26,6 +28,12 @@ pub enum Command {
     Witness,
     /// Write the fact file of the cube with these changes.
     Twin,
+    /// Answer asks over the network.
+    Serve,
+    /// Play a script of connections.
+    Replay,
+    /// Say what a made cube answers to made queries.
+    Demo,
 }
 
 /// An option of a command.
@@ -41,8 +49,16 @@ pub enum Setting {
     Journal,
     /// The cell of a measure.
     Cell,
+    /// The address that is listened on.
+    Address,
+    /// The script that is played.
+    Script,
     /// The most asks that are answered.
     Requests,
+    /// The number that a cube is made of.
+    Number,
+    /// The size that it is made of.
+    Size,
 }
 
 /// What is wrong with the words.
@@ -56,7 +72,7 @@ pub enum Usage {
     Missing(Setting),
 }
 
-const COMMANDS: [Command; 7] = [
+const COMMANDS: [Command; 10] = [
     Command::Help,
     Command::Version,
     Command::Sum,
@@ -64,11 +80,20 @@ const COMMANDS: [Command; 7] = [
     Command::Ask,
     Command::Witness,
     Command::Twin,
+    Command::Serve,
+    Command::Replay,
+    Command::Demo,
 ];
 
 const MAX_REQUESTS: u64 = 16_777_216;
 
 const USUAL_REQUESTS: u64 = 1_000_000;
+
+const MAX_DIGITS: usize = 20;
+
+const OVER: u128 = 1 << 64;
+
+const MAX_SIZE: u64 = 20;
 
 impl Command {
     fn word(self) -> &'static [u8]
@@ -82,6 +107,9 @@ impl Command {
             Command::Ask => b"ask",
             Command::Witness => b"witness",
             Command::Twin => b"twin",
+            Command::Serve => b"serve",
+            Command::Replay => b"replay",
+            Command::Demo => b"demo",
         }
     }
 
@@ -106,6 +134,21 @@ impl Command {
                 Setting::Journal,
                 Setting::Cell,
             ],
+            Command::Serve => &[
+                Setting::Dims,
+                Setting::Facts,
+                Setting::Policy,
+                Setting::Journal,
+                Setting::Address,
+            ],
+            Command::Replay => &[
+                Setting::Dims,
+                Setting::Facts,
+                Setting::Policy,
+                Setting::Journal,
+                Setting::Script,
+            ],
+            Command::Demo => &[Setting::Number, Setting::Size],
         }
     }
 
@@ -131,6 +174,23 @@ impl Command {
                 Setting::Journal,
                 Setting::Cell,
             ],
+            Command::Serve => &[
+                Setting::Dims,
+                Setting::Facts,
+                Setting::Policy,
+                Setting::Journal,
+                Setting::Address,
+                Setting::Requests,
+            ],
+            Command::Replay => &[
+                Setting::Dims,
+                Setting::Facts,
+                Setting::Policy,
+                Setting::Journal,
+                Setting::Script,
+                Setting::Requests,
+            ],
+            Command::Demo => &[Setting::Number, Setting::Size],
         }
     }
 }
@@ -146,7 +206,11 @@ impl Setting {
             Setting::Policy => b"--policy",
             Setting::Journal => b"--journal",
             Setting::Cell => b"--cell",
+            Setting::Address => b"--address",
+            Setting::Script => b"--script",
             Setting::Requests => b"--requests",
+            Setting::Number => b"--number",
+            Setting::Size => b"--size",
         }
     }
 }
@@ -199,10 +263,49 @@ fn requests_in(text: &[u8]) -> Option<u64>
     }
 }
 
+// The number that digits write, or `OVER` where it is larger.
+fn capped_value(digits: &[u8]) -> u128
+    requires { IsTrue (list_all is_ascii_digit digits.now) }
+    ensures { result ≡ min OVER (digits_value 10 digits.now) }
+{
+    let mut value = 0u128;
+    for digit in digits {
+        value = (value * 10 + u128::from(*digit - b'0')).min(OVER);
+    }
+    value
+}
+
+// The number that a text states, in at most 20 digits.
+fn number_in(text: &[u8]) -> Option<u64>
+    ensures { result ≡ (if is_number text.now then Some (digits_value 10 text.now) else None) }
+{
+    if text.len() > MAX_DIGITS || read_digits(text).is_none() {
+        return None;
+    }
+    let value = capped_value(text);
+    if value == OVER {
+        return None;
+    }
+    Some(value as u64)
+}
+
+// The size that a text states.
+fn size_in(text: &[u8]) -> Option<u32>
+    ensures number { result ≡ (if is_size text.now then Some (digits_value 10 text.now) else None) }
+    ensures some { IfSome result (λ size. (1 ≤ size) × (size ≤ 20)) }
+{
+    match read_digits(text) {
+        Some(size) if size >= 1 && size <= MAX_SIZE => Some(size as u32),
+        _ => None,
+    }
+}
+
 fn is_wrong_value(option: &[u8], value: &[u8]) -> bool
     ensures { result ≡ is_wrong option.now value.now }
 {
-    option == Setting::Requests.word() && requests_in(value).is_none()
+    (option == Setting::Requests.word() && requests_in(value).is_none())
+        || (option == Setting::Number.word() && number_in(value).is_none())
+        || (option == Setting::Size.word() && size_in(value).is_none())
 }
 
 // The first wrong word from a place on, before which there are pairs.
@@ -235,11 +338,10 @@ fn is_lacking(setting: Setting, words: &[Text]) -> bool
 fn first_lacking(settings: &[Setting], words: &[Text]) -> Option<Setting>
     ensures { result ≡ find (λ s. not (stands_in (option_word s) (options_in words.now))) settings.now }
 {
-    match settings {
-        [] => None,
-        [setting, ..] if is_lacking(*setting, words) => Some(*setting),
-        [_, more @ ..] => first_lacking(more, words),
-    }
+    settings
+        .iter()
+        .copied()
+        .find(|setting| is_lacking(*setting, words))
 }
 
 /// The command that the words give, or what is wrong with them.
@@ -300,16 +402,41 @@ pub fn needed_value(words: &[Text], command: Command, setting: Setting) -> &Text
 }
 
 /// The stated number of asks: 1,000,000 where none is.
-pub fn stated(words: &[Text]) -> u64
-    requires { orders_in words.now ≡ Ok orders.Ask }
+pub fn stated(words: &[Text], command: Command) -> u64
+    requires { orders_in words.now ≡ Ok command }
     ensures number { result ≡ stated_in words.now }
     ensures some { 1 ≤ result }
 {
+    let _command = command;
     match value_of(words, Setting::Requests) {
         None => USUAL_REQUESTS,
         Some(text) => match requests_in(text.as_slice()) {
             Some(number) => number,
             None => unreachable!(),
         },
+    }
+}
+
+/// The number that a cube is made of.
+pub fn number_of(words: &[Text]) -> u64
+    requires { orders_in words.now ≡ Ok orders.Demo }
+    ensures { result ≡ number_stated words.now }
+{
+    match number_in(needed_value(words, Command::Demo, Setting::Number).as_slice()) {
+        Some(number) => number,
+        None => unreachable!(),
+    }
+}
+
+/// The size that a cube is made of.
+pub fn size_of(words: &[Text]) -> u32
+    requires { orders_in words.now ≡ Ok orders.Demo }
+    ensures number { result ≡ size_stated words.now }
+    ensures some { 1 ≤ result }
+    ensures few { result ≤ 20 }
+{
+    match size_in(needed_value(words, Command::Demo, Setting::Size).as_slice()) {
+        Some(size) => size,
+        None => unreachable!(),
     }
 }

@@ -1,6 +1,6 @@
-// Numbers of asks, read by the definitions alone.
+// Numbers of asks, and the number and the size of a made cube, read by the definitions alone.
 ghost use Rattle.std.specs.Prelude.{◌≡◌, true, false, codes};
-ghost use Rattle.cube_words.specs.Words.{is_requests};
+ghost use Rattle.cube_words.specs.Words.{is_requests, is_number, is_size};
 
 /// Which texts the definitions take for a stated number of asks.
 pub fn worked_requests()
@@ -8,4 +8,15 @@ pub fn worked_requests()
     ensures too_many { is_requests (codes "16777217") ≡ false }
     ensures none { is_requests (codes "0") ≡ false }
     ensures sign { is_requests (codes "+1") ≡ false }
+{}
+
+/// Which texts the definitions take for the number and for the size of a made cube.
+pub fn worked_makings()
+    ensures greatest { is_number (codes "18446744073709551615") ≡ true }
+    ensures too_great { is_number (codes "18446744073709551616") ≡ false }
+    ensures too_long { is_number (codes "000000000000000000001") ≡ false }
+    ensures empty { is_number (codes "") ≡ false }
+    ensures size { is_size (codes "020") ≡ true }
+    ensures no_size { is_size (codes "0") ≡ false }
+    ensures too_large { is_size (codes "21") ≡ false }
 {}

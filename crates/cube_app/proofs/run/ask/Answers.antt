@@ -6,7 +6,8 @@ use Rattle.cube_io.specs.Causes.{Rose}
 use Rattle.cube_engine.specs.Engines.{Engine}
 use Rattle.cube_talk.specs.Asks.{NoneFailed}
 use Rattle.cube_app.specs.Run.{ending_text}
-use Rattle.cube_app.proofs.Lives.{Served, begun, kept_log}
+use Rattle.cube_starting.proofs.Started.{begun}
+use Rattle.cube_app.proofs.Lives.{Served, kept_log}
 use Rattle.cube_opening.proofs.Accepted.{all_accepted}
 use Rattle.cube_app.proofs.Worlds.{hidden}
 use Rattle.cube_app.proofs.run.ask.Goals as goal

@@ -2,7 +2,7 @@ use Rattle.std.proofs.Common.{◌≡◌, ◌⊎◌, List, [], ℕ, Option, ap, s
 use Rattle.std.specs.Prelude.{unwrap_or}
 use Rattle.cube_opening.specs.Opening.{HasAll}
 use Rattle.cube_app.specs.Run.{facts_name, policy_name}
-use Rattle.cube_app.specs.Starting.{AsksStore, HasJournal}
+use Rattle.cube_starting.specs.Starting.{AsksStore, HasJournal}
 use Rattle.cube_app.proofs.run.obey.Goals as goal
 
 pub returns-in-Ask-clause-ask_names : goal.returns-in-Ask-clause-ask_names

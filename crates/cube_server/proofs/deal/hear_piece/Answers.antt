@@ -1,4 +1,4 @@
-use Rattle.std.proofs.Common.{◌≡◌, ◌∙◌, sym, refl, arith, [], rules}
+use Rattle.std.proofs.Common.{◌≡◌, ◌∙◌, sym, refl, arith, subst, IsTrue, [], rules}
 use Rattle.cube_server.proofs.Spoken.{talks_none, talks_then}
 use Rattle.cube_server.proofs.Enduring.{endures_none, endures_then}
 use Rattle.cube_server.proofs.Pieces.{progress_start, step_on, step_off, piece_spent, piece_heard, none_left}
@@ -12,6 +12,9 @@ items-init g c = record {
   endures = endures_none (g.D.Desk.manner c.args.desk.now) (g.D.Desk.within c.args.desk.now) (g.D.Desk.exact c.args.desk.now) (g.S.Store.told c.args.store.now) (g.S.Store.logs c.args.store.now) (g.D.Desk.rooms c.args.desk.now) (g.D.Desk.outcomes c.args.desk.now) (g.S.Store.faults c.args.store.now);
   fewer = search rules;
   told = refl;
+  plan = refl;
+  stored = λ told. refl;
+  names = λ told. refl;
   faults = refl;
   sends = search rules;
   talks = λ told. talks_none c.args.c (g.W.Wire.log c.args.wire.now);
@@ -46,6 +49,9 @@ items-preserved g c =
           (rw was.manner at c.in-On.ensures.endures);
       fewer = omega (arith, was.fewer, c.in-On.ensures.fewer);
       told = c.in-On.ensures.told ∙ was.told;
+      plan = c.in-On.ensures.plan ∙ was.plan;
+      stored = λ told. c.in-On.ensures.stored (subst IsTrue (sym was.endures.told) told) ∙ was.stored told;
+      names = λ told. c.in-On.ensures.names (rw (← was.told) at told) ∙ was.names told;
       faults = c.in-On.ensures.faults ∙ was.faults;
       sends = omega (arith, was.sends, c.in-On.ensures.sends);
       talks = λ told. talks_then c.args.c (g.W.Wire.log c.args.wire.now) (g.W.Wire.log c.items.wire) (g.W.Wire.log c.deal.new.wire) _ (was.talks told) (c.in-On.ensures.deals (rw (← was.told) at told)).talks;

@@ -1,5 +1,5 @@
-use Rattle.std.proofs.Common.{◌≡◌, ◌∙◌, ◌+◌, ◌-◌, ◌<◌, sym, refl, inl, arith, rules, ap, ℕ}
-use Rattle.cube_server.specs.Steps.{events_in}
+use Rattle.std.proofs.Common.{◌≡◌, ◌∙◌, ◌+◌, ◌-◌, ◌<◌, sym, refl, inl, arith, subst, IsTrue, rules, ap, ℕ}
+use Rattle.cube_io.specs.Wires.{events_in}
 use Rattle.cube_server.proofs.Enduring.{endures_none, endures_then}
 use Rattle.cube_server.proofs.Standing.{stands_start, onward, stands_done, stands_end, ends_with}
 use Rattle.cube_server.proofs.serving.serve_lines.Goals as goal
@@ -15,6 +15,9 @@ events-init g c = record {
   endures = endures_none (g.D.Desk.manner c.args.desk.now) (g.D.Desk.within c.args.desk.now) (g.D.Desk.exact c.args.desk.now) (g.S.Store.told c.args.store.now) (g.S.Store.logs c.args.store.now) (g.D.Desk.rooms c.args.desk.now) (g.D.Desk.outcomes c.args.desk.now) (g.S.Store.faults c.args.store.now);
   fewer = search rules;
   told = refl;
+  plan = refl;
+  stored = λ told. refl;
+  names = λ told. refl;
   faults = refl;
   sends = search rules;
   heard = λ told. rw (c.requires.log told) refl;
@@ -93,6 +96,9 @@ events-preserved g c =
           (rw was.manner at c.in-More.ensures.endures);
       fewer = omega (arith, was.fewer, c.in-More.ensures.fewer);
       told = c.in-More.ensures.told ∙ was.told;
+      plan = c.in-More.ensures.plan ∙ was.plan;
+      stored = λ told. c.in-More.ensures.stored (subst IsTrue (sym was.endures.told) told) ∙ was.stored told;
+      names = λ told. c.in-More.ensures.names (rw (← was.told) at told) ∙ was.names told;
       faults = c.in-More.ensures.steady (λ e. cc) ∙ was.faults;
       sends = omega (arith, was.sends, c.in-More.ensures.sends);
       heard = λ told.

@@ -7,7 +7,7 @@ ghost use Rattle.cube_engine.specs.Engines.{book_of};
 ghost use Rattle.cube_engine.specs.Kept.{history_of, IsKept, IsExact};
 ghost use Rattle.cube_engine.specs.Worlds.{IsRuled};
 ghost use Rattle.cube_opening.specs.Reports.{IsReport, NoRoom};
-ghost use Rattle.cube_app.specs.Starting.{journal_text as journal_words, journal_status as status_for, Unstarted, AsksStore};
+ghost use Rattle.cube_starting.specs.Starting.{journal_text as journal_words, journal_status as status_for, Unstarted, AsksStore};
 
 use cube_core::Core;
 use cube_engine::{Engine, EngineFault};

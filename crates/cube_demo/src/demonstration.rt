@@ -1,0 +1,51 @@
+// The demonstration.
+ghost use Rattle.std.specs.Prelude.{◌≡◌, ◌≢◌, ◌≤◌, Err, IfOk, IfErr, OnOk};
+ghost use Rattle.cube_io.specs.Causes.{Rose};
+ghost use Rattle.cube_demo.specs.Reading.{IsSummary, Prints, IsRefused, EndsShort};
+ghost use Rattle.cube_demo.specs.declared.fault.DemoFault.TheVariants as fault;
+
+use crate::DemoFault;
+use crate::asking::ask_all;
+use crate::reading::{core_of, policy_in, requests_in};
+use crate::summary::summary;
+use cube_gen::make;
+use cube_io::Sink;
+use cube_model::Text;
+use std::alloc::Global;
+
+/// The summary of the cube that is made of a number and a size, whose queries are asked of an engine as well.
+fn summary_of(alloc: Global, number: u64, size: u32) -> Result<Text, DemoFault>
+    requires some { 1 ≤ size }
+    requires few { size ≤ 20 }
+    ensures ok { IfOk result (λ text. IsSummary number size text) }
+    ensures err { IfErr result (IsRefused number size) }
+{
+    let made = make(alloc, number, size)?;
+    let core = core_of(alloc, made.dims.as_slice(), made.facts.as_slice())?;
+    let policy = policy_in(alloc, core.dims(), made.policy.as_slice())?;
+    let requests = requests_in(alloc, core.dims(), made.queries.as_slice())?;
+    let text = summary(alloc, size, &core, &policy, requests.as_slice())?;
+    ask_all(alloc, core, policy, made.queries.as_slice())?;
+    Ok(text)
+}
+
+/// Makes a cube and queries of a number and a size, and puts a summary: how many facts, points and queries there are,
+/// how many verdicts of each kind the queries get in turn, and how many of the first 100 protected cells of pay and of
+/// hours have a witness, that is changes that no answer tells and that make the sum of the cell greater by one.
+///
+/// A size of 1 has 20,000 facts and 200 queries, and a size of s has s times as many.
+pub fn demo<S: Sink>(alloc: Global, number: u64, size: u32, out: &mut S) -> Result<(), DemoFault>
+    requires some { 1 ≤ size }
+    requires few { size ≤ 20 }
+    ensures prints { OnOk result (Prints number size (S.written out.old) (S.written out.new)) }
+    ensures fault { IfErr result (EndsShort number size (S.written out.old) (S.written out.new)) }
+    ensures output { result ≡ Err fault.OutputFailed → Rose (S.faults out.old) (S.faults out.new) }
+    ensures steady { result ≢ Err fault.OutputFailed → S.faults out.new ≡ S.faults out.old }
+    ensures nothing { IfErr result (λ e. e ≢ fault.OutputFailed → out.new ≡ out.old) }
+{
+    let text = summary_of(alloc, number, size)?;
+    match out.put(text.as_slice()) {
+        Ok(()) => Ok(()),
+        Err(_) => Err(DemoFault::OutputFailed),
+    }
+}

@@ -1,0 +1,19 @@
+//! A demonstration: a made cube and made queries over it, judged, asked, and counted.
+#![tactic(auto)]
+
+mod answers;
+mod asking;
+mod demonstration;
+mod fault;
+mod hiding;
+mod judging;
+mod reading;
+mod summary;
+mod sums;
+#[cfg(test)]
+mod tests;
+mod worked;
+
+pub use demonstration::demo;
+pub use fault::DemoFault;
+pub use worked::{worked_counts, worked_summary};

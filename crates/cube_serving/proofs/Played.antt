@@ -1,0 +1,271 @@
+-- How a script is read, and how its play ends.
+use Rattle.std.proofs.Common.{◌≡◌, ◌≤◌, ◌∙◌, refl, sym, ap, subst, ℕ, Bool, true, false, IsTrue, List, [], ◌∷◌, ◌++◌, length, append_assoc, Some, None, inl, inr, arith}
+use Rattle.std.proofs.lemmas.Bool.Decides.{nat_tests}
+use Rattle.std.proofs.lemmas.Bool.{false≢true}
+use Rattle.std.specs.List.{list_any}
+use Rattle.std.specs.Option.{option_map}
+use Rattle.std.specs.Str.{bytes_eq}
+use Rattle.cube_model.proofs.Members.{tested}
+use Rattle.std.specs.Prelude.{◌⊎◌, ◌≢◌, ◌<◌, ◌+◌, ◌==◌, ◌||◌, Result, Ok, Err, IfSome, IsSomeAnd, codes, decimal, nat_lt, is_err, OnOk, OnErr}
+use Rattle.std.specs.declared.option.Option.{Option}
+use Rattle.std.specs.Io.KnownBytes.{Appends}
+use Rattle.cube_model.specs.declared.outcome.Outcome.{Outcome}
+use Rattle.cube_io.specs.Causes.{Rose}
+use Rattle.cube_io.specs.declared.faults.Failed.{Failed as Fault}
+use Rattle.cube_io.specs.Content.{AppendsPrefix}
+use Rattle.cube_io.specs.Wires.{Arrival, LogEntry, events_in, render}
+use Rattle.cube_io.specs.Wires.Arrival.{Opened, Came, Closed, End}
+use Rattle.cube_io.specs.Files.{max_file}
+use Rattle.cube_opening.specs.Opening.{fault_text, faulted, unless_long, Failed, AsksOnce, AsksTwo, AsksAll, EndsUnopened}
+use Rattle.cube_opening.specs.declared.report.Report.{Report}
+use Rattle.cube_script.specs.Playing.{Playing, IsPlaying, starting, started, has_torn}
+use Rattle.cube_script.specs.Scripts.{connection_of, bytes_of, came_of, event_of, words, lines, with_event, events_of, script_of}
+use Rattle.cube_script.specs.declared.play.ScriptFault.{ScriptFault}
+use Rattle.cube_script.specs.declared.play.ScriptFault.TheVariants.{Line, NoMemory}
+use Rattle.cube_server.specs.Steps.{has_end, is_end, IsCounted}
+use Rattle.cube_server.specs.declared.serving.ServeFault.{ServeFault}
+use Rattle.cube_server.specs.declared.serving.ServeFault.TheVariants.{WireFailed, Spent}
+use Rattle.cube_serving.specs.Serving.{Ends}
+use Rattle.cube_serving.specs.Replaying.{script_said, AsksFour, played_status, played_text, Writes}
+
+-- ---- what a script says
+
+pub started_ok : (said : Result (List Arrival) ℕ) (w : Playing) (sends bytes : ℕ) → started said sends bytes ≡ Ok w → (script : List Arrival) × (said ≡ Ok script) × (w ≡ starting script sends bytes)
+started_ok (Ok script) w sends bytes e = (script, refl, cc)
+started_ok (Err n) w sends bytes e = cc
+
+pub started_err : (said : Result (List Arrival) ℕ) (n sends bytes : ℕ) → (Line n ≡ NoMemory) ⊎ (started said sends bytes ≡ Err (Line n)) → said ≡ Err n
+started_err said n sends bytes (inl e) = cc
+started_err (Ok script) n sends bytes (inr e) = cc
+started_err (Err m) n sends bytes (inr e) = cc
+
+short_said : (kind bytes : List ℕ) (said : Result (List Arrival) (List ℕ)) → length bytes ≤ max_file → unless_long kind bytes said ≡ said
+short_said kind bytes said short = tested (nat_lt max_file (length bytes))
+    (λ t. absurd (long (nat_lt max_file (length bytes)) refl t))
+    (λ f. rw f refl)
+  where
+    long : (b : Bool) → nat_lt max_file (length bytes) ≡ b → b ≡ true → ⊥
+    long b is t = grind (arith, nat_tests, is, t, short)
+
+pub said_ok : (bytes : List ℕ) (script : List Arrival) → length bytes ≤ max_file → script_of bytes ≡ Ok script → script_said bytes ≡ Ok script
+said_ok bytes script short said = short_said (codes "script") bytes (faulted (λ n. fault_text (codes "script") (codes "line " ++ decimal n)) (script_of bytes)) short ∙ ap (λ (r : Result (List Arrival) ℕ). faulted (λ n. fault_text (codes "script") (codes "line " ++ decimal n)) r) said
+
+pub said_err : (bytes : List ℕ) (n : ℕ) → length bytes ≤ max_file → script_of bytes ≡ Err n → script_said bytes ≡ Err (fault_text (codes "script") (codes "line " ++ decimal n))
+said_err bytes n short said = short_said (codes "script") bytes (faulted (λ n. fault_text (codes "script") (codes "line " ++ decimal n)) (script_of bytes)) short ∙ ap (λ (r : Result (List Arrival) ℕ). faulted (λ n. fault_text (codes "script") (codes "line " ++ decimal n)) r) said
+
+-- ---- no line of a script is the end
+
+some_is : (x e : Arrival) → Some x ≡ Some e → x ≡ e
+some_is x e k = cc
+
+opened_more : (o : Option ℕ) (e : Arrival) → option_map Opened o ≡ Some e → is_end e ≡ false
+opened_more None e k = cc
+opened_more (Some c) e k = subst (λ (x : Arrival). is_end x ≡ false) (some_is (Opened c) e k) refl
+
+closed_more : (o : Option ℕ) (e : Arrival) → option_map Closed o ≡ Some e → is_end e ≡ false
+closed_more None e k = cc
+closed_more (Some c) e k = subst (λ (x : Arrival). is_end x ≡ false) (some_is (Closed c) e k) refl
+
+came_more : (o : Option ℕ) (bytes : Option (List ℕ)) (e : Arrival) → came_of o bytes ≡ Some e → is_end e ≡ false
+came_more None bytes e k = cc
+came_more (Some c) None e k = cc
+came_more (Some c) (Some b) e k = subst (λ (x : Arrival). is_end x ≡ false) (some_is (Came c b) e k) refl
+
+event_more : (ws : List (List ℕ)) (e : Arrival) → event_of ws ≡ Some e → is_end e ≡ false
+event_more [] e k = cc
+event_more (kind ∷ []) e k = cc
+event_more (kind ∷ c ∷ []) e k = tested (bytes_eq kind (codes "open"))
+    (λ t. opened_more (connection_of c) e (rw t at k))
+    (λ f. tested (bytes_eq kind (codes "close"))
+    (λ t. closed_more (connection_of c) e (rw (f, t) at k))
+    (λ g. absurd (none (rw (f, g) at k))))
+  where
+    none : None ≡ Some e → ⊥
+    none k = cc
+event_more (kind ∷ c ∷ digits ∷ []) e k = tested (bytes_eq kind (codes "data"))
+    (λ t. came_more (connection_of c) (bytes_of digits) e (rw t at k))
+    (λ f. absurd (none (rw f at k)))
+  where
+    none : None ≡ Some e → ⊥
+    none k = cc
+event_more (kind ∷ c ∷ digits ∷ word ∷ ws) e k = cc
+
+one_more : (x : Arrival) (es : List Arrival) → is_end x ≡ false → list_any is_end es ≡ false → list_any is_end (x ∷ es) ≡ false
+one_more x es a b = rw (a, b) refl
+
+abbrev accepted : List Arrival → Result (List Arrival) ℕ
+accepted es = Ok es
+
+ok_is : (x y : List Arrival) → accepted x ≡ accepted y → x ≡ y
+ok_is x y k = cc
+
+with_more : (n : ℕ) (o : Option Arrival) (rest : Result (List Arrival) ℕ) (es : List Arrival) → ((e : Arrival) → o ≡ Some e → is_end e ≡ false) → ((others : List Arrival) → rest ≡ Ok others → list_any is_end others ≡ false) → with_event n o rest ≡ Ok es → list_any is_end es ≡ false
+with_more n None rest es a b k = cc
+with_more n (Some e) (Err m) es a b k = cc
+with_more n (Some e) (Ok others) es a b k = subst (λ (x : List Arrival). list_any is_end x ≡ false) (ok_is (e ∷ others) es k) (one_more e others (a e refl) (b others refl))
+
+events_more : (n : ℕ) (ls : List (List ℕ)) (es : List Arrival) → events_of n ls ≡ Ok es → list_any is_end es ≡ false
+events_more n [] es k = subst (λ (x : List Arrival). list_any is_end x ≡ false) (ok_is [] es k) refl
+events_more n (last ∷ []) es k = tested (length last == 0)
+    (λ t. subst (λ (x : List Arrival). list_any is_end x ≡ false) (ok_is [] es (rw t at k)) refl)
+    (λ f. absurd (none (rw f at k)))
+  where
+    none : Err n ≡ Ok es → ⊥
+    none k = cc
+events_more n (line ∷ next ∷ more) es k = with_more n (event_of (words line)) (events_of (n + 1) (next ∷ more)) es (λ e a. event_more (words line) e a) (λ others b. events_more (n + 1) (next ∷ more) others b) k
+
+pub script_more : (text : List ℕ) (script : List Arrival) → script_of text ≡ Ok script → list_any is_end script ≡ false
+script_more text script k = events_more 1 (lines text) script k
+
+-- ---- which files were asked for
+
+-- a run that ends at one of three files ends by a failure, or by a file that is refused
+pub ended_by : (d f p : List ℕ) (files : Option (List (List ℕ × List ℕ))) (before now : ℕ) (r : Report) → EndsUnopened d f p files before now r → Failed before now r ⊎ (r.status ≡ 3)
+ended_by d f p files before now r (inl (inl e)) = inl (inl e.0)
+ended_by d f p files before now r (inl (inr (inl e))) = inl (inl e.0)
+ended_by d f p files before now r (inl (inr (inr (inl e)))) = inl (inr ((e.0).0, e.1))
+ended_by d f p files before now r (inl (inr (inr (inr (inl e))))) = inl (inr ((e.0).0, e.1))
+ended_by d f p files before now r (inl (inr (inr (inr (inr (inl e)))))) = inr (e.0).0
+ended_by d f p files before now r (inl (inr (inr (inr (inr (inr e)))))) = inr (e.0).0
+ended_by d f p files before now r (inr (inl e)) = inl (inr ((e.0).0, e.1))
+ended_by d f p files before now r (inr (inr e)) = inr (e.0).0
+
+-- where the script was not reached
+pub asks_three : (d f p s : List ℕ) (files : Option (List (List ℕ × List ℕ))) (old new : Option (List (List ℕ))) (before now : ℕ) (r : Report) → Failed before now r ⊎ (r.status ≡ 3) → AsksAll d f p files old new before now r → AsksFour d f p s files old new before now r
+asks_three d f p s files None new before now r why asks = tt
+asks_three d f p s files (Some o) None before now r why asks = asks
+asks_three d f p s files (Some o) (Some n) before now r why (inl e) = inr (inl (e, why))
+asks_three d f p s files (Some o) (Some n) before now r why (inr two) = inr (inr two)
+
+-- where the script was asked for
+pub asks_four : (d f p s : List ℕ) (files : Option (List (List ℕ × List ℕ))) (old mid new : Option (List (List ℕ))) (before now : ℕ) (r : Report) → IfSome old (λ o. IsSomeAnd mid (λ n. n ≡ o ++ d ∷ f ∷ p ∷ [])) → IfSome mid (λ o. IsSomeAnd new (λ n. n ≡ o ++ s ∷ [])) → AsksFour d f p s files old new before now r
+asks_four d f p s files None mid new before now r three four = tt
+asks_four d f p s files (Some o) None new before now r three four = absurd three
+asks_four d f p s files (Some o) (Some n) None before now r three four = four
+asks_four d f p s files (Some o) (Some n) (Some k) before now r three four = inl (four ∙ ap (λ (x : List (List ℕ)). x ++ s ∷ []) three ∙ assoc o)
+  where
+    assoc : (o : List (List ℕ)) → (o ++ d ∷ f ∷ p ∷ []) ++ s ∷ [] ≡ o ++ d ∷ f ∷ p ∷ s ∷ []
+    assoc [] = refl
+    assoc (x ∷ o) = ap (λ (y : List (List ℕ)). x ∷ y) (assoc o)
+
+-- where the run ended at the script
+pub asks_script : (d f p s : List ℕ) (files : Option (List (List ℕ × List ℕ))) (old mid new : Option (List (List ℕ))) (before now : ℕ) (r : Report) → IfSome old (λ o. IsSomeAnd mid (λ n. n ≡ o ++ d ∷ f ∷ p ∷ [])) → AsksOnce s mid new before now r → AsksFour d f p s files old new before now r
+asks_script d f p s files None mid new before now r three once = tt
+asks_script d f p s files (Some o) None new before now r three once = absurd three
+asks_script d f p s files (Some o) (Some n) None before now r three once = once
+asks_script d f p s files (Some o) (Some n) (Some k) before now r three (inl four) = asks_four d f p s files (Some o) (Some n) (Some k) before now r three four
+asks_script d f p s files (Some o) (Some n) (Some k) before now r three (inr same) = inr (inl (same.0 ∙ three, inl same.1))
+
+-- ---- why a play ends
+
+either : (a b : Bool) → b ≡ true → (a || b) ≡ true
+either true b k = refl
+either false b k = k
+
+ends_in : (es : List Arrival) → list_any is_end (es ++ End ∷ []) ≡ true
+ends_in [] = refl
+ends_in (x ∷ es) = either (is_end x) (list_any is_end (es ++ End ∷ [])) (ends_in es)
+
+-- behind the whole of a script the end was heard
+whole_ends : (events : List Arrival) (log : List LogEntry) (rest : List Arrival) → events ++ End ∷ [] ≡ events_in log ++ rest → has_end log ≡ false → length (events_in log) < length (events ++ End ∷ [])
+whole_ends events log rest e none = by_rest rest e
+  where
+    no_rest : (es : List Arrival) → es ++ [] ≡ es
+    no_rest [] = refl
+    no_rest (x ∷ es) = ap (λ (y : List Arrival). x ∷ y) (no_rest es)
+
+    more : (es : List Arrival) (x : Arrival) (xs : List Arrival) → length es < length (es ++ x ∷ xs)
+    more [] x xs = omega arith
+    more (y ∷ es) x xs = let on = more es x xs in omega (arith, on)
+
+    by_rest : (rest : List Arrival) → events ++ End ∷ [] ≡ events_in log ++ rest → length (events_in log) < length (events ++ End ∷ [])
+    by_rest [] e = absurd (false≢true (sym none ∙ ap (λ (es : List Arrival). list_any is_end es) (sym (e ∙ no_rest (events_in log))) ∙ ends_in events))
+    by_rest (x ∷ xs) e = subst (λ (es : List Arrival). length (events_in log) < length es) (sym e) (more (events_in log) x xs)
+
+-- where the end came, all of the script was given
+pub whole : (events es : List Arrival) (log : List LogEntry) (rest : List Arrival) → events ++ End ∷ [] ≡ events_in log ++ rest → list_any is_end events ≡ false → events_in log ≡ es ++ End ∷ [] → events_in log ≡ events ++ End ∷ []
+whole events es log rest e none ended = ended ∙ ap (λ (x : List Arrival). x ++ End ∷ []) (same es events (sym (append_assoc es (End ∷ []) rest) ∙ sym (e ∙ ap (λ (x : List Arrival). x ++ rest) ended)) none)
+  where
+    head_is : (x y : Arrival) (xs ys : List Arrival) → x ∷ xs ≡ y ∷ ys → x ≡ y
+    head_is x y xs ys k = cc
+
+    tail_is : (x y : Arrival) (xs ys : List Arrival) → x ∷ xs ≡ y ∷ ys → xs ≡ ys
+    tail_is x y xs ys k = cc
+
+    no_more : (es rest : List Arrival) → es ++ End ∷ rest ≡ [] → ⊥
+    no_more [] rest k = cc
+    no_more (x ∷ es) rest k = cc
+
+    left_off : (a b : Bool) → (a || b) ≡ false → a ≡ false
+    left_off false b k = refl
+    left_off true b k = k
+
+    right_off : (a b : Bool) → (a || b) ≡ false → b ≡ false
+    right_off false b k = k
+    right_off true b k = absurd (false≢true (sym k))
+
+    same : (es events : List Arrival) → es ++ End ∷ rest ≡ events ++ End ∷ [] → list_any is_end events ≡ false → es ≡ events
+    same [] [] k none = refl
+    same [] (x ∷ events) k none = absurd (false≢true (sym (left_off (is_end x) (list_any is_end events) none) ∙ ap is_end (sym (head_is End x rest (events ++ End ∷ []) k))))
+    same (y ∷ es) [] k none = absurd (no_more es rest (tail_is y End (es ++ End ∷ rest) [] k))
+    same (y ∷ es) (x ∷ events) k none = by (head_is y x (es ++ End ∷ rest) (events ++ End ∷ []) k) (same es events (tail_is y x (es ++ End ∷ rest) (events ++ End ∷ []) k) (right_off (is_end x) (list_any is_end events) none))
+      where
+        by : y ≡ x → es ≡ events → y ∷ es ≡ x ∷ events
+        by a b = rw (a, b) refl
+
+-- the wire fails only behind a send that failed
+pub unfailed : (w : Playing) (events : List Arrival) (end : Result (Unit {0}) ServeFault) → IsPlaying w → w.script ≡ events ++ End ∷ [] → w.spilled ≡ false → (end ≡ Err WireFailed → 0 < w.faults) → OnErr end (has_end w.log ≡ false) → has_torn w.log ≡ false → end ≡ Err WireFailed → ⊥
+unfailed w events end playing is quiet failed none sound e =
+    let begun = playing.events in
+    let less = whole_ends events w.log begun.0 (sym is ∙ begun.1) (subst (λ x. OnErr x (has_end w.log ≡ false)) e none) in
+    let zero = playing.steady sound quiet (subst (λ (es : List Arrival). length (events_in w.log) < length es) (sym is) less) in
+    omega (arith, failed e, zero)
+
+-- ---- what is written
+
+pub writes : (done : Result (Unit {0}) Fault) (end : Result (Unit {0}) ServeFault) (log : List LogEntry) (os : List Outcome) (written written' : Option (List ℕ)) (r : Report) → r.outcomes ≡ os → OnOk done (Appends written written' (render log)) → OnErr done (AppendsPrefix written written' (render log))
+    → OnOk done ((r.status ≡ played_status (has_torn log) end) × (r.text ≡ played_text (has_torn log) end os log)) → (is_err done ≡ true → (r.status ≡ 6) × (r.text ≡ codes "output failed\n")) → Writes end log written written' r
+writes (Ok u) end log os written written' r same grows part put unput = inl (put.0, put.1 ∙ ap (λ (o : List Outcome). played_text (has_torn log) end o log) (sym same), grows)
+writes (Err e) end log os written written' r same grows part put unput = inr ((unput refl).0, (unput refl).1, part)
+
+pub on_ok : {E : Type 0} {P : Type 0} (done : Result (Unit {0}) E) → P → OnOk done P
+on_ok (Ok u) p = p
+on_ok (Err e) p = tt
+
+-- the end of a play as a status
+
+pub finish : (torn : Bool) (end : Result (Unit {0}) ServeFault) (status : ℕ) → status ≡ played_status torn end → status ≢ 10 → (torn ≡ false → end ≡ Err WireFailed → ⊥) → (status ≡ 0) ⊎ (status ≡ 7)
+finish true end status is some none = absurd (some is)
+finish false (Ok u) status is some none = inl is
+finish false (Err WireFailed) status is some none = absurd (none refl refl)
+finish false (Err (Spent requests events)) status is some none = absurd (some is)
+
+not_eight : (torn : Bool) (end : Result (Unit {0}) ServeFault) → played_status torn end ≡ 8 → (torn ≡ false → end ≡ Err WireFailed → ⊥) → ⊥
+not_eight true end k none = omega (arith, k)
+not_eight false (Ok u) k none = omega (arith, k)
+not_eight false (Err WireFailed) k none = none refl refl
+not_eight false (Err (Spent requests events)) k none = omega (arith, k)
+
+pub no_wire_failed : (done : Result (Unit {0}) Fault) (torn : Bool) (end : Result (Unit {0}) ServeFault) (r : Report) (P Q : Type 0) → OnOk done ((r.status ≡ played_status torn end) × P) → (is_err done ≡ true → (r.status ≡ 6) × Q) → (torn ≡ false → end ≡ Err WireFailed → ⊥) → r.status ≡ 8 → ⊥
+no_wire_failed (Ok u) torn end r P Q put unput none is = not_eight torn end (sym put.0 ∙ is) none
+no_wire_failed (Err e) torn end r P Q put unput none is = let six = (unput refl).0 in omega (arith, six, is)
+
+pub finished : (done : Result (Unit {0}) Fault) (torn : Bool) (end : Result (Unit {0}) ServeFault) (r : Report) (P Q : Type 0) → OnOk done ((r.status ≡ played_status torn end) × P) → OnErr done Q → ¬ Q → r.status ≢ 10 → (torn ≡ false → end ≡ Err WireFailed → ⊥) → (r.status ≡ 0) ⊎ (r.status ≡ 7)
+finished (Ok u) torn end r P Q put err quiet some none = finish torn end r.status put.0 some none
+finished (Err e) torn end r P Q put err quiet some none = absurd (quiet err)
+
+-- what `Ends` says of a log that is told
+pub ends_none : (end : Result (Unit {0}) ServeFault) (os : List Outcome) (left : ℕ) (log : List LogEntry) → Ends end true os left log → OnErr end (has_end log ≡ false)
+ends_none (Ok u) os left log e = tt
+ends_none (Err fault) os left log e = e.1 refl
+
+pub ends_whole : (end : Result (Unit {0}) ServeFault) (u : Unit {0}) (os : List Outcome) (left : ℕ) (log : List LogEntry) → Ends end true os left log → end ≡ Ok u → (es : List Arrival) × (events_in log ≡ es ++ End ∷ [])
+ends_whole (Ok v) u os left log e k = let x = e.1 refl in (x.0, x.1)
+ends_whole (Err fault) u os left log e k = absurd (none k)
+  where
+    none : Err fault ≡ Ok u → ⊥
+    none k = cc
+
+-- a count that was 0 and rose
+pub rose_from : (before now : ℕ) → before ≡ 0 → Rose before now → 0 < now
+rose_from before now is rose = omega (arith, is, rose)
