@@ -1,6 +1,7 @@
 // `witness` and `twin`: what hides a cell, as changes or as a fact file.
 ghost use Rattle.std.specs.Prelude.{◌≡◌, ◌≢◌, ◌⊎◌, ◌≤◌, ◌+◌, ◌++◌, ℕ, List, Result, [], IsTrue, IfOk, IfErr, IsOk, Ok, codes};
 ghost use Rattle.cube_io.specs.Causes.{Rose};
+ghost use Rattle.cube_io.specs.Told.{OthersStay};
 ghost use Rattle.cube_engine.specs.Changes.{Refuses};
 ghost use Rattle.cube_words.specs.Words.{orders_of as orders_in};
 ghost use Rattle.cube_words.specs.declared.words.Command.TheVariants as orders;
@@ -94,6 +95,7 @@ fn tell_cell<F: Folder, S: Store, O: Sink>(
     ensures unkept { result.status ≡ 9 → Rose (S.faults store.old) (S.faults store.new) }
     ensures calls { IsTrue (S.told store.old) → S.calls store.new ≤ S.calls store.old + 7 }
     ensures told { S.told store.new ≡ S.told store.old }
+    ensures others { OthersStay (S.told store.old) 0 (S.logs store.old) (S.logs store.new) }
     ensures unreadable { result.status ≡ 5 → Rose (F.faults files.old) (F.faults files.new) }
     ensures output { result.status ≡ 6 → Rose (O.faults out.old) (O.faults out.new) }
     ensures steady { result.status ≢ 5 → F.faults files.new ≡ F.faults files.old }
@@ -133,6 +135,7 @@ pub fn tell<F: Folder, S: Store, O: Sink>(
     requires named { (command ≡ orders.Witness) ⊎ (command ≡ orders.Twin) }
     ensures run { CellRun is_twin (dims_name words.now) (facts_name words.now) (policy_name words.now) (journal_name words.now) (cell_name words.now) (F.files files.old) (F.asked files.old) (F.asked files.new) (F.faults files.old) (F.faults files.new)
         (S.told store.old) (S.names store.old) (S.names store.new) (S.calls store.old) (S.calls store.new) (S.logs store.old 0) (S.logs store.new 0) (S.faults store.old) (S.faults store.new) (O.written out.old) (O.written out.new) (O.faults out.old) (O.faults out.new) store.old store.new out.old out.new result }
+    ensures others { OthersStay (S.told store.old) 0 (S.logs store.old) (S.logs store.new) }
     ensures unkept { result.status ≡ 9 → Rose (S.faults store.old) (S.faults store.new) }
     ensures unreadable { result.status ≡ 5 → Rose (F.faults files.old) (F.faults files.new) }
     ensures output { result.status ≡ 6 → Rose (O.faults out.old) (O.faults out.new) }

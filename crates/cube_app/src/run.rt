@@ -1,6 +1,7 @@
 // The top call: all that the program does.
 ghost use Rattle.std.specs.Prelude.{◌≡◌, ◌≢◌, ◌⊎◌, ◌≤◌, ◌+◌, ◌++◌, [], true, false, length, decimal, codes, Some, IfErr, IsErr, IfOk, IsTrue, Ok};
 ghost use Rattle.cube_io.specs.Causes.{Rose};
+ghost use Rattle.cube_io.specs.Told.{OthersStay};
 ghost use Rattle.cube_words.specs.Words.{orders_of as orders_in, stated as stated_in, number_of as number_in, size_of as size_in};
 ghost use Rattle.cube_opening.specs.Reports.{IsReport, NoRoom, Prints};
 ghost use Rattle.cube_opening.specs.Opening.{flat_said, Unopened, AsksOnce, EndsUnopened, AsksAll, HasAll};
@@ -209,6 +210,7 @@ fn ask<F: Folder, S: Store, I: Source, O: Sink>(
     ensures unkept { result.status ≡ 9 → Rose (S.faults store.old) (S.faults store.new) × (result.outcomes ≡ []) }
     ensures calls { result.status ≡ 9 → IsTrue (S.told store.old) → S.calls store.new ≤ S.calls store.old + 7 }
     ensures told { S.told store.new ≡ S.told store.old }
+    ensures others { OthersStay (S.told store.old) 0 (S.logs store.old) (S.logs store.new) }
     ensures ended { result.status ≡ 0 → I.ended input.new ≡ true }
     ensures unreadable { result.status ≡ 5 → (Rose (F.faults files.old) (F.faults files.new) × (I.faults input.new ≡ I.faults input.old)) ⊎ (Rose (I.faults input.old) (I.faults input.new) × (F.faults files.new ≡ F.faults files.old)) }
     ensures output { result.status ≡ 6 → Rose (O.faults out.old) (O.faults out.new) }
@@ -323,6 +325,7 @@ fn obey<F: Folder, S: Store, I: Source, O: Sink, W: Wire>(
     ensures unused { command ≢ orders.Sum → command ≢ orders.Check → command ≢ orders.Ask → command ≢ orders.Witness → command ≢ orders.Twin → command ≢ orders.Serve → command ≢ orders.Replay → files.new ≡ files.old }
     ensures words { result.status ≢ 2 }
     ensures store { command ≢ orders.Ask → command ≢ orders.Witness → command ≢ orders.Twin → command ≢ orders.Serve → command ≢ orders.Replay → store.new ≡ store.old }
+    ensures others { OthersStay (S.told store.old) 0 (S.logs store.old) (S.logs store.new) }
     ensures outcomes { command ≢ orders.Ask → command ≢ orders.Serve → command ≢ orders.Replay → result.outcomes ≡ [] }
     ensures wire { command ≢ orders.Serve → wire.new ≡ wire.old }
     ensures unheard { result.status ≡ 8 → Rose (W.faults wire.old) (W.faults wire.new) }
@@ -447,6 +450,7 @@ pub fn run<F: Folder, S: Store, I: Source, O: Sink, W: Wire>(
     ensures unread { orders_in words.now ≢ Ok orders.Sum → orders_in words.now ≢ Ok orders.Ask → input.new ≡ input.old }
     ensures unused { orders_in words.now ≢ Ok orders.Sum → orders_in words.now ≢ Ok orders.Check → orders_in words.now ≢ Ok orders.Ask → orders_in words.now ≢ Ok orders.Witness → orders_in words.now ≢ Ok orders.Twin → orders_in words.now ≢ Ok orders.Serve → orders_in words.now ≢ Ok orders.Replay → files.new ≡ files.old }
     ensures store { orders_in words.now ≢ Ok orders.Ask → orders_in words.now ≢ Ok orders.Witness → orders_in words.now ≢ Ok orders.Twin → orders_in words.now ≢ Ok orders.Serve → orders_in words.now ≢ Ok orders.Replay → store.new ≡ store.old }
+    ensures others { OthersStay (S.told store.old) 0 (S.logs store.old) (S.logs store.new) }
     ensures wire { orders_in words.now ≢ Ok orders.Serve → wire.new ≡ wire.old }
     ensures unheard { result.status ≡ 8 → Rose (W.faults wire.old) (W.faults wire.new) }
     ensures wire_steady { result.status ≢ 8 → W.faults wire.new ≡ W.faults wire.old }

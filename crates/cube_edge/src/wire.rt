@@ -5,7 +5,7 @@ ghost use Rattle.cube_io.specs.Wires.{FitsBuffer, no_plan};
 use cube_io::{Event, Failed, Wire};
 use cube_model::Text;
 use std::io::{Read, Write};
-use std::net::{Net, OpenListener, TcpListener};
+use std::net::{Net, OpenListener, OpenStream, TcpListener};
 use std::str;
 
 /// The number of every connection.
@@ -62,7 +62,11 @@ fn bind<R: Net>(rt: &R, address: &Text) -> Result<R::Listener, Failed> {
 fn accept<R: Net>(listener: &Option<R::Listener>) -> Result<R::Stream, Failed> {
     match listener {
         Some(listener) => match listener.accept() {
-            Ok((stream, _)) => Ok(stream),
+            Ok((stream, _)) => {
+                // The head and the body of a reply are two sends: the second must not wait until the first is acknowledged.
+                let _ = stream.set_nodelay(true);
+                Ok(stream)
+            }
             Err(_) => Err(Failed),
         },
         None => Err(Failed),

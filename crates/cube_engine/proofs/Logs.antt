@@ -24,7 +24,9 @@ use Rattle.cube_model.specs.Verdicts.{verdict, judged, judged_what, taken, taken
 use Rattle.cube_admit.specs.States.{State as Standing, waiting, whole, entry_of}
 use Rattle.cube_admit.specs.declared.held.Pending.{Pending}
 use Rattle.std.specs.Option.{option_map}
+use Rattle.cube_io.specs.Desks.{ForeignStay}
 use Rattle.cube_io.specs.States.{State, Log, Gained, IsImage, settled}
+use Rattle.cube_io.specs.Told.{OthersStay}
 use Rattle.cube_io.proofs.Trails.{gained_map}
 use Rattle.cube_journal.specs.Digests.{is_digest}
 use Rattle.cube_journal.specs.Keeping.{Journal, Fits, KeepsSafe, IsInKeep, IsInRecovery}
@@ -43,6 +45,7 @@ use Rattle.cube_engine.specs.declared.fault.EngineFault.{EngineFault}
 use Rattle.cube_engine.specs.declared.fault.EngineFault.TheVariants.{Inadmissible, NoMemory}
 use Rattle.cube_engine.specs.Kept.{digest_for, written, first_entry, by_left, judged_in, history_of, IsExact, RecoversWithin, IsWithin, MayEnter, IsTail, IsKept}
 use Rattle.cube_engine.specs.Opening.{of_open, IsStartFault}
+use Rattle.cube_engine.specs.Worlds.{first_history}
 use Rattle.cube_engine.proofs.Named.{valid_under}
 
 -- ---- entries judged one behind another
@@ -296,6 +299,15 @@ waiting_whole s r e = go s.pending e
     go (Some p) e = ap (λ (o : Option Request). s.history ++ entry_from o) e
 
 -- ---- the log of a desk
+
+-- at this state a crash leaves nothing
+nowhere : State
+nowhere = record { now = []; safe = []; tails = [] }
+
+-- a log of which nothing is said is another one
+pub log_others : (c : Core) (p : Policy) (told : Bool) (own : ℕ) (old new : ℕ → Log) → OthersStay told own old new → ForeignStay told (λ rooms log s. (log ≡ own) × IsWithin c p (first_history rooms) s) old new
+unfolding nowhere
+log_others c p told own old new stay tells log foreign = stay tells log (λ is. foreign [] nowhere (is, λ b image. absurd image.is_tail))
 
 pub log_crash : (c : Core) (p : Policy) (h k : List Entry) (old new : ℕ → Log) (own log : ℕ) → log ≡ own → Gained (IsWithin c p h) (old own) (new own) → Gained (λ s. ((log ≡ own) × IsWithin c p h s) ⊎ ((log ≡ own) × IsWithin c p k s)) (old log) (new log)
 log_crash c p h k old new own log is gained =

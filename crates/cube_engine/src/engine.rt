@@ -294,6 +294,7 @@ impl Engine {
         ensures told { S.told store.new ≡ S.told store.old }
         ensures names { IsTrue (S.told store.old) → S.names store.new ≡ S.names store.old }
         ensures stays { IsTrue (S.attached store.new) }
+        ensures others { OthersStay (S.told store.old) self.old.journal.log (S.logs store.old) (S.logs store.new) }
         ensures untouched { next_in self.old.core.dims (rooms_of self.old) ask.now outcome.Given ≡ rooms_of self.old → store.new ≡ store.old }
         ensures kept { IsTrue (S.told store.old) → IsKept self.old.core self.old.policy self.new.history self.new.journal (S.logs store.new self.old.journal.log).state }
         ensures exact { IsTrue (S.told store.old) → self.new.outcomes ≢ self.old.outcomes ++ outcome.JournalFault ∷ [] → IsExact self.old.core self.old.policy self.old.history (S.logs store.old self.old.journal.log).state → IsExact self.old.core self.old.policy self.new.history (S.logs store.new self.old.journal.log).state }

@@ -1,6 +1,8 @@
 // Engines over small cubes under a policy, asked through their desk.
 ghost use Rattle.std.specs.Prelude.{IsTrue, IfOk};
 
+mod images;
+
 use crate::Engine;
 use cube_core::Core;
 use cube_dims::read_dims;

@@ -5,7 +5,7 @@ ghost use Rattle.cube_model.specs.declared.outcome.Outcome.{Outcome};
 ghost use Rattle.cube_model.specs.declared.outcome.Outcome.TheVariants as outcome;
 ghost use Rattle.cube_model.specs.declared.reply.Fixed.TheVariants as constant;
 ghost use Rattle.cube_model.specs.declared.reply.Reply.TheVariants as reply;
-ghost use Rattle.cube_io.specs.Desks.{Manner, IsConstant, Answered};
+ghost use Rattle.cube_io.specs.Desks.{Manner, IsConstant, Answered, ForeignStay};
 ghost use Rattle.cube_io.specs.States.{State, Gained};
 
 use crate::Store;
@@ -33,6 +33,7 @@ pub trait Desk<S: Store> {
     ghost exact: { Self → List Room → ℕ → State → Type 0 };
 
     /// Whatever a crash leaves of this log at this state, it recovers the history of its room, alone or with one more request.
+    /// Of a log that keeps no room's history it never holds.
     ghost within: { Self → List Room → ℕ → State → Type 0 };
 
     /// Answers an ask, and keeps it first where it adds to a history.
@@ -48,6 +49,9 @@ pub trait Desk<S: Store> {
 
         // An ask that adds to no history leaves the store alone.
         ensures untouched { (manner self.old).next (rooms self.old) ask.now outcome.Given ≡ rooms self.old → store.new ≡ store.old }
+
+        // No log is written but those that keep the rooms' histories.
+        ensures others { ForeignStay (S.told store.old) (within self.old) (S.logs store.old) (S.logs store.new) }
 
         // What a crash leaves at each state that is passed, and at the end.
         ensures exact_stays { (rooms : List Room) (log : ℕ) (state : State) → exact self.new rooms log state ↔ exact self.old rooms log state }

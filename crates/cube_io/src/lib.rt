@@ -25,6 +25,7 @@ pub use folder::{FileFault, Folder, MAX_FILE, MemFolder};
 pub use mem_store::{Failing, MemStore, Reach};
 pub use mem_wire::{FailingSend, MemWire, Play};
 pub use null::{NullSink, NullStore, NullWire};
+pub use record::{Call, Change, Record, Target};
 pub use scroll::{Note, Scroll};
 pub use sink::{MemSink, Sink};
 pub use source::{MemSource, Source};

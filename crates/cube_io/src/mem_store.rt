@@ -64,6 +64,16 @@ impl MemStore {
     }
 }
 
+impl MemStore {
+    /// What it remembers of its calls. The states that its logs have passed follow from that.
+    pub fn record(&self) -> &Record
+        ensures names { ⟦<MemStore as Store>⟧.names self.now ≡ names_in result.now }
+        ensures calls { ⟦<MemStore as Store>⟧.calls self.now ≡ length result.now }
+    {
+        &self.record
+    }
+}
+
 /// How far the call with a number goes before it fails, if it is to fail.
 fn reach_of(failing: &[Failing], call: usize) -> Option<Reach> {
     let found = failing.iter().find(|failing| failing.call == call as u64)?;

@@ -155,6 +155,13 @@ impl Record {
         self.calls.len()
     }
 
+    /// The calls, and the buffer in which their bytes stand.
+    pub fn parts(&self) -> (&[Call], &[u8])
+        ensures { map (deed result.1.now) result.0.now ≡ self.now }
+    {
+        (&self.calls, &self.bytes)
+    }
+
     /// Remembers a call that brought no bytes.
     pub fn note(&mut self, change: Change) -> Result<(), Full>
         ensures ok { OnOk result (self.new ≡ self.old ++ Did change ∷ []) }

@@ -7,7 +7,7 @@ use Rattle.cube_model.specs.declared.outcome.Outcome.{Outcome}
 use Rattle.cube_model.specs.declared.outcome.Outcome.TheVariants.{Given, JournalFault, NoMemory}
 use Rattle.cube_model.specs.declared.reply.Reply.{Reply}
 use Rattle.cube_model.specs.Rooms.{Room}
-use Rattle.cube_io.specs.Desks.{Manner, Answered}
+use Rattle.cube_io.specs.Desks.{Manner, Answered, ForeignStay}
 use Rattle.cube_io.specs.States.{State, Log, Gained}
 use Rattle.cube_io.proofs.Trails.{gained_none, gained_then, gained_map}
 use Rattle.cube_server.specs.Logs.{Call}
@@ -40,6 +40,7 @@ endures_none m w x told logs rooms outs faults = record {
   passed = λ t k h. gained_none _ (logs k) (logs k) refl;
   stays_within = λ t k h. h;
   stays_exact = λ n t k h. h;
+  others = λ t k no. refl;
   more = omega arith;
   later = omega arith;
   steady = λ n. refl;
@@ -71,6 +72,7 @@ endures_then m w w' w'' x x' x'' t t' t'' l l' l'' a b c o p q i j n f g =
       stays_within = λ h k e. g.stays_within (rw f.told h) k (f.stays_within h k e);
       stays_exact = λ same h k e. let first : faults_in p ≡ faults_in o = omega (arith, same, fewer, few) in let second : faults_in q ≡ faults_in p = omega (arith, same, fewer, few) in
           g.stays_exact second (rw f.told h) k (f.stays_exact first h k e);
+      others = λ h k no. g.others (rw f.told h) k (λ r s y. no r s ((f.within_stays r k s).0 y)) ∙ f.others h k no;
       more = omega (arith, fewer, few);
       later = omega (arith, f.later, g.later);
       steady = λ same. let first : faults_in p ≡ faults_in o = omega (arith, same, fewer, few) in let second : faults_in q ≡ faults_in p = omega (arith, same, fewer, few) in g.steady second ∙ f.steady first;
@@ -103,6 +105,7 @@ pub record OneAnswer (m : Manner) (ask : Ask) (reply : Reply) (w w' x x' : List 
   pub passed : IsTrue t → (log : ℕ) → w a log (l log).state → Gained (λ state. w a log state ⊎ w b log state) (l log) (l' log)
   pub within : IsTrue t → (log : ℕ) → w a log (l log).state → w' b log (l' log).state
   pub exact : p ≢ o ++ JournalFault ∷ [] → IsTrue t → (log : ℕ) → x a log (l log).state → x' b log (l' log).state
+  pub others : ForeignStay t w l l'
 
 pub endures_answer : (m : Manner) (ask : Ask) (reply : Reply) (w w' x x' : List Room → ℕ → State → Type 0) (t t' : Bool) (l l' : ℕ → Log) (a b : List Room) (o p : List Outcome) (i j : ℕ) → OneAnswer m ask reply w w' x x' t t' l l' a b o p i j
     → Endures m w w' x x' t t' l l' a b o p i j
@@ -139,6 +142,7 @@ endures_answer m ask reply w w' x x' t t' l l' a b o p i j one = by (is_or_not o
           passed = gone;
           stays_within = one.within;
           stays_exact = λ same. absurd (omega (arith, same, c));
+          others = one.others;
           more = omega (arith, c);
           later = one.answered.later;
           steady = λ same. absurd (omega (arith, same, c));
@@ -155,6 +159,7 @@ endures_answer m ask reply w w' x x' t t' l l' a b o p i j one = by (is_or_not o
           passed = gone;
           stays_within = one.within;
           stays_exact = λ e. one.exact (not_fault out o p other one.answered.added);
+          others = one.others;
           more = omega (arith, c);
           later = one.answered.later;
           steady = λ e. same;
@@ -174,6 +179,7 @@ endures_miss m w w' x x' t l a b o p i same added ws xs =
       passed = λ h k e. gained_none _ (l k) (l k) refl;
       stays_within = λ h k e. (ws a k (l k).state).1 e;
       stays_exact = λ n h k e. (xs a k (l k).state).1 e;
+      others = λ h k no. refl;
       more = omega (arith, c);
       later = omega arith;
       steady = λ n. refl;

@@ -3,7 +3,7 @@ use Rattle.std.specs.Prelude.{◌≡◌, ◌↔◌, ℕ, ◌+◌, ◌-◌, ◌^�
 use Rattle.cube_model.specs.declared.outcome.Outcome.{Outcome}
 use Rattle.cube_model.specs.declared.outcome.Outcome.TheVariants.{Given, JournalFault, NoMemory}
 use Rattle.cube_model.specs.Rooms.{Room}
-use Rattle.cube_io.specs.Desks.{Manner}
+use Rattle.cube_io.specs.Desks.{Manner, ForeignStay}
 use Rattle.cube_io.specs.States.{State, Log, Gained}
 use Rattle.cube_server.specs.Logs.{Call}
 
@@ -34,7 +34,7 @@ faults_in outcomes = count_by is_fault outcomes
 
 -- What asks do to a store. Where `within` held of the rooms at entry, it holds at each state that a log gains of the rooms that some
 -- of the asks leave, and at exit of the last rooms. Where `exact` held and the journal failed in no ask, it holds at exit. The count of
--- the store's faults rose for each ask in which the journal failed, and for no other.
+-- the store's faults rose for each ask in which the journal failed, and for no other. Logs that keep no room's history stayed.
 pub record Endures (m : Manner) (within within' exact exact' : List Room → ℕ → State → Type 0) (tells tells' : Bool) (logs logs' : ℕ → Log) (rooms rooms' : List Room) (outs outs' : List Outcome) (faults faults' : ℕ) : Type 0 where
   pub told : tells' ≡ tells
   pub reached : Reaches m rooms rooms'
@@ -43,6 +43,7 @@ pub record Endures (m : Manner) (within within' exact exact' : List Room → ℕ
   pub passed : IsTrue tells → (log : ℕ) → within rooms log (logs log).state → Gained (OnTheWay m within rooms rooms' log) (logs log) (logs' log)
   pub stays_within : IsTrue tells → (log : ℕ) → within rooms log (logs log).state → within' rooms' log (logs' log).state
   pub stays_exact : faults_in outs' ≡ faults_in outs → IsTrue tells → (log : ℕ) → exact rooms log (logs log).state → exact' rooms' log (logs' log).state
+  pub others : ForeignStay tells within logs logs'
   pub more : faults_in outs ≤ faults_in outs'
   pub later : faults ≤ faults'
   pub steady : faults_in outs' ≡ faults_in outs → faults' ≡ faults

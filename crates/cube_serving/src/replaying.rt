@@ -3,6 +3,7 @@ ghost use Rattle.std.specs.Prelude.{◌≡◌, ◌≢◌, ◌⊎◌, ◌≤◌, 
 ghost use Rattle.std.specs.List.{list_any};
 ghost use Rattle.cube_io.specs.Causes.{Rose};
 ghost use Rattle.cube_io.specs.Files.{max_file};
+ghost use Rattle.cube_io.specs.Told.{OthersStay};
 ghost use Rattle.cube_io.specs.Wires.{Arrival};
 ghost use Rattle.cube_opening.specs.Opening.{Says, Unopened, EndsUnopened, AsksOnce, HasAll};
 ghost use Rattle.cube_opening.specs.Reports.{IsReport};
@@ -122,6 +123,7 @@ pub fn replay_cube<F: Folder, S: Store, O: Sink>(
         ⊎ (Replayed dims_name.now facts_name.now policy_name.now script_name.now stated (F.files files.old) (S.told store.old) (S.logs store.old 0) (S.logs store.new 0) (S.faults store.old) (S.faults store.new) (O.written out.old) (O.written out.new) result × (F.faults files.new ≡ F.faults files.old)) }
     ensures asks { AsksFour dims_name.now facts_name.now policy_name.now script_name.now (F.files files.old) (F.asked files.old) (F.asked files.new) (F.faults files.old) (F.faults files.new) result }
     ensures names { (store.new ≡ store.old) ⊎ AsksStore journal_name.now (S.told store.old) (S.names store.old) (S.names store.new) result }
+    ensures others { OthersStay (S.told store.old) 0 (S.logs store.old) (S.logs store.new) }
     ensures unkept { result.status ≡ 9 → Rose (S.faults store.old) (S.faults store.new) × (result.outcomes ≡ []) }
     ensures told { S.told store.new ≡ S.told store.old }
     ensures unreadable { result.status ≡ 5 → Rose (F.faults files.old) (F.faults files.new) }

@@ -2,6 +2,7 @@
 ghost use Rattle.std.specs.Prelude.{◌≡◌, ◌≢◌, ◌⊎◌, ◌≤◌, ◌+◌, ◌++◌, ◌∷◌, [], length, IsTrue, Err};
 ghost use Rattle.cube_io.specs.Causes.{Rose};
 ghost use Rattle.cube_io.specs.States.{Log, Gained};
+ghost use Rattle.cube_io.specs.Told.{OthersStay};
 ghost use Rattle.cube_journal.specs.Keeping.{IsInRecovery};
 ghost use Rattle.cube_engine.specs.Kept.{history_of, IsKept, IsExact};
 ghost use Rattle.cube_opening.specs.Opening.{EndsUnopened, AsksAll, HasAll};
@@ -41,6 +42,7 @@ pub(crate) fn serve_engine<S: Store, W: Wire>(
     ensures survived { IsTrue (S.told store.old) → IsExact engine.old.core engine.old.policy engine.old.history (S.logs store.old 0).state
         → (opened : Log) → Gained (IsInRecovery (history_of engine.old.core engine.old.policy) opened.state) opened (S.logs store.old 0)
         → Survived engine.old.core engine.old.policy engine.old.history engine.new.history engine.new.outcomes opened (S.logs store.new 0) }
+    ensures others { OthersStay (S.told store.old) 0 (S.logs store.old) (S.logs store.new) }
     ensures calm { ¬ Rose (S.faults store.old) (S.faults store.new) → NoneFailed engine.new.outcomes }
     ensures failed { result ≡ Err fault.WireFailed → Rose (W.faults wire.old) (W.faults wire.new) }
     ensures steady { result ≢ Err fault.WireFailed → W.faults wire.new ≡ W.faults wire.old }
@@ -94,6 +96,7 @@ pub fn serve_cube<F: Folder, S: Store, W: Wire>(
     ensures asks { AsksAll dims_name.now facts_name.now policy_name.now (F.files files.old) (F.asked files.old) (F.asked files.new) (F.faults files.old) (F.faults files.new) result }
     ensures names { (store.new ≡ store.old) ⊎ AsksStore journal_name.now (S.told store.old) (S.names store.old) (S.names store.new) result }
     ensures heard { (wire.new ≡ wire.old) ⊎ Hears address.now (W.told wire.old) (W.heard wire.old) (W.heard wire.new) result }
+    ensures others { OthersStay (S.told store.old) 0 (S.logs store.old) (S.logs store.new) }
     ensures unkept { result.status ≡ 9 → Rose (S.faults store.old) (S.faults store.new) × (result.outcomes ≡ []) }
     ensures told { S.told store.new ≡ S.told store.old }
     ensures wire_told { W.told wire.new ≡ W.told wire.old }

@@ -49,6 +49,18 @@ const AREAS_REFUSED: &[u8] =
 const BUSY: &[u8] =
     b"sent 1 116\nHTTP/1.1 503 Service Unavailable\r\nContent-Type: text/plain; charset=utf-8\r\nContent-Length: 21\r\nConnection: close\r\n\r\n\nsent 1 21\ntoo many connections\n\nshut 1\n";
 
+// What curl asks, what it gets, and how serving it ends.
+const CURL: &[u8] =
+    b"GET /v1/query?q=slice%20pay%20by%20region.area HTTP/1.1\r\nHost: 127.0.0.1:8080\r\nUser-Agent: curl/8.5.0\r\nAccept: */*\r\n\r\n";
+
+const CURL_GOT: &[u8] =
+    b"HTTP/1.1 200 OK\r\nContent-Type: text/csv; charset=utf-8\r\nContent-Length: 34\r\n\r\nregion.area,pay\nSouth,60\nNorth,90\n";
+
+const SPENT: ServeFault = ServeFault::Spent {
+    requests: 1,
+    events: 2,
+};
+
 // A line of a script.
 #[derive(Clone, Copy)]
 enum Line<'a> {
@@ -308,7 +320,8 @@ fn a_wrong_line_is_named_and_nothing_is_played(rt: HostRuntime) -> Result<(), Fa
 
 // An engine over the worked cube that answers one ask.
 fn engine_of(alloc: Global, store: &mut NullStore) -> Result<Engine, Fail>
-    ensures { IfOk result (λ engine. IsTrue (⟦<NullStore as Store>⟧.attached store.new) × (engine.journal.log ≡ 0) × (engine.outcomes ≡ []) × (engine.left ≡ 1)) }
+    ensures attached { IfOk result (λ engine. IsTrue (⟦<NullStore as Store>⟧.attached store.new)) }
+    ensures engine { IfOk result (λ engine. (engine.journal.log ≡ 0) × (engine.outcomes ≡ []) × (engine.left ≡ 1)) }
 {
     let mut folder = folder_of(alloc, b"")?;
     let opened = match open_guarded(
@@ -330,34 +343,29 @@ fn engine_of(alloc: Global, store: &mut NullStore) -> Result<Engine, Fail>
     }
 }
 
-#[test]
-fn a_client_is_answered(rt: HostRuntime) -> Result<(), Fail> {
-    let alloc = rt.alloc();
+// Serves a wire until one ask is answered.
+fn serve_one<W: Wire>(alloc: Global, wire: &mut W) -> Result<Result<(), ServeFault>, Fail>
+    requires { IsTrue (W.told wire.old) → W.log wire.old ≡ [] }
+{
     let mut store = NullStore::new();
     let mut engine = engine_of(alloc, &mut store)?;
     let mut pool = Pool::new(alloc)?;
+    Ok(serve_engine(alloc, &mut engine, &mut store, wire, &mut pool))
+}
+
+#[test]
+fn a_client_is_answered(rt: HostRuntime) -> Result<(), Fail> {
     let mut notes = [0u8; 64];
     let mut wire = TcpWire::new(&rt, notes.as_mut_slice());
-    let address = Text::from_bytes(alloc, b"127.0.0.1:0")?;
+    let address = Text::from_bytes(rt.alloc(), b"127.0.0.1:0")?;
     assert!(rt; wire.listen(&address).is_ok());
     let port = wire.port().ok_or("no port")?;
     let mut client = TcpStream::connect(&rt, SocketAddr::from(([127, 0, 0, 1], port)))?;
-    client.write_all(
-        b"GET /v1/query?q=slice%20pay%20by%20region.area HTTP/1.1\r\nHost: 127.0.0.1:8080\r\nUser-Agent: curl/8.5.0\r\nAccept: */*\r\n\r\n",
-    )?;
-    let end = serve_engine(alloc, &mut engine, &mut store, &mut wire, &mut pool);
-    assert_eq!(rt;
-        end,
-        Err(ServeFault::Spent {
-            requests: 1,
-            events: 2
-        })
-    );
+    client.write_all(CURL)?;
+    let end = serve_one(rt.alloc(), &mut wire)?;
+    assert_eq!(rt; end, Err(SPENT));
     let mut got = [0u8; 112];
     client.read_exact(&mut got)?;
-    assert_eq!(rt;
-        got.as_slice(),
-        b"HTTP/1.1 200 OK\r\nContent-Type: text/csv; charset=utf-8\r\nContent-Length: 34\r\n\r\nregion.area,pay\nSouth,60\nNorth,90\n".as_slice()
-    );
+    assert_eq!(rt; got.as_slice(), CURL_GOT);
     Ok(())
 }

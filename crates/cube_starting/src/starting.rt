@@ -2,6 +2,7 @@
 ghost use Rattle.std.specs.Prelude.{◌≡◌, ◌⊎◌, ◌≤◌, ◌+◌, ◌++◌, ◌∷◌, decimal, length, [], IsTrue, IfOk, IfErr, OnOk, Ok, codes};
 ghost use Rattle.cube_model.specs.Policies.{IsPolicy};
 ghost use Rattle.cube_io.specs.States.{Gained};
+ghost use Rattle.cube_io.specs.Told.{OthersStay};
 ghost use Rattle.cube_journal.specs.Keeping.{IsInRecovery};
 ghost use Rattle.cube_engine.specs.Engines.{book_of};
 ghost use Rattle.cube_engine.specs.Kept.{history_of, IsKept, IsExact};
@@ -92,6 +93,7 @@ pub fn open_engine<S: Store>(
     ensures told { S.told store.new ≡ S.told store.old }
     ensures names { OnOk result (IsTrue (S.told store.old) → S.names store.new ≡ S.names store.old ++ name.now ∷ []) }
     ensures names_err { IfErr result (λ r. AsksStore name.now (S.told store.old) (S.names store.old) (S.names store.new) r) }
+    ensures others { OthersStay (S.told store.old) 0 (S.logs store.old) (S.logs store.new) }
     ensures calls { IsTrue (S.told store.old) → S.calls store.new ≤ S.calls store.old + 7 }
 {
     match store.attach(name) {

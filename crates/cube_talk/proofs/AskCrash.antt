@@ -1,7 +1,7 @@
 -- What is said to one line, and what a crash leaves meanwhile.
 use Rattle.std.proofs.Common.{◌≡◌, ◌≢◌, ◌⊎◌, ◌≤◌, ◌<◌, ℕ, ◌+◌, Bool, IsTrue, false, List, [], ◌∷◌, ◌++◌, drop, length, refl, sym, ap, subst, ◌∙◌, append-nil, arith, inl, inr}
 use Rattle.std.proofs.lemmas.Bool.Decides.{nat_tests}
-use Rattle.cube_io.specs.Desks.{Manner, IsConstant, Answered}
+use Rattle.cube_io.specs.Desks.{Manner, IsConstant, Answered, ForeignStay}
 use Rattle.cube_io.specs.States.{State, Log, Gained}
 use Rattle.cube_io.proofs.Trails.{gained_none, gained_map}
 use Rattle.cube_model.specs.declared.outcome.Outcome.{Outcome}
@@ -26,6 +26,7 @@ too_long_survives m rooms exact within told names logs ls = record {
   passed = λ t log w. gained_none (IsPassed m rooms ls [] within log) (logs log) (logs log) refl;
   ends_within = λ t log w. w;
   ends_exact = λ t none log e. e;
+  others = λ t log no. refl;
 }
 
 pub too_long_serves : (m : Manner) (rooms : List Room) (os : List Outcome) (room faults : ℕ) (exact within : List Room → ℕ → State → Type 0) (told : Bool) (names : List (List ℕ)) (logs : ℕ → Log) (line : List ℕ) → 65536 < length line → 1 ≤ room
@@ -66,9 +67,10 @@ pub one_serves : (m m' : Manner) (rooms rooms' : List Room) (os os' : List Outco
     → (IsTrue told → (log : ℕ) → within rooms log (logs log).state → Gained (λ s. within rooms log s ⊎ within rooms' log s) (logs log) (logs' log))
     → (IsTrue told → (log : ℕ) → within rooms log (logs log).state → within' rooms' log (logs' log).state)
     → (os' ≢ os ++ JournalFault ∷ [] → IsTrue told → (log : ℕ) → exact rooms log (logs log).state → exact' rooms' log (logs' log).state)
+    → ForeignStay told within logs logs'
     → Serves m m' rooms rooms' os os' room room' faults faults' exact exact' within within' told told' names names' logs logs' (line ∷ []) (reply_text reply)
 unfolding answered_one
-one_serves m m' rooms rooms' os os' room room' faults faults' exact exact' within within' told told' names names' logs logs' line reply short same some left a tells named exactly wholly passed ends only =
+one_serves m m' rooms rooms' os os' room room' faults faults' exact exact' within within' told told' names names' logs logs' line reply short same some left a tells named exactly wholly passed ends only others =
     let answers = answered_one m m' rooms rooms' os os' room room' faults faults' line reply short same some left a in (
       answers,
       record {
@@ -79,6 +81,7 @@ one_serves m m' rooms rooms' os os' room room' faults faults' exact exact' withi
         passed = λ t log w. gained_map (λ s. within rooms log s ⊎ within rooms' log s) (IsPassed m rooms (line ∷ []) (a.outcome ∷ []) within log) (logs log) (logs' log) (λ s x. by_side log s x) (passed t log w);
         ends_within = ends;
         ends_exact = λ t none log e. only (λ bad. none.0 (last_is os a.outcome JournalFault (sym a.added ∙ bad))) t log e;
+        others = others;
       },
     )
   where
@@ -111,3 +114,4 @@ missed_serves m m' rooms rooms' os os' room room' faults exact exact' within wit
     (λ t log w. gained_none (λ s. within rooms log s ⊎ within rooms' log s) (logs log) (logs log) refl)
     (λ t log w. (wholly rooms' log (logs log).state).1 (subst (λ (rs : List Room). within rs log (logs log).state) (sym stays) w))
     (λ none t log e. (exactly rooms' log (logs log).state).1 (subst (λ (rs : List Room). exact rs log (logs log).state) (sym stays) e))
+    (λ t log no. refl)

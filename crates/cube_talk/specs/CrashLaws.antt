@@ -102,6 +102,7 @@ survives_none m rooms exact within told names logs = record {
   passed = λ t log w. gained_none (IsPassed m rooms [] [] within log) (logs log) (logs log) refl;
   ends_within = λ t log w. w;
   ends_exact = λ t none log e. e;
+  others = λ t log no. refl;
 }
 
 survives_onward : (m m' : Manner) (rooms rooms' rooms'' : List Room) (os ps : List Outcome) (exact exact' exact'' within within' within'' : List Room → ℕ → State → Type 0) (told told' told'' : Bool) (names names' names'' : List (List ℕ)) (logs logs' logs'' : ℕ → Log) (first more : List (List ℕ))
@@ -123,6 +124,7 @@ survives_onward m m' rooms rooms' rooms'' os ps exact exact' exact'' within with
           (λ s x. (x.0, way_second m m' rooms rooms' x.0 first more os ps same there e x.1, (h.within_stays x.0 log s).0 x.2)) (k.passed (tells t) log (h.ends_within t log w)));
       ends_within = λ t log w. k.ends_within (tells t) log (h.ends_within t log w);
       ends_exact = λ t none log x. k.ends_exact (tells t) (none_behind os ps none) log (h.ends_exact t (none_before os ps none) log x);
+      others = λ t log no. k.others (tells t) log (λ r s x. no r s ((h.within_stays r log s).0 x)) ∙ h.others t log no;
     }
 
 survives_alike : (m : Manner) (rooms rooms' : List Room) (os : List Outcome) (exact exact' within within' : List Room → ℕ → State → Type 0) (told told' : Bool) (names names' : List (List ℕ)) (logs logs' : ℕ → Log) (line other : List ℕ) → 65536 < length line → 65536 < length other
@@ -136,6 +138,7 @@ survives_alike m rooms rooms' os exact exact' within within' told told' names na
       (λ s x. (x.0, way_alike m rooms x.0 line other os (too_long line h) (too_long other k) x.1, x.2)) (v.passed t log w);
   ends_within = v.ends_within;
   ends_exact = v.ends_exact;
+  others = v.others;
 }
 
 pub serves_none : (m : Manner) (rooms : List Room) (os : List Outcome) (room faults : ℕ) (exact within : List Room → ℕ → State → Type 0) (told : Bool) (names : List (List ℕ)) (logs : ℕ → Log)

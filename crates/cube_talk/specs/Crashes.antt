@@ -1,6 +1,6 @@
 -- What a crash may leave of a log while a desk answers the lines of `ask`.
 use Rattle.std.specs.Prelude.{◌≡◌, ◌↔◌, ℕ, Bool, IsTrue, List, ◌++◌}
-use Rattle.cube_io.specs.Desks.{Manner}
+use Rattle.cube_io.specs.Desks.{Manner, ForeignStay}
 use Rattle.cube_io.specs.States.{State, Log, Gained}
 use Rattle.cube_model.specs.declared.outcome.Outcome.{Outcome}
 use Rattle.cube_model.specs.Rooms.{Room}
@@ -22,7 +22,7 @@ abbrev pub IsPassed : Manner → List Room → List (List ℕ) → List Outcome 
 IsPassed m rooms ls os within log s = (here : List Room) × IsOnTheWay m rooms ls os here × within here log s
 
 -- While these lines were answered, every crash left the histories of some rooms on the way, one alone or with one more request; behind
--- them those of the last, and just those where the journal never failed.
+-- them those of the last, and just those where the journal never failed. Logs that keep no room's history stayed.
 pub record Survives (m : Manner) (rooms rooms' : List Room) (os : List Outcome) (exact exact' within within' : List Room → ℕ → State → Type 0) (told told' : Bool) (names names' : List (List ℕ)) (logs logs' : ℕ → Log) (ls : List (List ℕ)) : Type 0 where
   pub told_stays : told' ≡ told
   pub names_stay : IsTrue told → names' ≡ names
@@ -31,6 +31,7 @@ pub record Survives (m : Manner) (rooms rooms' : List Room) (os : List Outcome) 
   pub passed : IsTrue told → (log : ℕ) → within rooms log (logs log).state → Gained (IsPassed m rooms ls os within log) (logs log) (logs' log)
   pub ends_within : IsTrue told → (log : ℕ) → within rooms log (logs log).state → within' rooms' log (logs' log).state
   pub ends_exact : IsTrue told → NoneFailed os → (log : ℕ) → exact rooms log (logs log).state → exact' rooms' log (logs' log).state
+  pub others : ForeignStay told within logs logs'
 
 -- some lines were answered, and a crash in between left what it may
 abbrev pub Serves : Manner → Manner → List Room → List Room → List Outcome → List Outcome → ℕ → ℕ → ℕ → ℕ → (List Room → ℕ → State → Type 0) → (List Room → ℕ → State → Type 0) → (List Room → ℕ → State → Type 0) → (List Room → ℕ → State → Type 0)

@@ -62,3 +62,9 @@ pub returns-in-Err-clause-complete : goal.returns-in-Err-clause-complete
 returns-in-Err-clause-complete g c = λ all kept some files store input out.
     let before = g.F.Folder.faults c.args.files.now in
     inr (all_accepted c.args.dims_name.now c.args.facts_name.now c.args.policy_name.now (g.F.Folder.files c.args.files.now) before (g.F.Folder.faults c.open_guarded.new.files) c.in-Err.report c.in-Err.ensures.err all files)
+
+pub returns-clause-others : goal.returns-clause-others
+returns-clause-others g c = λ told log other.
+    let opened = c.in-Ok-open_engine.ensures in
+    let survived = c.converse_by_asks-engine.ensures.talked.2 in
+    survived.others (subst IsTrue (sym opened.told) told) log (λ rooms s x. other (x.0 ∙ opened.log)) ∙ opened.others told log other

@@ -23,4 +23,5 @@ returns-in-Asked-clause-endures g c =
       passed = c.answer.ensures.passed;
       within = c.answer.ensures.within;
       exact = c.answer.ensures.exact;
+      others = c.answer.ensures.others;
     })

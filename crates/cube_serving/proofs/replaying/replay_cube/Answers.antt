@@ -100,3 +100,6 @@ returns-clause-answers g c =
       },
       c.in-Ok-open_script.ensures.steady ∙ c.in-Ok.ensures.steady,
     ))))
+
+pub returns-clause-others : goal.returns-clause-others
+returns-clause-others g c = λ told log other. c.serve_engine-end.ensures.others (subst IsTrue (sym c.in-Ok-open_engine.ensures.told) told) log other ∙ c.in-Ok-open_engine.ensures.others told log other

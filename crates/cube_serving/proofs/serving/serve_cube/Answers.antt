@@ -1,4 +1,4 @@
-use Rattle.std.proofs.Common.{◌∙◌, ◌++◌, ℕ, List, codes, ap, inl, inr}
+use Rattle.std.proofs.Common.{◌∙◌, ◌++◌, ℕ, List, codes, ap, inl, inr, subst, sym, IsTrue}
 use Rattle.cube_opening.proofs.Accepted.{all_accepted}
 use Rattle.cube_serving.proofs.Wired.{served}
 use Rattle.cube_serving.proofs.serving.serve_cube.Goals as goal
@@ -46,3 +46,6 @@ pub returns-in-Err-clause-complete : goal.returns-in-Err-clause-complete
 returns-in-Err-clause-complete g c = λ all kept some files store wire.
     let before = g.F.Folder.faults c.args.files.now in
     inr (all_accepted c.args.dims_name.now c.args.facts_name.now c.args.policy_name.now (g.F.Folder.files c.args.files.now) before (g.F.Folder.faults c.open_guarded.new.files) c.in-Err.report c.in-Err.ensures.err all files)
+
+pub returns-clause-others : goal.returns-clause-others
+returns-clause-others g c = λ told log other. c.serve_engine-end.ensures.others (subst IsTrue (sym c.in-Ok-open_engine.ensures.told) told) log other ∙ c.in-Ok-open_engine.ensures.others told log other

@@ -1,4 +1,4 @@
-use Rattle.std.proofs.Common.{◌≡◌, List, [], length, refl, subst, arith, ap}
+use Rattle.std.proofs.Common.{◌≡◌, ◌∙◌, List, [], length, refl, subst, arith, ap}
 use Rattle.std.specs.Prelude.{IfErr}
 use Rattle.cube_model.specs.declared.outcome.Outcome.{Outcome}
 use Rattle.cube_model.specs.Cores.{world}
@@ -51,3 +51,6 @@ returns-clause-calm g c = λ quiet.
     calm last.outcomes (g.S.Store.faults store) (g.S.Store.faults new)
     (subst (λ (os : List Outcome). Endures (manner e.core.dims) (within_of e) (within_of last) (exact_of e) (exact_of last) (g.S.Store.told store) (g.S.Store.told new) (g.S.Store.logs store) (g.S.Store.logs new) (alone (world e.core e.policy) e.history) (rooms_of last) os last.outcomes (g.S.Store.faults store) (g.S.Store.faults new))
     c.requires.unasked c.serve.ensures.endures).risen quiet
+
+pub returns-clause-others : goal.returns-clause-others
+returns-clause-others g c = λ told log other. c.serve.ensures.endures.others told log (λ rooms s x. other (x.0 ∙ c.requires.log))

@@ -13,7 +13,7 @@ returns-in-Ok-clause-serves g c =
     let answered = subst (λ (a : Ask). Answered (g.D.Desk.manner desk) a (g.D.Desk.rooms desk) (g.D.Desk.rooms desk') (g.D.Desk.outcomes desk) (g.D.Desk.outcomes desk') (g.S.Store.faults store) (g.S.Store.faults store') c.answer.result) c.in-Ok.ensures c.answer.ensures.answered in
     one_serves (g.D.Desk.manner desk) (g.D.Desk.manner desk') (g.D.Desk.rooms desk) (g.D.Desk.rooms desk') (g.D.Desk.outcomes desk) (g.D.Desk.outcomes desk') (g.D.Desk.room desk) (g.D.Desk.room desk') (g.S.Store.faults store) (g.S.Store.faults store') (g.D.Desk.exact desk) (g.D.Desk.exact desk') (g.D.Desk.within desk) (g.D.Desk.within desk') (g.S.Store.told store) (g.S.Store.told store') (g.S.Store.names store) (g.S.Store.names store') (g.S.Store.logs store) (g.S.Store.logs store') c.args.line.now c.answer.result
     c.requires.short c.answer.ensures.manner c.requires.room c.answer.ensures.room answered c.answer.ensures.told c.answer.ensures.names c.answer.ensures.exact_stays c.answer.ensures.within_stays
-    c.answer.ensures.passed c.answer.ensures.within c.answer.ensures.exact
+    c.answer.ensures.passed c.answer.ensures.within c.answer.ensures.exact c.answer.ensures.others
 
 pub returns-in-Err-clause-serves : goal.returns-in-Err-clause-serves
 returns-in-Err-clause-serves g c =
