@@ -1,5 +1,5 @@
 -- Each reply of an engine has a status with a phrase.
-use Rattle.std.proofs.Common.{◌≡◌, ℕ, Bool, true, false, cond, IsTrue, List, [], ◌∷◌, Option, Some, None, Ok, Err, refl}
+use Rattle.std.proofs.Common.{◌≡◌, ℕ, Bool, true, false, cond, IsTrue, List, Option, Some, None, Ok, Err, refl}
 use Rattle.std.specs.Prelude.{Result, ⊤}
 use Rattle.cube_http.specs.Responses.{has_phrase, status_of}
 use Rattle.cube_model.specs.declared.ask.Ask.{Ask}

@@ -1,5 +1,5 @@
 -- How a script is read, and how its play ends.
-use Rattle.std.proofs.Common.{◌≡◌, ◌≤◌, ◌∙◌, refl, sym, ap, subst, ℕ, Bool, true, false, IsTrue, List, [], ◌∷◌, ◌++◌, length, append_assoc, Some, None, inl, inr, arith}
+use Rattle.std.proofs.Common.{◌≡◌, ◌≤◌, ◌∙◌, refl, sym, ap, subst, ℕ, Bool, true, false, List, [], ◌∷◌, ◌++◌, length, append_assoc, Some, None, inl, inr, arith}
 use Rattle.std.proofs.lemmas.Bool.Decides.{nat_tests}
 use Rattle.std.proofs.lemmas.Bool.{false≢true}
 use Rattle.std.specs.List.{list_any}
@@ -16,13 +16,12 @@ use Rattle.cube_io.specs.Content.{AppendsPrefix}
 use Rattle.cube_io.specs.Wires.{Arrival, LogEntry, events_in, render}
 use Rattle.cube_io.specs.Wires.Arrival.{Opened, Came, Closed, End}
 use Rattle.cube_io.specs.Files.{max_file}
-use Rattle.cube_opening.specs.Opening.{fault_text, faulted, unless_long, Failed, AsksOnce, AsksTwo, AsksAll, EndsUnopened}
+use Rattle.cube_opening.specs.Opening.{fault_text, faulted, unless_long, Failed, AsksOnce, AsksAll, EndsUnopened}
 use Rattle.cube_opening.specs.declared.report.Report.{Report}
 use Rattle.cube_script.specs.Playing.{Playing, IsPlaying, starting, started, has_torn}
 use Rattle.cube_script.specs.Scripts.{connection_of, bytes_of, came_of, event_of, words, lines, with_event, events_of, script_of}
-use Rattle.cube_script.specs.declared.play.ScriptFault.{ScriptFault}
 use Rattle.cube_script.specs.declared.play.ScriptFault.TheVariants.{Line, NoMemory}
-use Rattle.cube_server.specs.Steps.{has_end, is_end, IsCounted}
+use Rattle.cube_server.specs.Steps.{has_end, is_end}
 use Rattle.cube_server.specs.declared.serving.ServeFault.{ServeFault}
 use Rattle.cube_server.specs.declared.serving.ServeFault.TheVariants.{WireFailed, Spent}
 use Rattle.cube_serving.specs.Serving.{Ends}

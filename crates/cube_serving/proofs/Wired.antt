@@ -1,5 +1,5 @@
 -- Over a world with the changes for a protected cell a served wire has the same log; and what a crash leaves meanwhile.
-use Rattle.std.proofs.Common.{◌≡◌, ◌≤◌, ◌^◌, ◌∙◌, refl, sym, ap, subst, ℕ, zero, suc, Bool, true, false, IsTrue, List, [], ◌∷◌, ◌++◌, cond, inl, inr, arith}
+use Rattle.std.proofs.Common.{◌≡◌, ◌≤◌, ◌^◌, ◌∙◌, refl, sym, ap, subst, ℕ, zero, suc, Bool, false, IsTrue, List, [], ◌∷◌, ◌++◌, cond, inl, inr, arith}
 use Rattle.std.proofs.lemmas.List.Sums.{sum_by-cons}
 use Rattle.std.specs.Prelude.{min, ◌+◌, ◌-◌, ◌<◌, Result, Ok, Err, OnOk, OnErr, IfErr, IfSome, length}
 use Rattle.std.specs.declared.option.Option.{Option}
@@ -21,7 +21,7 @@ use Rattle.cube_model.specs.TwoWorlds.{Extends}
 use Rattle.cube_model.specs.Verdicts.{IsAdmissible}
 use Rattle.cube_model.proofs.Filled.{cores_are_worlds}
 use Rattle.cube_model.proofs.Growth.{extends_refl, extends_trans}
-use Rattle.cube_io.specs.States.{State, Log, Gained}
+use Rattle.cube_io.specs.States.{Log, Gained}
 use Rattle.cube_io.specs.Wires.{LogEntry, Arrival, events_in}
 use Rattle.cube_io.specs.Wires.Arrival.{End}
 use Rattle.cube_io.specs.Causes.{Rose}
@@ -29,13 +29,13 @@ use Rattle.cube_io.specs.Desks.{Manner}
 use Rattle.cube_io.proofs.Trails.{gained_then, gained_map}
 use Rattle.cube_journal.specs.Keeping.{Journal, IsInRecovery}
 use Rattle.cube_engine.specs.Engines.{Engine, rooms_of, book_of}
-use Rattle.cube_engine.specs.Kept.{history_of, IsExact, IsWithin}
+use Rattle.cube_engine.specs.Kept.{history_of, IsExact}
 use Rattle.cube_engine.specs.Steps.{manner, next_in, inner_of, inner_history}
 use Rattle.cube_engine.specs.Worlds.{first_history, IsRuled}
 use Rattle.cube_engine.proofs.Worlds.{room_open, other_sum, inner_grows, inner_stays}
-use Rattle.cube_server.specs.Alike.{SameReplies, AreAlike}
+use Rattle.cube_server.specs.Alike.{SameReplies}
 use Rattle.cube_server.specs.Crashes.{after, Reaches, OnTheWay, Endures, faults_in, is_fault}
-use Rattle.cube_server.specs.Logs.{Call, Luck, log_of, calls_of, end_of}
+use Rattle.cube_server.specs.Logs.{Call, Luck, calls_of, end_of}
 use Rattle.cube_server.specs.Steps.{Serves, IsCounted, has_end, sends_in, luck_of}
 use Rattle.cube_server.specs.declared.serving.ServeFault.{ServeFault}
 use Rattle.cube_server.proofs.Likeness.{logs_are_alike}

@@ -1,5 +1,5 @@
 -- What is told to the connections of a wire that a cube serves.
-use Rattle.std.specs.Prelude.{◌≡◌, ◌⊎◌, ◌<◌, ◌≤◌, ◌+◌, ◌+ℤ◌, ℕ, pos, Bool, false, IsTrue, List, [], ◌∷◌, ◌++◌, length, codes, decimal, IfSome}
+use Rattle.std.specs.Prelude.{◌≡◌, ◌⊎◌, ◌<◌, ◌+◌, ◌+ℤ◌, ℕ, pos, Bool, false, IsTrue, List, [], ◌∷◌, ◌++◌, length, codes, decimal, IfSome}
 use Rattle.std.specs.declared.option.Option.{Option}
 use Rattle.std.specs.declared.result.Result.{Result}
 use Rattle.std.specs.declared.result.Result.TheVariants.{Ok, Err}
@@ -21,14 +21,14 @@ use Rattle.cube_io.specs.Wires.Arrival.{End}
 use Rattle.cube_journal.specs.Keeping.{IsInRecovery}
 use Rattle.cube_engine.specs.Kept.{history_of, IsExact}
 use Rattle.cube_engine.specs.Steps.{manner}
-use Rattle.cube_opening.specs.Opening.{MakesAll, EndsUnopened, AsksAll}
+use Rattle.cube_opening.specs.Opening.{MakesAll}
 use Rattle.cube_opening.specs.Reports.{IsReport}
 use Rattle.cube_opening.specs.declared.report.Report.{Report}
 use Rattle.cube_server.specs.Logs.{log_of}
 use Rattle.cube_server.specs.Steps.{Serves, IsCounted, has_end, sends_in, luck_of}
 use Rattle.cube_server.specs.declared.serving.ServeFault.{ServeFault}
 use Rattle.cube_server.specs.declared.serving.ServeFault.TheVariants.{WireFailed, Spent}
-use Rattle.cube_starting.specs.Starting.{Survived, EndsUnstarted, AsksStore}
+use Rattle.cube_starting.specs.Starting.{Survived}
 use Rattle.cube_talk.specs.Asks.{NoneFailed}
 use Rattle.cube_talk.specs.Talk.{max_input}
 

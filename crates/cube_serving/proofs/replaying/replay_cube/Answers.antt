@@ -1,10 +1,9 @@
-use Rattle.std.proofs.Common.{◌≡◌, ◌∙◌, ℕ, List, Option, Bool, true, false, Ok, Err, inl, inr, ap, sym, subst, refl, IsTrue}
+use Rattle.std.proofs.Common.{◌≡◌, ◌∙◌, ℕ, List, Option, true, Ok, inl, inr, ap, sym, subst, refl, IsTrue}
 use Rattle.std.specs.Prelude.{IfSome}
-use Rattle.cube_io.specs.Wires.{Arrival, Plan}
+use Rattle.cube_io.specs.Wires.{Plan}
 use Rattle.cube_opening.specs.Opening.{Says}
 use Rattle.cube_opening.proofs.Accepted.{all_accepted}
 use Rattle.cube_script.specs.Playing.{Playing, has_torn}
-use Rattle.cube_server.specs.declared.serving.ServeFault.TheVariants.{WireFailed}
 use Rattle.cube_serving.specs.Replaying.{script_said, wire_of}
 use Rattle.cube_serving.proofs.Played.{ended_by, asks_three, asks_four, whole, unfailed, writes, finished, no_wire_failed, ends_none, ends_whole, rose_from}
 use Rattle.cube_serving.proofs.Wired.{served}

@@ -1,6 +1,6 @@
 use Rattle.std.proofs.Common.{◌≡◌, ◌∙◌, sym, ap, Bool, true, refl}
 use Rattle.cube_script.specs.Playing.{has_torn}
-use Rattle.cube_serving.specs.Replaying.{played_status, played_text}
+use Rattle.cube_serving.specs.Replaying.{played_status}
 use Rattle.cube_serving.proofs.Played.{on_ok}
 use Rattle.cube_serving.proofs.replaying.report_play.Goals as goal
 

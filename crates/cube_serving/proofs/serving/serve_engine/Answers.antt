@@ -1,4 +1,4 @@
-use Rattle.std.proofs.Common.{◌≡◌, ◌∙◌, List, [], length, refl, subst, arith, ap}
+use Rattle.std.proofs.Common.{◌∙◌, List, length, refl, subst, arith, ap}
 use Rattle.std.specs.Prelude.{IfErr}
 use Rattle.cube_model.specs.declared.outcome.Outcome.{Outcome}
 use Rattle.cube_model.specs.Cores.{world}
