@@ -92,7 +92,7 @@ pub was_kept : (c : Core) (p : Policy) (t : Table) (d : Dims) (measure slot : �
     → IsIn (found_at t.cuboids slot judged) t.found → IsKept c p t measure levels judged
 was_kept c p t d measure slot levels judged same stands at e there =
     let own = subst (λ f. IsIn f t.found) (found_is c.dims t measure slot levels judged (subst (λ x. IsSlot x t measure levels slot) same at)) there in
-    record { verdict = each_at (IsFound c p) _ t.found stands.found own levels e refl; stands = stands; there = own }
+    record { verdict = each_at (IsFound (shown c p)) _ t.found stands.found own levels e refl; stands = stands; there = own }
 
 -- equal numbers mean equal levels
 one_number : (c : Core) (a b : List ℕ) → are_levels (plains c.dims) a ≡ true → are_levels (plains c.dims) b ≡ true → cuboid_number (plains c.dims) a ≡ cuboid_number (plains c.dims) b → a ≡ b
@@ -115,10 +115,10 @@ pub now_kept : (c : Core) (p : Policy) (t new : Table) (d : Dims) (measure slot 
 now_kept c p t new d measure slot levels judged copy same stands at e verdict same_verdict m n there others =
     let found : found_at t.cuboids slot copy ≡ record { measure = measure; cuboid = cuboid_number (plains c.dims) levels; judged = judged } =
     ap (found_at t.cuboids slot) same_verdict ∙ found_is c.dims t measure slot levels judged (subst (λ x. IsSlot x t measure levels slot) same at) in
-    let own : IsFound c p (record { measure = measure; cuboid = cuboid_number (plains c.dims) levels; judged = judged }) = λ other o number. verdict ∙ ap (λ (ls : List ℕ). judged_of (uncut (shown c p) ls measure)) (one_number c levels other e o (sym number)) in
+    let own : IsFound (shown c p) (record { measure = measure; cuboid = cuboid_number (plains c.dims) levels; judged = judged }) = λ other o number. verdict ∙ ap (λ (ls : List ℕ). judged_of (uncut (shown c p) ls measure)) (one_number c levels other e o (sym number)) in
     record {
       verdict = verdict;
-      stands = record { measures = m ∙ stands.measures; cuboids = n ∙ stands.cuboids; found = each_from (IsFound c p) new.found (λ f i. ⊎_elim (λ a. each_at (IsFound c p) f t.found stands.found a) (λ a. subst (IsFound c p) (sym (a ∙ found)) own) (others f i)) };
+      stands = record { measures = m ∙ stands.measures; cuboids = n ∙ stands.cuboids; found = each_from (IsFound (shown c p)) new.found (λ f i. ⊎_elim (λ a. each_at (IsFound (shown c p)) f t.found stands.found a) (λ a. subst (IsFound (shown c p)) (sym (a ∙ found)) own) (others f i)) };
       there = subst (λ f. IsIn f new.found) found there;
     }
 

@@ -2,7 +2,7 @@
 use Rattle.std.specs.Prelude.{◌≡◌, ℕ, suc, ◌*◌, ◌/◌, ◌%◌, ◌<◌, true, List, [], ◌∷◌, length, Option, Some, None}
 use Rattle.cube_model.specs.declared.policy.Policy.{Policy}
 use Rattle.cube_model.specs.Cores.{Core, shown}
-use Rattle.cube_model.specs.Cubes.{Each, are_levels, cuboid_count, cuboid_number}
+use Rattle.cube_model.specs.Cubes.{Public, Each, are_levels, cuboid_count, cuboid_number}
 use Rattle.cube_model.specs.Dims.{Dims, plains}
 use Rattle.cube_model.specs.Protection.{uncut}
 use Rattle.cube_source.specs.declared.judging.Judged.{Judged}
@@ -38,12 +38,12 @@ pub record IsSlot (d : Dims) (t : Table) (measure : ℕ) (levels : List ℕ) (sl
   pub cuboid_is : slot % t.cuboids ≡ cuboid_number (plains d) levels
 
 -- the verdict is that on each cuboid with the number
-abbrev pub IsFound : Core → Policy → Found → Type 0
-IsFound c p f = (levels : List ℕ) → are_levels (plains c.dims) levels ≡ true → cuboid_number (plains c.dims) levels ≡ f.cuboid → f.judged ≡ judged_of (uncut (shown c p) levels f.measure)
+abbrev pub IsFound : Public → Found → Type 0
+IsFound g f = (levels : List ℕ) → are_levels g.dimensions levels ≡ true → cuboid_number g.dimensions levels ≡ f.cuboid → f.judged ≡ judged_of (uncut g levels f.measure)
 
 -- The table stands for the core and the policy: its numbers are those of the dimensions and measures, and each verdict that it
 -- keeps is that of `judge`.
 pub record TableStands (c : Core) (p : Policy) (t : Table) : Type 0 where
   pub measures : t.measures ≡ length c.dims.measures
   pub cuboids : t.cuboids ≡ cuboid_count (plains c.dims)
-  pub found : Each (IsFound c p) t.found
+  pub found : Each (IsFound (shown c p)) t.found
