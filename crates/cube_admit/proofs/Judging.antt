@@ -22,7 +22,7 @@ use Rattle.cube_admit.specs.declared.held.Held.{Held}
 use Rattle.cube_admit.specs.declared.held.Held.TheVariants as held
 use Rattle.cube_admit.specs.declared.source.Step.TheVariants.{Stays, Would}
 use Rattle.cube_admit.specs.Sources.{IsLong, stepped, step_by, judged_as}
-use Rattle.cube_admit.specs.States.{State, entry_of, whole, waiting, waits_by, waits_for, coloured, source_in, IsHeldBy, IsNextBy, IsReady, StandsFor}
+use Rattle.cube_admit.specs.States.{State, entry_of, whole, waiting, waits_by, waits_for, coloured, source_in, IsHeldBy, IsNextBy, IsReady, IsTableOf, StandsFor}
 use Rattle.cube_admit.specs.declared.held.Pending.{Pending}
 use Rattle.cube_model.proofs.Worlds.{admissible_fresh}
 use Rattle.cube_admit.proofs.Standing.{unchanged, put_each, asks_one, links-skip}
@@ -179,8 +179,8 @@ source_more g h k n (held.Links c) i = absurd i
 -- a request waits with its fresh answer
 waiting_stands : (g : Public) (s t : State) (r : Request) (m : ℕ) (n : Next) (new : Held) → StandsFor g s → s.pending ≡ None → is_valid g r ≡ true → r.what ≡ Measure m → verdict g s.history r ≡ Answer true
     → IsNextBy (method g m) g s.history (s.history ++ Asked r ∷ []) m n → IsHeldBy (method g m) g s.history (s.history ++ Asked r ∷ []) m new
-    → t.history ≡ s.history → t.held ≡ set s.held m new → t.pending ≡ Some (record { request = r; measure = m; next = n }) → StandsFor g t
-waiting_stands g s t r m n new stands none valid what fresh becomes is_held same kept waits =
+    → t.history ≡ s.history → t.held ≡ set s.held m new → t.pending ≡ Some (record { request = r; measure = m; next = n }) → IsTableOf g t.table → StandsFor g t
+waiting_stands g s t r m n new stands none valid what fresh becomes is_held same kept waits table =
     let k = known g s r m stands none valid what in
     let more = s.history ++ Asked r ∷ [] in
     let all : whole t ≡ more = ap (λ (q : Option Pending). t.history ++ entry_of q) waits ∙ ap (λ (h : List Entry). h ++ Asked r ∷ []) same in
@@ -190,6 +190,7 @@ waiting_stands g s t r m n new stands none valid what fresh becomes is_held same
       long = ap length kept ∙ length-set s.held m new ∙ stands.long;
       held = λ i lt. subst (λ (h : List Entry). IsHeldBy (method g i) g h (whole t) i (get_or t.held i held.Open)) (sym same) (subst (λ (h : List Entry). IsHeldBy (method g i) g s.history h i (get_or t.held i held.Open)) (sym all) (subst (λ (hs : List Held). IsHeldBy (method g i) g s.history more i (get_or hs i held.Open)) (sym kept) (each i (subst (λ (hs : List Held). i < length hs) kept lt))));
       ready = subst (IsReady g t) (sym waits) (asks_it r m what, subst (λ (h : List Entry). IsNextBy (method g m) g h (whole t) m n) (sym same) (subst (λ (h : List Entry). IsNextBy (method g m) g s.history h m n) (sym all) becomes));
+      table = table;
     }
 
 pub set_same : (hs : List Held) (m : ℕ) → set hs m (get_or hs m held.Open) ≡ hs
@@ -198,14 +199,14 @@ set_same hs m = set-get_or hs m held.Open
 -- ---- on a lattice measure
 
 pub waits_on : (g : Public) (s t : State) (r : Request) (m : ℕ) (c : List ℕ) (v : Verdict) → StandsFor g s → s.pending ≡ None → is_valid g r ≡ true → r.what ≡ Measure m → IsStep g s.history r m c → v ≡ judged_as g (length (requests s.history)) m c
-    → t.history ≡ s.history → t.held ≡ s.held → t.pending ≡ waits_by v (record { request = r; measure = m; next = next.Source c }) → StandsFor g t
-waits_on g s t r m c v stands none valid what step told same kept waits = go v told waits
+    → t.history ≡ s.history → t.held ≡ s.held → t.pending ≡ waits_by v (record { request = r; measure = m; next = next.Source c }) → IsTableOf g t.table → StandsFor g t
+waits_on g s t r m c v stands none valid what step told same kept waits table = go v told waits
   where
     p : Pending
     p = record { request = r; measure = m; next = next.Source c }
 
     stays : t.pending ≡ None → StandsFor g t
-    stays e = unchanged g s t same kept (e ∙ sym none) stands
+    stays e = unchanged g s t same kept (e ∙ sym none) table stands
 
     go : (v : Verdict) → v ≡ judged_as g (length (requests s.history)) m c → t.pending ≡ waits_by v p → StandsFor g t
     go (Answer true) told waits =
@@ -213,7 +214,7 @@ waits_on g s t r m c v stands none valid what step told same kept waits = go v t
         waiting_stands g s t r m (next.Source c) (get_or s.held m held.Open) stands none valid what (sym (told ∙ step.verdict))
         (subst (λ (way : Method). IsNextBy way g s.history (s.history ++ Asked r ∷ []) m (next.Source c)) (sym step.method) step.source)
         (subst (λ (way : Method). IsHeldBy way g s.history (s.history ++ Asked r ∷ []) m (get_or s.held m held.Open)) (sym step.method) (source_more g s.history (s.history ++ Asked r ∷ []) m (get_or s.held m held.Open) (subst (λ (way : Method). IsHeldBy way g s.history s.history m (get_or s.held m held.Open)) step.method (k.held m k.there))))
-        same (kept ∙ sym (set_same s.held m)) waits
+        same (kept ∙ sym (set_same s.held m)) waits table
     go (Answer false) told waits = stays waits
     go (Full n) told waits = stays waits
     go (SourceWould d u) told waits = stays waits
@@ -221,9 +222,9 @@ waits_on g s t r m c v stands none valid what step told same kept waits = go v t
     go (Single a i u) told waits = stays waits
 
 pub judged_stands : (g : Public) (s t : State) (r : Request) (m : ℕ) (c : List ℕ) (result : Result Verdict NoMemory) → StandsFor g s → s.pending ≡ None → is_valid g r ≡ true → r.what ≡ Measure m → IsStep g s.history r m c → IfOk result (λ v. v ≡ judged_as g (length (requests s.history)) m c)
-    → t.history ≡ s.history → t.held ≡ s.held → IfOk result (λ v. t.pending ≡ waits_by v (record { request = r; measure = m; next = next.Source c })) → OnErr result (t.pending ≡ None) → StandsFor g t
-judged_stands g s t r m c (Ok v) stands none valid what step told same kept waits err = waits_on g s t r m c v stands none valid what step told same kept waits
-judged_stands g s t r m c (Err e) stands none valid what step told same kept waits err = unchanged g s t same kept (err ∙ sym none) stands
+    → t.history ≡ s.history → t.held ≡ s.held → IfOk result (λ v. t.pending ≡ waits_by v (record { request = r; measure = m; next = next.Source c })) → OnErr result (t.pending ≡ None) → IsTableOf g t.table → StandsFor g t
+judged_stands g s t r m c (Ok v) stands none valid what step told same kept waits err table = waits_on g s t r m c v stands none valid what step told same kept waits table
+judged_stands g s t r m c (Err e) stands none valid what step told same kept waits err table = unchanged g s t same kept (err ∙ sym none) table stands
 
 pub judged_is : (g : Public) (h : List Entry) (r : Request) (m : ℕ) (c : List ℕ) (result : Result Verdict NoMemory) → IsStep g h r m c → IfOk result (λ v. v ≡ judged_as g (length (requests h)) m c) → IfOk result (λ v. v ≡ verdict g h r)
 judged_is g h r m c (Ok v) step told = told ∙ step.verdict
@@ -290,6 +291,9 @@ links_outcome g s t r m v stands none valid what linked done = go (method g m) r
     ls : List Link
     ls = links_of g s.history m
 
+    table : IsTableOf g t.table
+    table = subst (IsTableOf g) (sym done.table) stands.table
+
     grown : links_of g (s.history ++ Asked r ∷ []) m ≡ ls ++ links g r
     grown = links_of-append g s.history (Asked r ∷ []) m ∙ ap (λ (more : List Link). ls ++ more) (links_of-one g (Asked r) m (asks_it r m what))
 
@@ -298,7 +302,7 @@ links_outcome g s t r m v stands none valid what linked done = go (method g m) r
         let same : t.held ≡ s.held = done.others ∙ ap (set s.held m) (is ∙ ap (λ (e : Colouring). held.Links e) kept.0 ∙ sym was) ∙ set_same s.held m in
         record {
           verdict = told;
-          stands = unchanged g s t done.history same (waits ∙ sym none) stands;
+          stands = unchanged g s t done.history same (waits ∙ sym none) table stands;
           waits = ap (λ (p : Option Pending). option_map (λ q. q.request) p) waits ∙ not_waiting v r kept.1;
         }
     by_mark way c d was is i told (Some mark) waits kept =
@@ -310,7 +314,7 @@ links_outcome g s t r m v stands none valid what linked done = go (method g m) r
           stands = waiting_stands g s t r m (next.Mark mark) (held.Links d) stands none valid what (sym told ∙ kept.1)
               (subst (λ (way : Method). IsNextBy way g s.history (s.history ++ Asked r ∷ []) m (next.Mark mark)) (sym way) back)
               (subst (λ (way : Method). IsHeldBy way g s.history (s.history ++ Asked r ∷ []) m (held.Links d)) (sym way) both)
-              done.history (done.others ∙ ap (set s.held m) is) waits;
+              done.history (done.others ∙ ap (set s.held m) is) waits table;
           waits = ap (λ (p : Option Pending). option_map (λ q. q.request) p) waits ∙ sym (ap (λ (w : Verdict). waits_for w r) kept.1);
         }
 

@@ -31,7 +31,7 @@ use Rattle.cube_admit.specs.declared.held.Held.TheVariants as held
 use Rattle.cube_admit.specs.declared.held.Next.{Next}
 use Rattle.cube_admit.specs.declared.held.Next.TheVariants as next
 use Rattle.cube_admit.specs.declared.held.Pending.{Pending}
-use Rattle.cube_admit.specs.States.{State, entry_of, whole, coloured, started, entered, given_back, IsHeldBy, IsNextBy, IsReady, StandsFor}
+use Rattle.cube_admit.specs.States.{State, entry_of, whole, coloured, started, entered, given_back, IsHeldBy, IsNextBy, IsReady, IsTableOf, StandsFor}
 
 -- a front of an admissible history is admissible
 admissible_front : (g : Public) (b xs ys : List Entry) → AdmissibleFrom g b (xs ++ ys) → AdmissibleFrom g b xs
@@ -125,16 +125,16 @@ put_each P hs k new lt here others m below = go (same_or m k)
 
 -- ---- the request that waits
 
--- no request waits: nothing changes
-pub unchanged : (g : Public) (s t : State) → t.history ≡ s.history → t.held ≡ s.held → t.pending ≡ s.pending → StandsFor g s → StandsFor g t
-unchanged g s t history kept waits stands = subst (StandsFor g) (sym same) stands
+-- no request waits: nothing changes but the table
+pub unchanged : (g : Public) (s t : State) → t.history ≡ s.history → t.held ≡ s.held → t.pending ≡ s.pending → IsTableOf g t.table → StandsFor g s → StandsFor g t
+unchanged g s t history kept waits table stands = subst (StandsFor g) (sym same) (record { admissible = stands.admissible; long = stands.long; held = stands.held; ready = stands.ready; table = table })
   where
-    same : t ≡ s
-    same = ap (λ (h : List Entry). record { history = h; pending = t.pending; held = t.held }) history ∙ ap (λ (p : Option Pending). record { history = s.history; pending = p; held = t.held }) waits ∙ ap (λ (hs : List Held). record { history = s.history; pending = s.pending; held = hs }) kept
+    same : t ≡ record s { table = t.table }
+    same = ap (λ (h : List Entry). record t { history = h }) history ∙ ap (λ (p : Option Pending). record t { history = s.history; pending = p }) waits ∙ ap (λ (hs : List Held). record s { held = hs; table = t.table }) kept
 
 -- it goes
-pub dropped : (g : Public) (s t : State) (p : Pending) → s.pending ≡ Some p → p.measure < length s.held → t.history ≡ s.history → t.held ≡ set s.held p.measure (given_back p.next (get_or s.held p.measure held.Open)) → t.pending ≡ None → StandsFor g s → StandsFor g t
-dropped g s t p waits lt same kept none stands =
+pub dropped : (g : Public) (s t : State) (p : Pending) → s.pending ≡ Some p → p.measure < length s.held → t.history ≡ s.history → t.held ≡ set s.held p.measure (given_back p.next (get_or s.held p.measure held.Open)) → t.pending ≡ None → t.table ≡ s.table → StandsFor g s → StandsFor g t
+dropped g s t p waits lt same kept none table stands =
     let ready : IsReady g s (Some p) = subst (IsReady g s) waits stands.ready in
     let all : whole s ≡ s.history ++ Asked p.request ∷ [] = ap (λ (q : Option Pending). s.history ++ entry_of q) waits in
     let history : whole t ≡ s.history = ap (λ (q : Option Pending). t.history ++ entry_of q) none ∙ append-nil t.history ∙ same in
@@ -149,11 +149,12 @@ dropped g s t p waits lt same kept none stands =
       long = ap length kept ∙ length-set s.held p.measure back ∙ stands.long;
       held = λ m below. subst (λ (h : List Entry). IsHeldBy (method g m) g h (whole t) m (get_or t.held m held.Open)) (sym same) (subst (λ (k : List Entry). IsHeldBy (method g m) g s.history k m (get_or t.held m held.Open)) (sym history) (subst (λ (hs : List Held). IsHeldBy (method g m) g s.history s.history m (get_or hs m held.Open)) (sym kept) (each m (subst (λ (hs : List Held). m < length hs) kept below))));
       ready = subst (IsReady g t) (sym none) tt;
+      table = subst (IsTableOf g) (sym table) stands.table;
     }
 
 -- it enters
-pub committed : (g : Public) (s t : State) (p : Pending) → s.pending ≡ Some p → p.measure < length s.held → t.history ≡ s.history ++ Asked p.request ∷ [] → t.held ≡ set s.held p.measure (entered p.next (get_or s.held p.measure held.Open)) → t.pending ≡ None → StandsFor g s → StandsFor g t
-committed g s t p waits lt grown kept none stands =
+pub committed : (g : Public) (s t : State) (p : Pending) → s.pending ≡ Some p → p.measure < length s.held → t.history ≡ s.history ++ Asked p.request ∷ [] → t.held ≡ set s.held p.measure (entered p.next (get_or s.held p.measure held.Open)) → t.pending ≡ None → t.table ≡ s.table → StandsFor g s → StandsFor g t
+committed g s t p waits lt grown kept none table stands =
     let ready : IsReady g s (Some p) = subst (IsReady g s) waits stands.ready in
     let all : whole s ≡ s.history ++ Asked p.request ∷ [] = ap (λ (q : Option Pending). s.history ++ entry_of q) waits in
     let more = s.history ++ Asked p.request ∷ [] in
@@ -169,6 +170,7 @@ committed g s t p waits lt grown kept none stands =
       long = ap length kept ∙ length-set s.held p.measure put ∙ stands.long;
       held = λ m below. subst (λ (h : List Entry). IsHeldBy (method g m) g h (whole t) m (get_or t.held m held.Open)) (sym grown) (subst (λ (k : List Entry). IsHeldBy (method g m) g more k m (get_or t.held m held.Open)) (sym history) (subst (λ (hs : List Held). IsHeldBy (method g m) g more more m (get_or hs m held.Open)) (sym kept) (each m (subst (λ (hs : List Held). m < length hs) kept below))));
       ready = subst (IsReady g t) (sym none) tt;
+      table = subst (IsTableOf g) (sym table) stands.table;
     }
 
 -- a history with one more request
@@ -198,8 +200,8 @@ held_at_first g Plain m = tt
 held_at_first g Lattice m = refl
 held_at_first g Parity m = refl
 
-pub at_first : (g : Public) (t : State) → t.history ≡ [] → t.held ≡ map (λ m. started g (method g m) m) (count_from 0 (length g.policy.methods)) → t.pending ≡ None → StandsFor g t
-at_first g t none kept waits =
+pub at_first : (g : Public) (t : State) → t.history ≡ [] → t.held ≡ map (λ m. started g (method g m) m) (count_from 0 (length g.policy.methods)) → t.pending ≡ None → IsTableOf g t.table → StandsFor g t
+at_first g t none kept waits table =
     let n = length g.policy.methods in
     let f = λ (m : ℕ). started g (method g m) m in
     let history : whole t ≡ [] = ap (λ (q : Option Pending). t.history ++ entry_of q) waits ∙ append-nil t.history ∙ none in
@@ -209,6 +211,7 @@ at_first g t none kept waits =
       long = long;
       held = λ m lt. subst (λ (h : List Entry). IsHeldBy (method g m) g h (whole t) m (get_or t.held m held.Open)) (sym none) (subst (λ (k : List Entry). IsHeldBy (method g m) g [] k m (get_or t.held m held.Open)) (sym history) (subst (IsHeldBy (method g m) g [] [] m) (sym (ap (λ (hs : List Held). get_or hs m held.Open) kept ∙ get_counted f 0 n m (omega (arith, lt, long)) ∙ ap f (omega arith))) (held_at_first g (method g m) m)));
       ready = subst (IsReady g t) (sym waits) tt;
+      table = table;
     }
 
 all_in : (P : ℕ → Type 0) (xs : List ℕ) → ((x : ℕ) → IsIn x xs → P x) → All P xs

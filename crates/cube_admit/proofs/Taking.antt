@@ -31,7 +31,7 @@ use Rattle.cube_colour.specs.Colourings.{Colouring}
 use Rattle.cube_admit.specs.Linking.{linked_as, IsLinks, HeldJudged}
 use Rattle.cube_admit.specs.Room.{CanEnd}
 use Rattle.cube_admit.specs.Sources.{IsLong, stepped, step_by}
-use Rattle.cube_admit.specs.States.{State, entry_of, whole, waiting, waits_for, coloured, source_in, IsHeldBy, IsReady, StandsFor}
+use Rattle.cube_admit.specs.States.{State, entry_of, whole, waiting, waits_for, coloured, source_in, IsHeldBy, IsReady, IsTableOf, StandsFor}
 use Rattle.cube_admit.specs.Taking.{behind}
 use Rattle.cube_admit.specs.declared.held.Held.{Held}
 use Rattle.cube_admit.specs.declared.held.Held.TheVariants as held
@@ -80,8 +80,8 @@ quiet g s stands none =
 
 -- with one entry more on one measure, and what that holds of it
 pub entered_stands : (g : Public) (s t : State) (e : Entry) (m : ℕ) (new : Held) → StandsFor g s → s.pending ≡ None → is_allowed g e ≡ true → taken g s.history e ≡ Taken → ((k : ℕ) → k ≢ m → is_on k e ≡ false) → m < length s.held
-    → IsHeldBy (method g m) g (s.history ++ e ∷ []) (s.history ++ e ∷ []) m new → t.history ≡ s.history ++ e ∷ [] → t.held ≡ set s.held m new → t.pending ≡ None → StandsFor g t
-entered_stands g s t e m new stands none allowed enters off lt is_held grown kept empty =
+    → IsHeldBy (method g m) g (s.history ++ e ∷ []) (s.history ++ e ∷ []) m new → t.history ≡ s.history ++ e ∷ [] → t.held ≡ set s.held m new → t.pending ≡ None → IsTableOf g t.table → StandsFor g t
+entered_stands g s t e m new stands none allowed enters off lt is_held grown kept empty table =
     let q = quiet g s stands none in
     let more = s.history ++ e ∷ [] in
     let all : whole t ≡ more = ap (λ (p : Option Pending). t.history ++ entry_of p) empty ∙ append-nil t.history ∙ grown in
@@ -92,6 +92,7 @@ entered_stands g s t e m new stands none allowed enters off lt is_held grown kep
       long = ap length kept ∙ length-set s.held m new ∙ stands.long;
       held = λ i below. subst (λ (h : List Entry). IsHeldBy (method g i) g h (whole t) i (get_or t.held i held.Open)) (sym grown) (subst (λ (h : List Entry). IsHeldBy (method g i) g more h i (get_or t.held i held.Open)) (sym all) (subst (λ (hs : List Held). IsHeldBy (method g i) g more more i (get_or hs i held.Open)) (sym kept) (each i (subst (λ (hs : List Held). i < length hs) kept below))));
       ready = subst (IsReady g t) (sym empty) tt;
+      table = table;
     }
 
 -- ---- a request
@@ -223,13 +224,13 @@ other_source m k c n = go (eqb m k) refl
     go false e = refl
 
 pub source_stands : (g : Public) (s t : State) (m : ℕ) (c d : List ℕ) → StandsFor g s → s.pending ≡ None → is_allowed g (Source m c) ≡ true → Narrows g s.history m c d → is_none (uncut g d m) ≡ true
-    → t.history ≡ s.history ++ Source m c ∷ [] → t.held ≡ set s.held m (held.Source (Some d)) → t.pending ≡ None → StandsFor g t
-source_stands g s t m c d stands none allowed narrows safe grown kept empty =
+    → t.history ≡ s.history ++ Source m c ∷ [] → t.held ≡ set s.held m (held.Source (Some d)) → t.pending ≡ None → IsTableOf g t.table → StandsFor g t
+source_stands g s t m c d stands none allowed narrows safe grown kept empty table =
     let is = source_allowed g m c allowed in
     entered_stands g s t (Source m c) m (held.Source (Some d)) stands none allowed (narrows.becomes ∙ ap (λ (b : Bool). cond b Taken Refused) safe) (λ k n. other_source m k c n)
     (subst (λ (n : ℕ). m < n) (sym stands.long) is.there)
     (subst (λ (way : Method). IsHeldBy way g (s.history ++ Source m c ∷ []) (s.history ++ Source m c ∷ []) m (held.Source (Some d))) (sym is.way) narrows.source)
-    grown kept empty
+    grown kept empty table
 
 -- ---- a link
 
@@ -334,8 +335,8 @@ not_taken (Pair k i j t) n = refl
 not_taken (Single k i t) n = refl
 
 pub link_stands : (g : Public) (s t : State) (m : ℕ) (l : Link) (links : List Link) (new : Held) (v : Verdict) (mark : Option ℕ) → StandsFor g s → s.pending ≡ None → is_allowed g (Linked m l) ≡ true → links ≡ l ∷ []
-    → HeldJudged (get_or s.held m held.Open) new 0 links (v, mark) → t.history ≡ behind s.history (Linked m l) (taken_by v) → t.held ≡ set s.held m new → t.pending ≡ None → StandsFor g t
-link_stands g s t m l links new v mark stands none allowed one judged grown held_is empty = go new mark (subst (λ (ks : List Link). HeldJudged (held.Links kept) new 0 ks (v, mark)) one (subst (λ (k : Held). HeldJudged k new 0 links (v, mark)) was judged)) held_is
+    → HeldJudged (get_or s.held m held.Open) new 0 links (v, mark) → t.history ≡ behind s.history (Linked m l) (taken_by v) → t.held ≡ set s.held m new → t.pending ≡ None → IsTableOf g t.table → StandsFor g t
+link_stands g s t m l links new v mark stands none allowed one judged grown held_is empty table = go new mark (subst (λ (ks : List Link). HeldJudged (held.Links kept) new 0 ks (v, mark)) one (subst (λ (k : Held). HeldJudged k new 0 links (v, mark)) was judged)) held_is
   where
     n : ℕ
     n = length g.shape.points
@@ -358,11 +359,11 @@ link_stands g s t m l links new v mark stands none allowed one judged grown held
     go (held.Links c) None j is =
         let same : t.held ≡ s.held = is ∙ ap (λ (d : Colouring). set s.held m (held.Links d)) j.1.0 ∙ ap (set s.held m) (sym was) ∙ set_same s.held m in
         let still : t.history ≡ s.history = grown ∙ ap (λ (b : Bool). cond b (s.history ++ Linked m l ∷ []) s.history) (not_taken v j.1.1) in
-        unchanged g s t still same (empty ∙ sym none) stands
+        unchanged g s t still same (empty ∙ sym none) table stands
     go (held.Links c) (Some mark) j is =
         let takes : taken_by v ≡ Taken = ap taken_by j.1.1 in
         let longer : t.history ≡ s.history ++ Linked m l ∷ [] = grown ∙ ap (behind s.history (Linked m l)) takes in
         let new_is : c ≡ coloured g m (links_of g (s.history ++ Linked m l ∷ []) m) = j.1.0 ∙ ap (λ (ks : List Link). record { places = n; guarded = guarded g m; kept = ks }) (basis_of_more n ls (l ∷ []) ∙ ap (basis n) (sym more)) in
         entered_stands g s t (Linked m l) m (held.Links c) stands none allowed (sym (ap taken_by j.0 ∙ linked_taken g s.history m l) ∙ takes) (λ k d. other_link m k l d) (link_there g s m l stands allowed)
         (subst (λ (way : Method). IsHeldBy way g (s.history ++ Linked m l ∷ []) (s.history ++ Linked m l ∷ []) m (held.Links c)) (sym (link_allowed g m l allowed).way) new_is)
-        longer is empty
+        longer is empty table

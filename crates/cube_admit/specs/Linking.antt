@@ -91,3 +91,4 @@ pub record LinksJudged (many m : ℕ) (r : Request) (ls : List Link) (old new : 
   pub others : new.held ≡ slice_set old.held m (slice_index_or new.held m held.Open)
   pub judged : HeldJudged (slice_index_or old.held m held.Open) (slice_index_or new.held m held.Open) many ls (v, mark)
   pub waits : new.pending ≡ marked r m mark
+  pub table : new.table ≡ old.table

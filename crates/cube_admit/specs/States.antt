@@ -1,4 +1,4 @@
--- A state: the history, a request that waits to enter it, and what is kept of each measure.
+-- A state: the history, a request that waits to enter it, what is kept of each measure, and the sources that were judged.
 use Rattle.std.specs.Prelude.{◌≡◌, ℕ, ◌<◌, List, [], ◌∷◌, ◌++◌, length, take, slice_index_or, Option, Some, None, true, ⊤, if◌then◌else◌}
 use Rattle.std.specs.Option.{option_map}
 use Rattle.cube_model.specs.declared.entry.Entry.{Entry}
@@ -8,12 +8,13 @@ use Rattle.cube_model.specs.declared.policy.Method.TheVariants.{Plain, Lattice, 
 use Rattle.cube_model.specs.declared.request.Request.{Request}
 use Rattle.cube_model.specs.declared.verdict.Verdict.{Verdict}
 use Rattle.cube_model.specs.declared.verdict.Verdict.TheVariants.{Answer, Full, SourceWould, Pair, Single}
-use Rattle.cube_model.specs.Cubes.{Public}
+use Rattle.cube_model.specs.Cubes.{Public, Each, cuboid_count}
 use Rattle.cube_model.specs.Requests.{asks}
 use Rattle.cube_model.specs.Protection.{method, guarded}
 use Rattle.cube_model.specs.Links.{basis}
 use Rattle.cube_model.specs.declared.link.Link.{Link}
 use Rattle.cube_colour.specs.Colourings.{Colouring}
+use Rattle.cube_source.specs.Tables.{Table, IsFound}
 use Rattle.cube_model.specs.Verdicts.{source, links_of, IsAdmissible}
 use Rattle.cube_admit.specs.declared.held.Held.{Held}
 use Rattle.cube_admit.specs.declared.held.Held.TheVariants as held
@@ -25,6 +26,7 @@ pub record State : Type 0 where
   pub history : List Entry
   pub pending : Option Pending
   pub held : List Held
+  pub table : Table
 
 -- the request that waits, if any
 abbrev pub waiting : State → Option Request
@@ -96,13 +98,20 @@ abbrev pub IsReady : Public → State → Option Pending → Type 0
 IsReady g s None = ⊤
 IsReady g s (Some p) = (asks p.measure p.request ≡ true) × IsNextBy (method g p.measure) g s.history (whole s) p.measure p.next
 
+-- A table is of what is public: it has a slot for each cuboid of each measure, and each verdict that it keeps is that on its cuboid.
+pub record IsTableOf (g : Public) (t : Table) : Type 0 where
+  pub measures : t.measures ≡ length g.policy.methods
+  pub cuboids : t.cuboids ≡ cuboid_count g.dimensions
+  pub found : Each (IsFound g) t.found
+
 -- A state stands for what is public: its history is admissible, also with the request that waits; what it keeps of each measure
--- is that of the history, and what it will keep that of both.
+-- is that of the history, and what it will keep that of both; and its table is of what is public.
 pub record StandsFor (g : Public) (s : State) : Type 0 where
   pub admissible : IsAdmissible g (whole s)
   pub long : length s.held ≡ length g.policy.methods
   pub held : (m : ℕ) → m < length s.held → IsHeldBy (method g m) g s.history (whole s) m (slice_index_or s.held m held.Open)
   pub ready : IsReady g s s.pending
+  pub table : IsTableOf g s.table
 
 -- the request waits exactly where its answer is fresh
 abbrev pub waits_by : Verdict → Pending → Option Pending

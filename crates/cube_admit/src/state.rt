@@ -6,7 +6,7 @@ ghost use Rattle.cube_model.specs.Cores.{shown};
 ghost use Rattle.cube_model.specs.declared.policy.Policy.{Policy};
 ghost use Rattle.cube_model.specs.Cubes.{Public, count_from};
 ghost use Rattle.cube_model.specs.Policies.{IsPolicy};
-ghost use Rattle.cube_model.specs.Protection.{method};
+ghost use Rattle.cube_model.specs.Protection.{method, uncut};
 ghost use Rattle.cube_model.specs.Links.{links as links_of};
 ghost use Rattle.cube_model.specs.Requests.{is_valid, fits, grain as grain_of};
 ghost use Rattle.cube_model.specs.Entries.{requests};
@@ -17,9 +17,10 @@ ghost use Rattle.cube_admit.specs.Boxes.{AnswersEvenBoxes};
 ghost use Rattle.cube_admit.specs.Linking.{is_linked, marked, IsLinks, HeldJudged, LinksJudged};
 ghost use Rattle.cube_admit.specs.Room.{CanEnd};
 ghost use Rattle.cube_admit.specs.Sources.{IsLong, step_by, judged_as};
-ghost use Rattle.cube_admit.specs.States.{whole, waiting, waits_by, waits_for, source_in, colouring_in, started, entered, given_back, StandsFor};
+ghost use Rattle.cube_admit.specs.States.{whole, waiting, waits_by, waits_for, source_in, colouring_in, started, entered, given_back, IsTableOf, StandsFor};
 ghost use Rattle.cube_admit.specs.declared.held.Next.TheVariants as next;
 ghost use Rattle.cube_admit.specs.declared.held.Held.TheVariants as kinds;
+ghost use Rattle.cube_source.specs.Judged.{judged_of};
 
 use crate::copies::copy_request;
 use crate::parity::judge_held;
@@ -30,7 +31,7 @@ use cube_core::Core;
 use cube_lattice::grain;
 use cube_model::{Entry, Levels, LinkList, Method, NoMemory, Policy, Request, Verdict, What};
 use cube_pairs::links;
-use cube_source::{Judged, guarded, judge};
+use cube_source::{JudgeTable, Judged, guarded};
 use std::alloc::Global;
 use std::marker::Model;
 
@@ -39,7 +40,8 @@ mod take;
 /// The most requests that a history holds.
 pub(crate) const MOST_HELD: u32 = 16_384;
 
-/// The history of a cube, perhaps a request that waits to enter it, and what is kept of each measure.
+/// The history of a cube, perhaps a request that waits to enter it, what is kept of each measure, and the
+/// verdicts on the sources that were judged.
 ///
 /// A state holds no core and no policy: it stands for those that it was made with, and each call that
 /// takes them has to be given the same.
@@ -49,6 +51,7 @@ pub struct State {
     asked: u32,
     held: Vec<Held>,
     pending: Option<Pending>,
+    table: JudgeTable,
 }
 
 impl Model for State {
@@ -60,7 +63,7 @@ impl Model for State {
 
     ghost Value = { said.State };
 
-    ghost view = { λ s. record { history = s.history.items; pending = s.pending; held = s.held.items } };
+    ghost view = { λ s. record { history = s.history.items; pending = s.pending; held = s.held.items; table = s.table } };
 
     ghost invariant = { λ s. (length (requests s.history.items) ≡ s.asked) × (s.asked ≤ 16384) × HasRoom s.asked (length s.history.items) (vec_capacity s.history) s.held.items s.pending };
 }
@@ -187,6 +190,7 @@ impl State {
             asked: 0,
             held: start_all(alloc, core, policy)?,
             pending: None,
+            table: JudgeTable::new(alloc, core.dims(), policy)?,
         })
     }
 
@@ -203,6 +207,13 @@ impl State {
         ensures { result ≡ is_some self.now.pending }
     {
         self.pending.is_some()
+    }
+
+    /// The request that waits to enter the history, if any, and what becomes of its measure then.
+    pub fn waiting(&self) -> Option<&Pending>
+        ensures { option_copied result ≡ self.now.pending }
+    {
+        self.pending.as_ref()
     }
 
     /// Lets the request that waits go, if any.
@@ -271,6 +282,7 @@ impl State {
         requires suits { CanEnd next (slice_index_or self.old.held measure kinds.Open) }
         ensures history { self.new.history ≡ self.old.history }
         ensures held { self.new.held ≡ self.old.held }
+        ensures table { self.new.table ≡ self.old.table }
         ensures pending { OnOk result (self.new.pending ≡ Some (record { request = request.now; measure = measure; next = next })) }
         ensures none { OnErr result (self.new.pending ≡ self.old.pending) }
     {
@@ -313,6 +325,29 @@ impl State {
         Ok(self.step_with(measure, grain(alloc, request)?))
     }
 
+    // The verdict on levels as the source of a measure, which the table keeps.
+    #[tactic(auto, using(crate::proofs::Tables::stands_by, crate::proofs::Tables::stands_back))]
+    fn judge(
+        &mut self,
+        alloc: Global,
+        core: &Core,
+        policy: &Policy,
+        measure: u32,
+        levels: &Levels,
+    ) -> Result<Judged, NoMemory>
+        requires policy { IsPolicy core.now.dims policy.now }
+        requires measure { measure < length core.now.dims.measures }
+        requires levels { are_levels (plains core.now.dims) levels.now ≡ true }
+        requires table { IsTableOf (shown core.now policy.now) self.old.table }
+        ensures judged { IfOk result (λ judged. judged ≡ judged_of (uncut (shown core.now policy.now) levels.now measure)) }
+        ensures history { self.new.history ≡ self.old.history }
+        ensures held { self.new.held ≡ self.old.held }
+        ensures pending { self.new.pending ≡ self.old.pending }
+        ensures table { IsTableOf (shown core.now policy.now) self.new.table }
+    {
+        self.table.judge(alloc, core, policy, measure, levels)
+    }
+
     // The verdict on a request that would narrow the source of its measure to these levels.
     fn judge_source(
         &mut self,
@@ -328,17 +363,19 @@ impl State {
         requires kept { measure < length self.old.held }
         requires levels { are_levels (plains core.now.dims) levels ≡ true }
         requires none { self.old.pending ≡ None }
+        requires table { IsTableOf (shown core.now policy.now) self.old.table }
         requires source { CanEnd (next.Source levels) (slice_index_or self.old.held measure kinds.Open) }
         ensures verdict { IfOk result (λ verdict. verdict ≡ judged_as (shown core.now policy.now) (length (requests self.old.history)) measure levels) }
         ensures history { self.new.history ≡ self.old.history }
         ensures held { self.new.held ≡ self.old.held }
+        ensures table { IsTableOf (shown core.now policy.now) self.new.table }
         ensures waits { IfOk result (λ verdict. self.new.pending ≡ waits_by verdict (record { request = request.now; measure = measure; next = next.Source levels })) }
         ensures err { OnErr result (self.new.pending ≡ None) }
     {
         if self.asked >= MOST_HELD {
             return Ok(Verdict::Full { held: self.asked });
         }
-        match judge(alloc, core, policy, measure, &levels)? {
+        match self.judge(alloc, core, policy, measure, &levels)? {
             Judged::Uncut { cell } => Ok(Verdict::SourceWould { levels, cell }),
             Judged::Safe => {
                 self.hold(alloc, request, measure, Next::Source(levels))?;

@@ -12,7 +12,7 @@ ghost use Rattle.cube_model.specs.Protection.{uncut};
 ghost use Rattle.cube_model.specs.Requests.{is_valid};
 ghost use Rattle.cube_model.specs.Verdicts.{taken as taken_of, taken_by as taken_by_verdict};
 ghost use Rattle.cube_admit.specs.Room.{CanEnd};
-ghost use Rattle.cube_admit.specs.States.{StandsFor};
+ghost use Rattle.cube_admit.specs.States.{IsTableOf, StandsFor};
 ghost use Rattle.cube_admit.specs.Taking.{behind};
 ghost use Rattle.cube_admit.specs.declared.held.Next.TheVariants as next;
 ghost use Rattle.cube_admit.specs.declared.held.Held.TheVariants as kinds;
@@ -23,7 +23,7 @@ use crate::copies::copy_items;
 use crate::source::Step;
 use cube_core::Core;
 use cube_model::{Entry, Levels, Link, LinkList, NoMemory, Policy, Request, Taken, Verdict};
-use cube_source::{Judged, judge};
+use cube_source::Judged;
 use std::alloc::Global;
 
 // What becomes of a request with this verdict.
@@ -37,25 +37,6 @@ fn taken_by(verdict: &Verdict) -> Taken
         | Verdict::SourceWould { .. }
         | Verdict::Pair { .. }
         | Verdict::Single { .. } => Taken::Refused,
-    }
-}
-
-// Whether levels cut each protected cell of a measure.
-fn is_safe(
-    alloc: Global,
-    core: &Core,
-    policy: &Policy,
-    measure: u32,
-    levels: &Levels,
-) -> Result<bool, NoMemory>
-    requires policy { IsPolicy core.now.dims policy.now }
-    requires measure { measure < length core.now.dims.measures }
-    requires levels { are_levels (plains core.now.dims) levels.now ≡ true }
-    ensures { IfOk result (λ safe. safe ≡ is_none (uncut (shown core.now policy.now) levels.now measure)) }
-{
-    match judge(alloc, core, policy, measure, levels)? {
-        Judged::Safe => Ok(true),
-        Judged::Uncut { .. } => Ok(false),
     }
 }
 
@@ -78,6 +59,31 @@ fn enter_taken(history: &mut Vec<Entry>, entry: Entry, taken: Taken)
 }
 
 impl State {
+    // Whether levels cut each protected cell of a measure.
+    fn is_safe(
+        &mut self,
+        alloc: Global,
+        core: &Core,
+        policy: &Policy,
+        measure: u32,
+        levels: &Levels,
+    ) -> Result<bool, NoMemory>
+        requires policy { IsPolicy core.now.dims policy.now }
+        requires measure { measure < length core.now.dims.measures }
+        requires levels { are_levels (plains core.now.dims) levels.now ≡ true }
+        requires table { IsTableOf (shown core.now policy.now) self.old.table }
+        ensures safe { IfOk result (λ safe. safe ≡ is_none (uncut (shown core.now policy.now) levels.now measure)) }
+        ensures history { self.new.history ≡ self.old.history }
+        ensures held { self.new.held ≡ self.old.held }
+        ensures pending { self.new.pending ≡ self.old.pending }
+        ensures table { IsTableOf (shown core.now policy.now) self.new.table }
+    {
+        match self.judge(alloc, core, policy, measure, levels)? {
+            Judged::Safe => Ok(true),
+            Judged::Uncut { .. } => Ok(false),
+        }
+    }
+
     // Takes a request with a fresh answer.
     fn take_request(
         &mut self,
@@ -114,6 +120,7 @@ impl State {
         ensures history { OnOk result (self.new.history ≡ self.old.history ++ entries.Source measure levels.now ∷ []) }
         ensures held { OnOk result (self.new.held ≡ slice_set self.old.held measure (kinds.Source (Some narrower))) }
         ensures none { self.new.pending ≡ None }
+        ensures table { self.new.table ≡ self.old.table }
         ensures err { OnErr result (self.new ≡ self.old) }
     {
         self.history.reserve(1)?;
@@ -148,7 +155,7 @@ impl State {
             Step::Stays => return Ok(Taken::Passed),
             Step::Would(narrower) => narrower,
         };
-        if !is_safe(alloc, core, policy, measure, &narrower)? {
+        if !self.is_safe(alloc, core, policy, measure, &narrower)? {
             return Ok(Taken::Refused);
         }
         self.put_source(alloc, measure, levels, narrower)?;

@@ -17,4 +17,4 @@ pub returns-in-Some-clause-stands : goal.returns-in-Some-clause-stands
 returns-in-Some-clause-stands c g stands =
     let waits : c.self.inside.pending ≡ Some c.in-Some.pending = cc in
     let room = subst (HasRoom c.self.inside.asked (length c.self.inside.history.items) (vec_capacity c.self.inside.history) c.self.inside.held.items) waits c.self.invariant.2 in
-    committed g c.args.self.now _ c.in-Some.pending (ap (λ (s : State). s.pending) (sym c.self.view_is) ∙ waits) (subst (λ (s : State). c.in-Some.pending.measure < length s.held) c.self.view_is room.2) (c.enter.ensures ∙ ap (λ (s : State). s.history ++ Asked c.in-Some.pending.request ∷ []) c.self.view_is) (c.keep_at.ensures ∙ ap (λ (s : State). set s.held c.in-Some.pending.measure (entered c.in-Some.pending.next (get_or s.held c.in-Some.pending.measure held.Open))) c.self.view_is) c.take.ensures.after stands
+    committed g c.args.self.now _ c.in-Some.pending (ap (λ (s : State). s.pending) (sym c.self.view_is) ∙ waits) (subst (λ (s : State). c.in-Some.pending.measure < length s.held) c.self.view_is room.2) (c.enter.ensures ∙ ap (λ (s : State). s.history ++ Asked c.in-Some.pending.request ∷ []) c.self.view_is) (c.keep_at.ensures ∙ ap (λ (s : State). set s.held c.in-Some.pending.measure (entered c.in-Some.pending.next (get_or s.held c.in-Some.pending.measure held.Open))) c.self.view_is) c.take.ensures.after (ap (λ (s : State). s.table) c.self.view_is) stands

@@ -47,4 +47,5 @@ returns-clause-judged c p =
       others = c.judge_at.ensures.others ∙ ap (λ (hs : List Held). set hs c.args.measure new) was;
       judged = subst (λ (hs : List Held). HeldJudged (get_or hs c.args.measure held.Open) new (length (requests c.args.self.now.history)) (links (shown c.args.core.now p) c.args.request.now) given) was (subst (λ (n : ℕ). HeldJudged (get_or c.self.inside.held.items c.args.measure held.Open) new n (links (shown c.args.core.now p) c.args.request.now) given) asked (subst (λ (ls : List Link). HeldJudged (get_or c.self.inside.held.items c.args.measure held.Open) new c.self.inside.asked ls given) said c.in_ok-verdict.ensures.judged));
       waits = c.wait.ensures ∙ ap (λ (r : Request). marked r c.args.measure c.in_ok-verdict.mark) c.in_ok-request.ensures;
+      table = ap (λ (s : State). s.table) c.self.view_is;
     }

@@ -58,4 +58,4 @@ returns-in-Would-clause-verdict c =
 pub returns-in-Would-clause-stands : goal.returns-in-Would-clause-stands
 returns-in-Would-clause-stands c =
     let k = known (shown c.args.core.now c.args.policy.now) c.args.self.now c.args.request.now c.args.measure c.requires.stands c.requires.none c.requires.valid c.requires.what in
-    judged_stands (shown c.args.core.now c.args.policy.now) c.args.self.now c.judge_source.new.self c.args.request.now c.args.measure c.in-Would.levels c.judge_source.result c.requires.stands c.requires.none c.requires.valid c.requires.what (step_would (shown c.args.core.now c.args.policy.now) c.args.self.now.history c.args.request.now c.args.measure _ c.in-Would.levels k.allowed c.requires.valid c.requires.what (k.held c.args.measure k.there) (sym c.in-Would.is ∙ c.in_ok-step.ensures)) c.judge_source.ensures.verdict c.judge_source.ensures.history c.judge_source.ensures.held c.judge_source.ensures.waits c.judge_source.ensures.err
+    judged_stands (shown c.args.core.now c.args.policy.now) c.args.self.now c.judge_source.new.self c.args.request.now c.args.measure c.in-Would.levels c.judge_source.result c.requires.stands c.requires.none c.requires.valid c.requires.what (step_would (shown c.args.core.now c.args.policy.now) c.args.self.now.history c.args.request.now c.args.measure _ c.in-Would.levels k.allowed c.requires.valid c.requires.what (k.held c.args.measure k.there) (sym c.in-Would.is ∙ c.in_ok-step.ensures)) c.judge_source.ensures.verdict c.judge_source.ensures.history c.judge_source.ensures.held c.judge_source.ensures.waits c.judge_source.ensures.err c.judge_source.ensures.table

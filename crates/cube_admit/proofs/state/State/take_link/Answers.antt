@@ -5,7 +5,7 @@ use Rattle.cube_model.specs.declared.verdict.Verdict.{Verdict}
 use Rattle.cube_model.specs.Cores.{shown}
 use Rattle.cube_model.specs.Entries.{requests}
 use Rattle.cube_admit.specs.Linking.{IsLinks, HeldJudged}
-use Rattle.cube_admit.specs.States.{State}
+use Rattle.cube_admit.specs.States.{State, IsTableOf}
 use Rattle.cube_admit.specs.Taking.{behind}
 use Rattle.cube_admit.specs.declared.held.Held.{Held}
 use Rattle.cube_admit.specs.declared.held.Held.TheVariants as held
@@ -47,4 +47,4 @@ returns-clause-stands c =
     (subst (λ (hs : List Held). HeldJudged (get_or hs c.args.measure held.Open) new 0 c.in_ok-links.links given) was c.in_ok-verdict.ensures.judged)
     (c.enter_taken.ensures ∙ ap (λ (h : List Entry). behind h entry c.taken_by-taken.result) before ∙ ap (behind c.args.self.now.history entry) c.taken_by-taken.ensures)
     (c.judge_at.ensures.others ∙ ap (λ (hs : List Held). set hs c.args.measure new) was)
-    (ap (λ (s : State). s.pending) c.self.view_is ∙ c.requires.none)
+    (ap (λ (s : State). s.pending) c.self.view_is ∙ c.requires.none) (subst (λ (s : State). IsTableOf (shown c.args.core.now c.args.policy.now) s.table) (sym c.self.view_is) c.requires.stands.table)
