@@ -10,7 +10,8 @@ use Rattle.cube_model.specs.Cubes.{Dimension, Public, same, in_order, key_at, to
 use Rattle.cube_model.specs.Meanings.{Cuts}
 use Rattle.cube_model.specs.Requests.{is_picked, in_picks, in_row, row_keys, row_at, rows}
 use Rattle.cube_model.specs.Protection.{listed, in_slice, touched, is_cut}
-use Rattle.cube_model.proofs.Members.{tested, IsIn-filter, filter_has, same_eq, same_refl}
+use Rattle.cube_model.proofs.Leasts.{fails}
+use Rattle.cube_model.proofs.Members.{tested, IsIn-filter, filter_has, IsIn-map, IsIn-in_order, same_eq, same_refl}
 use Rattle.cube_model.proofs.Orders.{cut_is_cuts, rows_are_rows, place_of}
 use Rattle.cube_model.proofs.Sources.{place_below}
 use Rattle.cube_model.proofs.Walks.{any_from, any_has, listed_from, listed_has, same_truth}
@@ -150,6 +151,25 @@ any_filter p q (x ∷ xs) = step (p x) (q x) (filter q xs) (list_any (λ x. p x 
     step true false rest r e f = e
     step false true rest r e f = ap₂ (λ (u v : Bool). u || v) f e
     step false false rest r e f = e
+
+-- where each place of the slice is flagged, each protected cell of the cuboid is parted
+pub all_parted : (g : Public) (o : Object) (c : List ℕ) (blocks : List Row) (flags : List Bool) → AreBlocks (length g.shape.points) blocks → AreFlags (length g.shape.points) (is_mixed g c blocks) flags
+    → list_any (λ i. not (get_or flags i false) && in_slice g o i) (places g) ≡ false → None ≡ find (λ t. not (is_parted g blocks t)) (touched g o c)
+all_parted g o c blocks flags are f none = sym (fails (λ t. not (is_parted g blocks t)) (touched g o c) parted)
+  where
+    flagged : (i : ℕ) → IsIn i (places g) → in_slice g o i ≡ true → get_or flags i false ≡ true
+    flagged i m s = tested (get_or flags i false) (λ e. e)
+        (λ e. absurd (false≢true (sym none ∙ any_has (λ i. not (get_or flags i false) && in_slice g o i) i (places g) m (and_from (not (get_or flags i false)) (in_slice g o i) (not_from_false (get_or flags i false) e) s))))
+
+    parted : (t : Cell) → IsIn t (touched g o c) → not (is_parted g blocks t) ≡ false
+    parted t m =
+        let k = IsIn-map (cell c) t (in_order (map (key_at g c) (filter (in_slice g o) (places g)))) m in
+        let i = IsIn-map (key_at g c) k.0 (filter (in_slice g o) (places g)) (IsIn-in_order k.0 (map (key_at g c) (filter (in_slice g o) (places g))) k.1) in
+        let p = IsIn-filter (in_slice g o) i.0 (places g) i.1 in
+        let covered : covers g (cell c k.0) i.0 ≡ true = ap (λ (x : List ℕ). same x k.0) i.2 ∙ same_refl k.0 in
+        let here : is_parted g blocks (cell c k.0) ≡ true = sym (parted_is g blocks (cell c k.0) flags are f)
+        ∙ any_has (λ i. get_or flags i false) i.0 (filter (covers g (cell c k.0)) (places g)) (filter_has (covers g (cell c k.0)) i.0 (places g) covered p.1) (flagged i.0 p.1 p.0) in
+        ap (λ (u : Cell). not (is_parted g blocks u)) (sym k.2) ∙ ap not here
 
 -- a row that passes is a kept key whose cell passes
 pub find_kept : (make : List ℕ → Row) (c : List ℕ) (test : Row → Bool) (keep : List ℕ → Bool) (passes : Cell → Bool) (keys : List (List ℕ)) → ((k : List ℕ) → (make k).key ≡ k) → ((k : List ℕ) → test (make k) ≡ (keep k && passes (cell c k)))

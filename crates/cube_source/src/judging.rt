@@ -13,7 +13,7 @@ ghost use Rattle.cube_source.specs.Judged.{judged_of};
 ghost use Rattle.cube_source.specs.Objects.{IsPlaced, of_measure};
 
 use crate::blocks::{copy_levels, meets, mixed_places, rows_at};
-use crate::places::{finest, key_of, touches};
+use crate::places::{finest, in_slice, key_of, touches};
 use crate::protecting::{is_guarded, method_of};
 use cube_core::Core;
 use cube_lattice::cuboids_below;
@@ -74,7 +74,22 @@ fn uncut_row(
     Ok(None)
 }
 
-/// The first cell of one cuboid that an object protects and no block parts.
+/// Whether one of the places that are not flagged is in the slice of an object.
+fn any_unmixed(core: &Core, object: &Object, mixed: &[bool]) -> bool
+    requires mixed { length mixed.now ≡ length core.now.shape.points }
+    requires slice { Each (IsWithin core.now.dims) object.now.slice }
+    ensures { result ≡ list_any (λ place. not (slice_index_or mixed.now place false) && in_slice (bare core.now) object.now place) (places (bare core.now)) }
+{
+    'places: for place in 0..core.len() {
+        if !mixed[place as usize] && in_slice(core, object, place) {
+            return true;
+        }
+    }
+    false
+}
+
+/// The first cell of one cuboid that an object protects and no block parts. The places are sorted by their
+/// keys only where one in the slice is not flagged: each cell with a flagged place is parted.
 fn uncut_at(
     alloc: Global,
     core: &Core,
@@ -87,8 +102,11 @@ fn uncut_at(
     requires slice { Each (IsWithin core.now.dims) object.now.slice }
     ensures { IfOk result (λ found. found ≡ find (λ cell. not (is_parted (bare core.now) blocks.now cell)) (touched (bare core.now) object.now levels.now)) }
 {
-    let rows = rows_at(alloc, core, levels)?;
     let mixed = mixed_places(alloc, core, blocks, levels)?;
+    if !any_unmixed(core, object, mixed.as_slice()) {
+        return Ok(None);
+    }
+    let rows = rows_at(alloc, core, levels)?;
     uncut_row(
         alloc,
         core,
@@ -211,7 +229,8 @@ fn first_uncut(
 /// does not cut: in the order of the objects, then of the cuboids by number, then of the keys; of a
 /// measure under the parity rule in the order of the places.
 ///
-/// It sorts all places once for each cuboid at or below each object, and lists no protected cells.
+/// It sorts all places once by the cuboid, and once more for each cuboid at or below an object at which a
+/// place of the object's slice has only places of its own cell beside it. It lists no protected cells.
 pub fn judge(
     alloc: Global,
     core: &Core,
