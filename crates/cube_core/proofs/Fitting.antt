@@ -1,6 +1,6 @@
 -- Requests that fit dimensions, dimension by dimension.
 use Rattle.std.specs.Option.{ForSome}
-use Rattle.std.proofs.Common.{◌≡◌, ℕ, zero, suc, ◌+◌, ◌<◌, ◌≤◌, true, ◌&&◌, List, [], ◌∷◌, length, map, drop, get_or, Option, Some, None, refl, ap, arith, leb, ltb}
+use Rattle.std.proofs.Common.{◌≡◌, ℕ, zero, suc, ◌+◌, ◌<◌, ◌≤◌, true, ◌&&◌, List, [], ◌∷◌, length, map, drop, get_or, Option, Some, None, refl, ap, subst, arith, leb, ltb}
 use Rattle.std.proofs.lemmas.Bool.{false≢true, and_parts, leb-true, ltb-true}
 use Rattle.std.proofs.lemmas.List.{drop_more, drop_all}
 use Rattle.cube_model.specs.declared.request.Pick.{Pick}
@@ -35,6 +35,23 @@ levels_fit (d ∷ ds) [] ps k h l = absurd (false≢true h)
 levels_fit (d ∷ ds) (x ∷ ls) [] k h l = absurd (false≢true h)
 levels_fit (d ∷ ds) (x ∷ ls) (p ∷ ps) zero h l = level_fits d p x (and_parts (is_level (plain d) p x) (fits (map plain ds) ls ps) h).0
 levels_fit (d ∷ ds) (x ∷ ls) (p ∷ ps) (suc k) h l = levels_fit ds ls ps k (and_parts (is_level (plain d) p x) (fits (map plain ds) ls ps) h).1 (omega (arith, l))
+
+-- a pick is of members of a named level, from the first to the last
+pub pick_fits : (ds : List NamedDimension) (ls : List ℕ) (ps : List (Option Pick)) (k : ℕ) → fits (map plain ds) ls ps ≡ true → k < length ds
+    → ForSome (get_or ps k None) (λ p. (p.level < length (get_or ds k no_dimension).levels) × (p.first ≤ p.last))
+pick_fits [] ls ps k h l = absurd (omega (arith, l))
+pick_fits (d ∷ ds) [] ps k h l = absurd (false≢true h)
+pick_fits (d ∷ ds) (x ∷ ls) [] k h l = absurd (false≢true h)
+pick_fits (d ∷ ds) (x ∷ ls) (None ∷ ps) zero h l = λ q e. absurd (cc)
+pick_fits (d ∷ ds) (x ∷ ls) (Some p ∷ ps) zero h l =
+    let own = (and_parts (is_level (plain d) (Some p) x) (fits (map plain ds) ls ps) h).0 in
+    let a = and_parts ((leb x (length d.levels) && ltb p.level (length d.levels)) && leb p.first p.last) (ltb p.last (members (plain d) p.level)) own in
+    let b = and_parts (leb x (length d.levels) && ltb p.level (length d.levels)) (leb p.first p.last) a.0 in
+    let c = and_parts (leb x (length d.levels)) (ltb p.level (length d.levels)) b.0 in
+    λ q e. (
+    let same : p ≡ q = cc in
+    subst (λ (y : Pick). (y.level < length d.levels) × (y.first ≤ y.last)) same (ltb-true p.level (length d.levels) c.1, leb-true p.first p.last b.1))
+pick_fits (d ∷ ds) (x ∷ ls) (p ∷ ps) (suc k) h l = pick_fits ds ls ps k (and_parts (is_level (plain d) p x) (fits (map plain ds) ls ps) h).1 (omega (arith, l))
 
 -- one dimension more
 pub picks_more : (ds : List NamedDimension) (ps : List (Option Pick)) (xs : List ℕ) (i : ℕ) → i < length ds → i < length ps → i < length xs

@@ -6,3 +6,5 @@ pub mod Fitting
 pub mod Keys
 pub mod Totals
 pub mod Worked
+pub mod Orders
+pub mod Candidates

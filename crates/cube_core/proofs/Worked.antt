@@ -1,14 +1,15 @@
 -- The cubes of the tests keep the rules.
-use Rattle.std.proofs.Common.{◌≡◌, ℕ, zero, suc, ◌<◌, ◌≤◌, List, [], ◌∷◌, ◌++◌, refl, sym, ap, ap₂, subst, ◌∙◌, arith, ltb, true, length, codes, ℤ, pos}
+use Rattle.std.proofs.Common.{◌≡◌, ℕ, zero, suc, ◌<◌, ◌≤◌, List, [], ◌∷◌, ◌++◌, refl, sym, ap, ap₂, subst, ◌∙◌, arith, ltb, true, length, map, codes, ℤ, pos}
 use Rattle.std.proofs.lemmas.Int.{ints}
 use Rattle.std.proofs.lemmas.Bool.{lt-ltb}
 use Rattle.std.specs.Fmt.{digits}
+use Rattle.std.specs.List.{AllByRecursion}
 use Rattle.std.specs.Str.{is_utf8, chars}
 use Rattle.cube_model.specs.Names.{is_name, is_level_name, is_measure_name}
 use Rattle.cube_model.specs.Cores.{Core, IsCore, IsSumOf, AreSumsOf}
 use Rattle.cube_model.specs.Cubes.{up, IsHierarchy}
 use Rattle.cube_model.specs.Dims.{Dims, NamedDimension, IsDimension, IsMeasure, IsDims, plain}
-use Rattle.cube_core.specs.Worked.{region, time, measure, pay_core, full_core}
+use Rattle.cube_core.specs.Worked.{region, time, day, measure, pay_core, full_core, day_core}
 
 -- with two levels each member has one parent, since leaves are told apart
 two_levels : (d : NamedDimension) → length d.levels ≡ 2 → IsHierarchy (plain d)
@@ -139,6 +140,54 @@ is_full_core = record {
     hours (suc (suc (suc (suc zero)))) l = small 1 0 (omega arith) (omega arith)
     hours (suc (suc (suc (suc (suc zero))))) l = small 1 0 (omega arith) (omega arith)
     hours (suc (suc (suc (suc (suc (suc n)))))) l = absurd (omega (arith, l))
+
+pub is_day : IsDimension day
+unfolding is_name is_level_name is_utf8 chars digits lib.Utf8.encode
+is_day = record {
+  name = refl;
+  column = refl;
+  has_levels = omega arith;
+  few_levels = omega arith;
+  level_names = refl;
+  distinct_levels = refl;
+  has_leaves = omega arith;
+  few_leaves = omega arith;
+  even = refl;
+  member_names = refl;
+  distinct_leaves = refl;
+  one_parent = two_levels day refl;
+}
+
+pub is_day_core : IsCore day_core
+is_day_core = record {
+  dims = record {
+    each_dimension = (is_region, (is_day, tt));
+    each_measure = (is_pay, tt);
+    has_dimensions = omega arith;
+    few_dimensions = omega arith;
+    has_measures = omega arith;
+    few_measures = omega arith;
+    few_cuboids = omega arith;
+    distinct_dimensions = refl;
+    distinct_measures = refl;
+    distinct_columns = refl;
+  };
+  points = ((omega arith, (omega arith, tt)), ((omega arith, (omega arith, tt)), ((omega arith, (omega arith, tt)), ((omega arith, (omega arith, tt)), ((omega arith, (omega arith, tt)), ((omega arith, (omega arith, tt)), ((omega arith, (omega arith, tt)), ((omega arith, (omega arith, tt)), ((omega arith, (omega arith, tt)), ((omega arith, (omega arith, tt)), ((omega arith, (omega arith, tt)), ((omega arith, (omega arith, tt)), tt))))))))))));
+  increasing = (refl, (refl, (refl, (refl, (refl, (refl, (refl, (refl, (refl, (refl, (refl, (refl, tt))))))))))));
+  few_points = omega arith;
+  facts = refl;
+  counted = (omega arith, (omega arith, (omega arith, (omega arith, (omega arith, (omega arith, (omega arith, (omega arith, (omega arith, (omega arith, (omega arith, (omega arith, tt))))))))))));
+  few_facts = omega arith;
+  measures = refl;
+  values = (refl, tt);
+  bounded = (ones (1 ∷ 2 ∷ 4 ∷ 8 ∷ 16 ∷ 32 ∷ 64 ∷ 128 ∷ 256 ∷ 512 ∷ 1024 ∷ 2048 ∷ []) (omega arith, (omega arith, (omega arith, (omega arith, (omega arith, (omega arith, (omega arith, (omega arith, (omega arith, (omega arith, (omega arith, (omega arith, tt)))))))))))), tt);
+}
+  where
+    -- values of one fact each
+    ones : (values : List ℕ) → AllByRecursion (λ v. v ≤ 1000000000000) values → AreSumsOf (map (λ v. 1) values) (map pos values)
+    ones [] h i l = absurd (omega (arith, l))
+    ones (v ∷ values) h zero l = small 1 v (omega arith) h.0
+    ones (v ∷ values) h (suc i) l = ones values h.1 i (omega (arith, l))
 
 -- parts that are those of a core keep the rules as it does
 pub same_core : (core : Core) (d : Dims) (points : List (List ℕ)) (facts : List ℕ) (cube : List (List ℤ)) → d ≡ core.dims → points ≡ core.shape.points → facts ≡ core.shape.facts → cube ≡ core.cube → IsCore core

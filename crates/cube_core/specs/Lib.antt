@@ -1,5 +1,6 @@
 pub mod Full
 pub mod Grouping
+pub mod Index
 pub mod Keys
 pub mod Rows
 pub mod Worked

@@ -1,4 +1,4 @@
--- The pay cube and the full two-row cube of the tests.
+-- The pay cube, the full two-row cube and the cube of days of the tests.
 use Rattle.std.specs.Prelude.{ℕ, List, [], ◌∷◌, codes, pos}
 use Rattle.cube_model.specs.Cores.{Core}
 use Rattle.cube_model.specs.Dims.{NamedDimension, NamedMeasure}
@@ -44,4 +44,25 @@ full_core = record {
   dims = pay_core.dims;
   shape = record { points = two 0 0 ∷ two 0 1 ∷ two 1 0 ∷ two 1 1 ∷ two 2 0 ∷ two 2 1 ∷ []; facts = 1 ∷ 1 ∷ 1 ∷ 1 ∷ 1 ∷ 1 ∷ [] };
   cube = (pos 1 ∷ pos 2 ∷ pos 3 ∷ pos 4 ∷ pos 5 ∷ pos 6 ∷ []) ∷ (pos 0 ∷ pos 0 ∷ pos 0 ∷ pos 0 ∷ pos 0 ∷ pos 0 ∷ []) ∷ [];
+}
+
+-- five days in three parts
+abbrev pub day : NamedDimension
+day = record {
+  name = codes "day";
+  column = codes "day";
+  levels = path (codes "day") (codes "part");
+  paths = path (codes "Mo") (codes "A") ∷ path (codes "Tu") (codes "B") ∷ path (codes "We") (codes "B") ∷ path (codes "Th") (codes "C") ∷ path (codes "Fr") (codes "C") ∷ [];
+}
+
+-- facts in each city each day, but on Tuesday not in Nice, and on Wednesday in Nice alone: so few that those of both days are looked
+-- for by day, where the days' places are not in order
+abbrev pub day_core : Core
+day_core = record {
+  dims = record { dimensions = region ∷ day ∷ []; measures = measure (codes "pay") ∷ [] };
+  shape = record {
+    points = two 0 0 ∷ two 0 1 ∷ two 0 3 ∷ two 0 4 ∷ two 1 0 ∷ two 1 2 ∷ two 1 3 ∷ two 1 4 ∷ two 2 0 ∷ two 2 1 ∷ two 2 3 ∷ two 2 4 ∷ [];
+    facts = 1 ∷ 1 ∷ 1 ∷ 1 ∷ 1 ∷ 1 ∷ 1 ∷ 1 ∷ 1 ∷ 1 ∷ 1 ∷ 1 ∷ [];
+  };
+  cube = (pos 1 ∷ pos 2 ∷ pos 4 ∷ pos 8 ∷ pos 16 ∷ pos 32 ∷ pos 64 ∷ pos 128 ∷ pos 256 ∷ pos 512 ∷ pos 1024 ∷ pos 2048 ∷ []) ∷ [];
 }

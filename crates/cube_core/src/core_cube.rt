@@ -5,9 +5,11 @@ ghost use Rattle.cube_model.specs.Cubes.{up};
 ghost use Rattle.cube_model.specs.Dims.{plain, dimension_at, IsDimension};
 ghost use Rattle.cube_model.specs.Cores.{IsCore, IsSumOf};
 ghost use Rattle.cube_core.specs.Full.{vector_count, is_full};
+ghost use Rattle.cube_core.specs.Index.{IsIndex};
 
 use crate::Steps;
-use cube_model::{Cube, Dimension, Dims, NoMemory, Shape};
+use crate::index::{Index, Order, index_of};
+use cube_model::{Cube, Dimension, Dims, Items, NoMemory, Shape};
 use std::alloc::Global;
 use std::marker::Model;
 use std::sync::ledger::Ledger;
@@ -20,18 +22,20 @@ pub struct Core {
     shape: Shape,
     cube: Cube,
     facts: u64,
+    index: Index,
 }
 
 impl Model for Core {
     ghost use Rattle.std.specs.Prelude.{◌≡◌, sum};
     ghost use Rattle.cube_model.specs.Cores as said;
     ghost use Rattle.cube_model.specs.Cores.{IsCore};
+    ghost use Rattle.cube_core.specs.Index.{IsIndex};
 
     ghost Value = { said.Core };
 
     ghost view = { λ c. record { dims = c.dims; shape = c.shape; cube = c.cube } };
 
-    ghost invariant = { λ c. IsCore (record { dims = c.dims; shape = c.shape; cube = c.cube }) × (c.facts ≡ sum c.shape.facts) };
+    ghost invariant = { λ c. IsCore (record { dims = c.dims; shape = c.shape; cube = c.cube }) × (c.facts ≡ sum c.shape.facts) × IsIndex c.dims.dimensions c.shape.points c.index };
 }
 
 /// The sum of numbers of facts.
@@ -59,17 +63,19 @@ fn has_vectors(dimensions: &[Dimension], number: u64) -> bool
 }
 
 impl Core {
-    /// A core of parts that keep the rules.
-    pub fn new(_alloc: Global, dims: Dims, shape: Shape, cube: Cube) -> Result<Self, NoMemory>
+    /// A core of parts that keep the rules. Takes one sort of the places for each named level.
+    pub fn new(alloc: Global, dims: Dims, shape: Shape, cube: Cube) -> Result<Self, NoMemory>
         requires { IsCore (record { dims = dims; shape = shape; cube = cube }) }
         ensures { IfOk result (λ core. core ≡ record { dims = dims; shape = shape; cube = cube }) }
     {
         let facts = sum_facts(shape.facts.as_slice());
+        let index = index_of(alloc, dims.dimensions(), shape.points.as_slice())?;
         Ok(Core {
             dims,
             shape,
             cube,
             facts,
+            index,
         })
     }
 
@@ -129,6 +135,14 @@ impl Core {
     {
         let leaf = self.shape.points.as_slice()[place as usize].as_slice()[dimension as usize];
         self.dims.dimension(dimension).up(level, leaf)
+    }
+
+    /// For each dimension the orders of all places, one for each named level.
+    pub(crate) fn index(&self) -> &[Items<Order>]
+        ensures index { IsIndex self.now.dims.dimensions self.now.shape.points result.now }
+        ensures rules { IsCore self.now }
+    {
+        self.index.as_slice()
     }
 
     /// The values of a measure, one for each place.

@@ -3,6 +3,7 @@
 #![tactic(auto)]
 
 mod core_cube;
+mod index;
 mod rows;
 mod steps;
 mod sums;

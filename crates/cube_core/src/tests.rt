@@ -4,7 +4,7 @@ ghost use Rattle.std.specs.List.{All};
 ghost use Rattle.cube_model.specs.Dims.{plains, IsDimension, IsMeasure};
 ghost use Rattle.cube_model.specs.Requests.{fits};
 ghost use Rattle.cube_core.specs.Rows.{ArePlaces};
-ghost use Rattle.cube_core.specs.Worked.{region, time, measure, two, pay_core, full_core};
+ghost use Rattle.cube_core.specs.Worked.{region, time, day, measure, two, pay_core, full_core, day_core};
 
 use crate::{Core, Steps};
 use cube_model::{
@@ -76,6 +76,18 @@ fn make_time(alloc: Global) -> Result<Dimension, NoMemory>
     )
 }
 
+fn make_day(alloc: Global) -> Result<Dimension, NoMemory>
+    ensures { IfOk result (λ made. made ≡ day) }
+{
+    let mut paths = Items::new(alloc);
+    paths.push(path(alloc, b"Mo", b"A")?)?;
+    paths.push(path(alloc, b"Tu", b"B")?)?;
+    paths.push(path(alloc, b"We", b"B")?)?;
+    paths.push(path(alloc, b"Th", b"C")?)?;
+    paths.push(path(alloc, b"Fr", b"C")?)?;
+    dimension(alloc, b"day", path(alloc, b"day", b"part")?, paths, b"day")
+}
+
 fn make_measure(alloc: Global, name: &[u8]) -> Result<Measure, NoMemory>
     requires { IsMeasure (measure name.now) }
     ensures { IfOk result (λ made. made ≡ measure name.now) }
@@ -139,6 +151,42 @@ fn make_full(alloc: Global) -> Result<Core, NoMemory>
     Core::new(alloc, make_dims(alloc)?, Shape { points, facts }, cube)
 }
 
+fn make_day_dims(alloc: Global) -> Result<Dims, NoMemory>
+    ensures { IfOk result (λ made. made ≡ day_core.dims) }
+{
+    let mut dimensions = Items::new(alloc);
+    dimensions.push(make_region(alloc)?)?;
+    dimensions.push(make_day(alloc)?)?;
+    let mut measures = Items::new(alloc);
+    measures.push(make_measure(alloc, b"pay")?)?;
+    Ok(Dims::from_parts(dimensions, measures))
+}
+
+/// Puts the points of a city at the end: Monday, one day in the midst, Thursday and Friday.
+fn put_days(alloc: Global, points: &mut Items<Key>, city: u32, midst: u32) -> Result<(), NoMemory>
+    ensures { OnOk result (points.new ≡ points.old ++ two city 0 ∷ two city midst ∷ two city 3 ∷ two city 4 ∷ []) }
+{
+    put(alloc, points, city, 0)?;
+    put(alloc, points, city, midst)?;
+    put(alloc, points, city, 3)?;
+    put(alloc, points, city, 4)
+}
+
+/// The cube of days: values are powers of two, so that each sum tells what was added.
+fn make_days(alloc: Global) -> Result<Core, NoMemory>
+    ensures { IfOk result (λ made. made ≡ day_core) }
+{
+    let mut points = Items::new(alloc);
+    put_days(alloc, &mut points, 0, 1)?;
+    put_days(alloc, &mut points, 1, 2)?;
+    put_days(alloc, &mut points, 2, 1)?;
+    let facts = Items::from_vec(vec![in alloc; 1, 1, 1, 1, 1, 1, 1, 1, 1, 1, 1, 1]?);
+    let values = vec![in alloc; 1, 2, 4, 8, 16, 32, 64, 128, 256, 512, 1024, 2048]?;
+    let mut cube = Cube::new(alloc);
+    cube.push(Values::from_vec(values))?;
+    Core::new(alloc, make_day_dims(alloc)?, Shape { points, facts }, cube)
+}
+
 /// Puts numbers at the end, each behind a blank.
 fn push_numbers(text: &mut Text, numbers: &[u32]) -> Result<(), NoMemory> {
     for number in numbers {
@@ -193,13 +241,32 @@ fn make_request(
     })
 }
 
-/// The rows of the pay cube.
+/// The rows of a core.
 fn rows_of(alloc: Global, core: &Core, request: &Request) -> Result<Rows, NoMemory>
-    requires core { core.now ≡ pay_core }
-    requires fits { fits (plains pay_core.dims) request.now.group request.now.picks ≡ true }
+    requires { fits (plains core.now.dims) request.now.group request.now.picks ≡ true }
     ensures { IfOk result (λ rows. All (λ row. ArePlaces (length core.now.shape.points) row.places) rows) }
 {
     core.rows(alloc, request)
+}
+
+/// What is told of the rows of a core.
+fn told_of<L: Ledger>(
+    alloc: Global,
+    core: &Core,
+    group: (u32, u32),
+    picks: (Option<Pick>, Option<Pick>),
+    blank: Blank,
+) -> Result<Text, NoMemory>
+    requires measure { 0 < length core.now.dims.measures }
+    requires fits { fits (plains core.now.dims) (two group.0 group.1) (picks.0 ∷ picks.1 ∷ []) ≡ true }
+    requires name { blank.name ≡ L.name }
+    requires parts { blank.parts ≡ L.parts }
+    requires some { 0 < L.parts }
+{
+    let request = make_request(alloc, group, picks)?;
+    let rows = rows_of(alloc, core, &request)?;
+    let mut steps = Steps::<L>::new(blank);
+    told(alloc, core, rows.as_slice(), &mut steps)
 }
 
 /// What is told of the rows of the pay cube.
@@ -214,11 +281,29 @@ fn told_of_pay<L: Ledger>(
     requires parts { blank.parts ≡ L.parts }
     requires some { 0 < L.parts }
 {
-    let core = make_pay(alloc)?;
-    let request = make_request(alloc, group, picks)?;
-    let rows = rows_of(alloc, &core, &request)?;
-    let mut steps = Steps::<L>::new(blank);
-    told(alloc, &core, rows.as_slice(), &mut steps)
+    told_of::<L>(alloc, &make_pay(alloc)?, group, picks, blank)
+}
+
+/// What is told of the rows of the cube of days.
+fn told_of_days<L: Ledger>(
+    alloc: Global,
+    group: (u32, u32),
+    picks: (Option<Pick>, Option<Pick>),
+    blank: Blank,
+) -> Result<Text, NoMemory>
+    requires fits { fits (plains day_core.dims) (two group.0 group.1) (picks.0 ∷ picks.1 ∷ []) ≡ true }
+    requires name { blank.name ≡ L.name }
+    requires parts { blank.parts ≡ L.parts }
+    requires some { 0 < L.parts }
+{
+    told_of::<L>(alloc, &make_days(alloc)?, group, picks, blank)
+}
+
+/// A pick of members of a level.
+fn pick(level: u32, first: u32, last: u32) -> Option<Pick>
+    ensures { result ≡ Some (record { level = level; first = first; last = last }) }
+{
+    Some(Pick { level, first, last })
 }
 
 const SECOND: Option<Pick> = Some(Pick {
@@ -246,6 +331,40 @@ fn rows_are_groups_of_picked_places(rt: HostRuntime) -> Result<(), Fail> {
     assert_eq!(rt;
         all.as_slice(),
         b"key 0 0 places 0 1 2 3 4 sum 150 count 6\n".as_slice()
+    );
+    Ok(())
+}
+
+#[test]
+fn few_places_are_found_by_their_members(rt: HostRuntime) -> Result<(), Fail> {
+    let alloc = rt.alloc();
+    // Tuesday and Wednesday, by their days; their part of the week, by the part
+    let both = told_of_days::<Brand>(alloc, (2, 2), (None, pick(0, 1, 2)), Blank::new(1))?;
+    assert_eq!(rt;
+        both.as_slice(),
+        b"key 0 0 places 1 5 9 sum 546 count 3\n".as_slice()
+    );
+    let part = told_of_days::<Brand>(alloc, (0, 2), (None, pick(1, 1, 1)), Blank::new(1))?;
+    assert_eq!(rt;
+        part.as_slice(),
+        b"key 0 0 places 1 sum 2 count 1\nkey 1 0 places 5 sum 32 count 1\nkey 2 0 places 9 sum 512 count 1\n".as_slice()
+    );
+    // of these Nice and Paris
+    let two = told_of_days::<Brand>(alloc, (1, 2), (pick(0, 1, 2), pick(0, 1, 2)), Blank::new(1))?;
+    assert_eq!(rt;
+        two.as_slice(),
+        b"key 0 0 places 5 sum 32 count 1\nkey 1 0 places 9 sum 512 count 1\n".as_slice()
+    );
+    // Lyon has too many, and where nothing is picked all are looked at
+    let lyon = told_of_days::<Brand>(alloc, (0, 2), (pick(0, 0, 0), None), Blank::new(1))?;
+    assert_eq!(rt;
+        lyon.as_slice(),
+        b"key 0 0 places 0 1 2 3 sum 15 count 4\n".as_slice()
+    );
+    let all = told_of_days::<Brand>(alloc, (2, 1), (None, None), Blank::new(1))?;
+    assert_eq!(rt;
+        all.as_slice(),
+        b"key 0 0 places 0 4 8 sum 273 count 3\nkey 0 1 places 1 5 9 sum 546 count 3\nkey 0 2 places 2 3 6 7 10 11 sum 3276 count 6\n".as_slice()
     );
     Ok(())
 }
