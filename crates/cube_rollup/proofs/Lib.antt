@@ -1,3 +1,4 @@
 pub mod Sums
 pub mod Unions
 pub mod Cells
+pub mod Keeping

@@ -7,7 +7,9 @@
 mod answering;
 mod building;
 mod cuboid;
+mod rollups;
 #[cfg(test)]
 mod tests;
 
 pub use cuboid::Cuboid;
+pub use rollups::Rollups;

@@ -5,7 +5,7 @@ ghost use Rattle.cube_model.specs.Cubes.{are_levels, is_finer};
 ghost use Rattle.cube_model.specs.Dims.{plains, IsDimension, IsMeasure};
 ghost use Rattle.cube_model.specs.Requests.{asks, fits, lesser_levels};
 
-use crate::Cuboid;
+use crate::{Cuboid, Rollups};
 use cube_core::{Core, Steps};
 use cube_model::{
     AnswerRow, Cube, Dimension, Dims, Items, Key, Levels, Measure, NoMemory, NumberedNames, Pick,
@@ -226,5 +226,56 @@ fn rows_are_unions_of_cells(rt: HostRuntime) -> Result<(), Fail> {
     );
     let all = told_of::<Brand>(alloc, (2, 2), (2, 2), (None, None), Blank::new(1))?;
     assert_eq!(rt; all.as_slice(), b"150 \n0 0 150\n".as_slice());
+    Ok(())
+}
+
+/// How many cells the cuboid of a measure has.
+fn push_count(text: &mut Text, rollups: &Rollups, measure: u32) -> Result<(), NoMemory>
+    requires { measure < length rollups.now.kept }
+{
+    match rollups.at(measure) {
+        None => text.push(b'-')?,
+        Some(cuboid) => text.push_number(u64::from(cuboid.cells()))?,
+    }
+    text.push(b' ')
+}
+
+/// A cuboid of pay in a list of one measure: held, let go, held again, and put in its place, as counts of its cells.
+fn counts_in_turn(alloc: Global, first: Cuboid, second: Cuboid) -> Result<Text, NoMemory>
+    requires first { first.measure ≡ 0 }
+    requires second { second.measure ≡ 0 }
+{
+    let mut text = Text::new(alloc);
+    let mut rollups = Rollups::new(alloc);
+    rollups.push(None)?;
+    rollups.hold(first);
+    push_count(&mut text, &rollups, 0)?;
+    rollups.drop_next();
+    push_count(&mut text, &rollups, 0)?;
+    rollups.hold(second);
+    rollups.commit();
+    push_count(&mut text, &rollups, 0)?;
+    Ok(text)
+}
+
+/// The cuboids of pay by quarter, then by month.
+fn told_in_turn<L: Ledger>(alloc: Global, blank: Blank) -> Result<Text, NoMemory>
+    requires name { blank.name ≡ L.name }
+    requires parts { blank.parts ≡ L.parts }
+    requires some { 0 < L.parts }
+{
+    let mut steps = Steps::<L>::new(blank);
+    let core = make_pay(alloc)?;
+    let quarters = make_two(alloc, 2, 1)?;
+    let months = make_two(alloc, 2, 0)?;
+    let first = Cuboid::build(alloc, &core, &quarters, 0, &mut steps)?;
+    let second = Cuboid::build(alloc, &core, &months, 0, &mut steps)?;
+    counts_in_turn(alloc, first, second)
+}
+
+#[test]
+fn a_cuboid_takes_its_place_once_it_enters(rt: HostRuntime) -> Result<(), Fail> {
+    let text = told_in_turn::<Brand>(rt.alloc(), Blank::new(1))?;
+    assert_eq!(rt; text.as_slice(), b"1 - 2 ".as_slice());
     Ok(())
 }
