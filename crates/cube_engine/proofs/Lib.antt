@@ -3,3 +3,4 @@ pub mod Named
 pub mod Worlds
 mod Preparing
 mod Logs
+mod Cuboids

@@ -8,3 +8,4 @@ pub mod Worlds
 pub mod Kept
 pub mod Opening
 pub mod Prepared
+pub mod Reads

@@ -13,28 +13,32 @@ ghost use Rattle.cube_engine.specs.Changes.{Refuses, changes_for, text_of, twin_
 ghost use Rattle.cube_engine.specs.Kept.{history_of, IsKept, IsExact, IsWithin};
 ghost use Rattle.cube_engine.specs.Opening.{StartCause, IsStartFault};
 ghost use Rattle.cube_engine.specs.Prepared.{InnerComes};
+ghost use Rattle.cube_engine.specs.Reads.{AskReadsFew};
 ghost use Rattle.cube_engine.specs.Worlds.{IsRuled};
 
 use crate::EngineFault;
 use crate::opening::open_log;
 use crate::prepared::{Prepared, prepare_query};
+use crate::rolling::roll_all;
 use crate::witness::{NoChanges, changes_text, prepare_shape, prepare_witness, twin_text};
 use cube_admit::State;
 use cube_core::{Core, Steps};
 use cube_io::{Failed, Store};
 use cube_journal::{Journal, Line};
 use cube_model::{Inner, Policy, Text};
+use cube_rollup::Rollups;
 use std::alloc::Global;
-use std::marker::Model;
-use std::sync::ledger::Ledger;
+use std::marker::{Brand, Model};
+use std::sync::ledger::{Blank, Ledger};
 
-/// One cube with its policy and its history, and the journal of that. A request that is answered first waits, and
-/// enters the history once its line is kept.
+/// One cube with its policy and its history, the journal of that, and the cuboid at the source of each lattice measure, from
+/// which its requests are answered. A request that is answered first waits, and enters the history once its line is kept.
 #[derive(Drop)]
 pub struct Book {
     core: Core,
     policy: Policy,
     state: State,
+    rollups: Rollups,
     journal: Journal,
 }
 
@@ -44,6 +48,7 @@ impl Model for Book {
     ghost use Rattle.cube_model.specs.Entries.{requests};
     ghost use Rattle.cube_model.specs.Policies.{IsPolicy};
     ghost use Rattle.cube_admit.specs.States.{waiting as waiting_in, StandsFor};
+    ghost use Rattle.cube_rollup.specs.Rollups.{RollupsStand};
     ghost use Rattle.cube_engine.specs.Books as said;
 
     ghost Value = { said.Book };
@@ -51,7 +56,7 @@ impl Model for Book {
     ghost view = { λ b. record { core = b.core; policy = b.policy; history = b.state.history; waiting = waiting_in b.state; journal = b.journal } };
 
     // A journal has at most 2^14 bytes for each request, behind those that it was opened with.
-    ghost invariant = { λ b. IsPolicy b.core.dims b.policy × StandsFor (shown b.core b.policy) b.state × (b.journal.kept ≤ 2 ^ 28 + 2 ^ 14 * length (requests b.state.history)) };
+    ghost invariant = { λ b. IsPolicy b.core.dims b.policy × StandsFor (shown b.core b.policy) b.state × (b.journal.kept ≤ 2 ^ 28 + 2 ^ 14 * length (requests b.state.history)) × RollupsStand b.core b.policy b.state.history (waiting_in b.state) b.rollups };
 }
 
 impl Book {
@@ -81,14 +86,19 @@ impl Book {
         ensures policy { IfOk result (λ book. book.policy ≡ policy) }
         ensures none { IfOk result (λ book. book.waiting ≡ None) }
     {
-        match open_log(alloc, &core, &policy, store, log) {
-            Ok((journal, state)) => Ok(Book {
+        let (journal, state) = match open_log(alloc, &core, &policy, store, log) {
+            Ok(opened) => opened,
+            Err(fault) => return Err(fault),
+        };
+        match roll_all::<Brand>(alloc, &core, &policy, &state, Blank::new(1)) {
+            Ok(rollups) => Ok(Book {
                 core,
                 policy,
                 state,
+                rollups,
                 journal,
             }),
-            Err(fault) => Err(fault),
+            Err(_) => Err(EngineFault::NoMemory),
         }
     }
 
@@ -146,12 +156,14 @@ impl Book {
         requires { self.old.waiting ≡ None }
         ensures comes { InnerComes self.old.core.dims (world self.old.core self.old.policy) self.old.history (inner.Query text.now) self.new.waiting result }
         ensures same { self.new ≡ with_waiting self.new.waiting self.old }
+        ensures few { AskReadsFew self.old.core.dims (shown self.old.core self.old.policy) self.old.history (inner.Query text.now) steps.old steps.new }
     {
         prepare_query(
             alloc,
             &self.core,
             &self.policy,
             &mut self.state,
+            &mut self.rollups,
             text,
             steps,
         )
@@ -185,6 +197,7 @@ impl Book {
         requires { self.old.waiting ≡ None }
         ensures comes { InnerComes self.old.core.dims (world self.old.core self.old.policy) self.old.history ask.now self.new.waiting result }
         ensures same { self.new ≡ with_waiting self.new.waiting self.old }
+        ensures few { AskReadsFew self.old.core.dims (shown self.old.core self.old.policy) self.old.history ask.now steps.old steps.new }
     {
         match ask {
             Inner::Query(text) => self.query(alloc, text.as_slice(), steps),
@@ -220,10 +233,12 @@ impl Book {
         match self.journal.keep(store, line) {
             Ok(()) => {
                 self.state.commit();
+                self.rollups.commit();
                 Ok(())
             }
             Err(failed) => {
                 self.state.drop_pending();
+                self.rollups.drop_next();
                 Err(failed)
             }
         }

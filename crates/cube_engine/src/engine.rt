@@ -15,7 +15,8 @@ ghost use Rattle.cube_engine.specs.Engines.{book_of, rooms_of};
 ghost use Rattle.cube_engine.specs.Kept.{history_of, IsKept, IsExact, IsWithin};
 ghost use Rattle.cube_engine.specs.Opening.{StartCause, IsStartFault};
 ghost use Rattle.cube_engine.specs.Prepared.{AskComes, IsMissed, SettleCause};
-ghost use Rattle.cube_engine.specs.Steps.{manner, reply_in, next_in};
+ghost use Rattle.cube_engine.specs.Reads.{AskReadsFew};
+ghost use Rattle.cube_engine.specs.Steps.{inner_of, manner, reply_in, next_in};
 ghost use Rattle.cube_engine.specs.Worlds.{IsRuled, Opens};
 
 use crate::prepared::Prepared;
@@ -58,6 +59,7 @@ fn prepare_group<L: Ledger>(
     requires { book.old.waiting ≡ None }
     ensures comes { AskComes book.old.core.dims (world book.old.core book.old.policy) book.old.history (asked.Group name.now ask.now) book.new.waiting result }
     ensures same { book.new ≡ with_waiting book.new.waiting book.old }
+    ensures few { AskReadsFew book.old.core.dims (shown book.old.core book.old.policy) book.old.history ask.now steps.old steps.new }
 {
     if name.is_empty() {
         book.prepare(alloc, ask, steps)
@@ -72,6 +74,7 @@ fn prepare<L: Ledger>(alloc: Global, book: &mut Book, ask: &Ask, steps: &mut Ste
     requires { book.old.waiting ≡ None }
     ensures comes { AskComes book.old.core.dims (world book.old.core book.old.policy) book.old.history ask.now book.new.waiting result }
     ensures same { book.new ≡ with_waiting book.new.waiting book.old }
+    ensures few { AskReadsFew book.old.core.dims (shown book.old.core book.old.policy) book.old.history (inner_of ask.now) steps.old steps.new }
 {
     match ask {
         Ask::Query(text) => book.query(alloc, text.as_slice(), steps),
@@ -254,6 +257,9 @@ impl Engine {
         ensures stays { IsTrue (S.attached store.new) }
         ensures others { OthersStay (S.told store.old) self.old.journal.log (S.logs store.old) (S.logs store.new) }
         ensures calls { IsTrue (S.told store.old) → S.calls store.new ≤ S.calls store.old + 4 }
+
+        // A request on a lattice measure that adds nothing to the history is answered from the source cuboid.
+        ensures few_reads { AskReadsFew self.old.core.dims (shown self.old.core self.old.policy) self.old.history (inner_of ask.now) steps.old steps.new }
 
         // An ask that adds nothing to the history leaves the store alone.
         ensures untouched { next_in self.old.core.dims (rooms_of self.old) ask.now outcome.Given ≡ rooms_of self.old → store.new ≡ store.old }

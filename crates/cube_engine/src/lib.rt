@@ -7,6 +7,7 @@ mod engine;
 mod fault;
 mod opening;
 mod prepared;
+mod rolling;
 #[cfg(test)]
 mod tests;
 mod turns;

@@ -7,8 +7,12 @@ ghost use Rattle.cube_model.specs.declared.outcome.Outcome.TheVariants.{Given, N
 ghost use Rattle.cube_model.specs.declared.reply.Fixed.TheVariants as constant;
 ghost use Rattle.cube_model.specs.declared.reply.Kind.TheVariants.{Csv, Plain};
 ghost use Rattle.cube_model.specs.declared.reply.Reply.TheVariants.{Made, Fixed};
+ghost use Rattle.cube_model.specs.Cores.{shown};
+ghost use Rattle.cube_model.specs.Verdicts.{source};
+ghost use Rattle.cube_core.specs.Worked.{pay_core};
 ghost use Rattle.cube_dims.specs.Examples.{pay_dims};
-ghost use Rattle.cube_engine.specs.Examples.{pay_rooms, months};
+ghost use Rattle.cube_rollup.specs.Rollups.{cells_at};
+ghost use Rattle.cube_engine.specs.Examples.{pay_policy, pay_rooms, months};
 ghost use Rattle.cube_engine.specs.Steps.{reply_in, next_in};
 
 /// What the definitions reply to some asks of the pay cube, where each cell of a city in a month is protected.
@@ -20,6 +24,8 @@ pub fn worked_asks()
     ensures areas_after_months { reply_in pay_dims (pay_rooms (Asked months ∷ [])) (Query (codes "slice pay by region.area")) Given ≡ Made 403 Plain (codes "source: the cuboid (region.area, time.month) does not cut the cell (region.city=Lyon, time.month=Feb)\n") }
     ensures refused_stays { next_in pay_dims (pay_rooms (Asked months ∷ [])) (Query (codes "slice pay by region.area")) Given ≡ pay_rooms (Asked months ∷ []) }
     ensures quarter_stays { next_in pay_dims (pay_rooms (Asked months ∷ [])) (Query (codes "slice pay by time.quarter")) Given ≡ pay_rooms (Asked months ∷ []) }
+    ensures quarter_after_months { reply_in pay_dims (pay_rooms (Asked months ∷ [])) (Query (codes "slice pay by time.quarter")) Given ≡ Made 200 Csv (codes "time.quarter,pay\nQ1,150\n") }
+    ensures months_have_two_cells { cells_at (shown pay_core pay_policy) (source (Asked months ∷ []) 0) ≡ 2 }
     ensures word { reply_in pay_dims (pay_rooms []) (Query (codes "cel pay")) Given ≡ Made 400 Plain (codes "syntax at byte 3\n") }
     ensures member { reply_in pay_dims (pay_rooms []) (Query (codes "cell pay region.city=Rome")) Given ≡ Made 404 Plain (codes "unknown member at byte 21\n") }
     ensures backwards { reply_in pay_dims (pay_rooms []) (Query (codes "range hours time.month=Feb..Jan")) Given ≡ Made 400 Plain (codes "backwards at byte 23\n") }

@@ -61,3 +61,11 @@ returns-clause-memory c = refl
 pub returns-clause-memory_stays : goal.returns-clause-memory_stays
 unfolding digits up key_at protected cutting_pairs is_bare is_picked queries is_begun syntax_at query_of request_of resolved grain source verdict is_valid
 returns-clause-memory_stays c = refl
+
+pub returns-clause-quarter_after_months : goal.returns-clause-quarter_after_months
+unfolding digits up key_at protected cutting_pairs is_bare is_picked queries is_begun syntax_at query_of request_of resolved grain source verdict is_valid
+returns-clause-quarter_after_months c = refl
+
+pub returns-clause-months_have_two_cells : goal.returns-clause-months_have_two_cells
+unfolding digits up key_at protected cutting_pairs is_bare is_picked queries is_begun syntax_at query_of request_of resolved grain source verdict is_valid
+returns-clause-months_have_two_cells c = refl

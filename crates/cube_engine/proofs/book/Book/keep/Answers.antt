@@ -1,4 +1,4 @@
-use Rattle.std.proofs.Common.{◌≡◌, ◌+◌, List, [], ◌∷◌, ◌++◌, length, Some, IsTrue, ap, sym, ◌∙◌, subst, arith}
+use Rattle.std.proofs.Common.{rules, ◌≡◌, ◌+◌, List, [], ◌∷◌, ◌++◌, length, Some, IsTrue, ap, sym, ◌∙◌, subst, arith}
 use Rattle.cube_model.specs.declared.entry.Entry.{Entry}
 use Rattle.cube_model.specs.declared.entry.Entry.TheVariants.{Asked}
 use Rattle.cube_model.specs.Cores.{shown}
@@ -8,6 +8,7 @@ use Rattle.cube_admit.specs.States.{waiting}
 use Rattle.cube_io.specs.States.{Gained}
 use Rattle.cube_engine.specs.Books.{Book, IsWaiting}
 use Rattle.cube_engine.specs.Kept.{IsKept, IsExact, IsWithin}
+use Rattle.cube_engine.proofs.Cuboids.{has_entered}
 use Rattle.cube_engine.proofs.Logs.{keep_crash, keep_done, keep_exact, keep_failed, waiting_whole}
 use Rattle.cube_engine.proofs.book.Book.keep.Goals as goal
 
@@ -20,7 +21,8 @@ invariant_of-self g c =
     let longer = c.in-Ok.ensures.longer in
     let short = c.as_slice-short.ensures.short in
     let before = c.self.invariant.2 in
-    (c.self.invariant.0, c.commit.ensures.stands (shown c.self.inside.core c.self.inside.policy) c.self.invariant.1, omega (arith, more, longer, short, before))
+    let x = c.self.inside in
+    (c.self.invariant.0, c.commit.ensures.stands (shown x.core x.policy) c.self.invariant.1, omega (arith, more, longer, short, before), search (rules, has_entered))
 
 pub returns-in-Ok-clause-kept : goal.returns-in-Ok-clause-kept
 returns-in-Ok-clause-kept g c =

@@ -1,0 +1,149 @@
+// The cuboids that a book answers from.
+ghost use Rattle.std.specs.Prelude.{◌≡◌, ◌<◌, ◌≤◌, ◌+◌, ℕ, true, None, Some, length, option_copied, is_some, IfOk, OnOk, OnErr};
+ghost use Rattle.std.specs.Option.{IfSome};
+ghost use Rattle.cube_model.specs.declared.policy.Policy.{Policy};
+ghost use Rattle.cube_model.specs.declared.request.What.TheVariants as whats;
+ghost use Rattle.cube_model.specs.Cores.{shown, world};
+ghost use Rattle.cube_model.specs.Policies.{IsPolicy};
+ghost use Rattle.cube_model.specs.Requests.{answer as answer_of, asks};
+ghost use Rattle.cube_admit.specs.States.{waiting, StandsFor};
+ghost use Rattle.cube_query.specs.Canonical.{is_request};
+ghost use Rattle.cube_answers.specs.AnswerText.{IsAnswer};
+ghost use Rattle.cube_rollup.specs.Rollups.{kept_at, IsCuboidAt, RollupsStand};
+ghost use Rattle.cube_engine.specs.Reads.{cuboid_of, Serves};
+
+use cube_admit::{Next, State};
+use cube_answers::answer;
+use cube_core::{Core, Steps};
+use cube_model::{Answer, NoMemory, Policy, Request, What};
+use cube_rollup::{Cuboid, Rollups};
+use std::alloc::Global;
+use std::sync::ledger::{Blank, Ledger};
+
+// The cuboid at the source of a measure, where it has one.
+fn roll<L: Ledger>(
+    alloc: Global,
+    core: &Core,
+    policy: &Policy,
+    state: &State,
+    measure: u32,
+    steps: &mut Steps<L>,
+) -> Result<Option<Cuboid>, NoMemory>
+    requires policy { IsPolicy core.now.dims policy.now }
+    requires stands { StandsFor (shown core.now policy.now) state.now }
+    requires measure { measure < length policy.now.methods }
+    ensures { IfOk result (λ cuboid. IsCuboidAt core.now measure (kept_at (shown core.now policy.now) state.now.history measure) cuboid) }
+{
+    let _policy = policy;
+    match state.source(measure) {
+        None => Ok(None),
+        Some(levels) => Ok(Some(Cuboid::build(alloc, core, levels, measure, steps)?)),
+    }
+}
+
+/// The cuboids at the sources of a history behind which nothing waits.
+pub(crate) fn roll_all<L: Ledger>(
+    alloc: Global,
+    core: &Core,
+    policy: &Policy,
+    state: &State,
+    blank: Blank,
+) -> Result<Rollups, NoMemory>
+    requires name { blank.name ≡ L.name }
+    requires parts { blank.parts ≡ L.parts }
+    requires some { 0 < L.parts }
+    requires policy { IsPolicy core.now.dims policy.now }
+    requires stands { StandsFor (shown core.now policy.now) state.now }
+    ensures { IfOk result (λ rollups. RollupsStand core.now policy.now state.now.history None rollups) }
+{
+    let _rules = core.dims();
+    let mut steps = Steps::<L>::new(blank);
+    let mut rollups = Rollups::new(alloc);
+    'measures: for measure in 0..policy.methods.len() {
+        let cuboid = roll(alloc, core, policy, state, measure as u32, &mut steps)?;
+        rollups.push(cuboid)?;
+    }
+    Ok(rollups)
+}
+
+/// Holds the cuboid at the source that the request that waits makes, where it waits on a lattice measure.
+pub(crate) fn hold_next<L: Ledger>(
+    alloc: Global,
+    core: &Core,
+    policy: &Policy,
+    state: &State,
+    rollups: &mut Rollups,
+    steps: &mut Steps<L>,
+) -> Result<(), NoMemory>
+    requires policy { IsPolicy core.now.dims policy.now }
+    requires stands { StandsFor (shown core.now policy.now) state.now }
+    requires rolled { RollupsStand core.now policy.now state.now.history None rollups.old }
+    ensures ok { OnOk result (RollupsStand core.now policy.now state.now.history (waiting state.now) rollups.new) }
+    ensures kept { rollups.new.kept ≡ rollups.old.kept }
+    ensures steps { state.now.pending ≡ None → steps.new ≡ steps.old }
+{
+    let _policy = policy;
+    let Some(pending) = state.waiting() else {
+        return Ok(());
+    };
+    match &pending.next {
+        Next::Mark(_) => Ok(()),
+        Next::Source(levels) => {
+            let cuboid = Cuboid::build(alloc, core, levels, pending.measure, steps)?;
+            rollups.hold(cuboid);
+            Ok(())
+        }
+    }
+}
+
+// The cuboid that a request is answered from, where there is one.
+fn cuboid_for<'a>(rollups: &'a Rollups, what: What) -> Option<&'a Cuboid>
+    requires { (m : ℕ) → what ≡ whats.Measure m → m < length rollups.now.kept }
+    ensures { option_copied result ≡ cuboid_of rollups.now what }
+{
+    match what {
+        What::Count => None,
+        What::Measure(measure) => rollups.at(measure),
+    }
+}
+
+// The sums of a request from the cells of a cuboid.
+#[tactic(auto, using(cube_answers::proofs::Valid::valid_fits))]
+fn rolled_sums<L: Ledger>(
+    alloc: Global,
+    core: &Core,
+    cuboid: &Cuboid,
+    request: &Request,
+    steps: &mut Steps<L>,
+) -> Result<Answer, NoMemory>
+    requires request { is_request core.now.dims request.now ≡ true }
+    requires serves { Serves core.now request.now cuboid.now }
+    ensures sums { IfOk result (λ answer. (p : Policy) → answer ≡ answer_of (world core.now p) request.now) }
+    ensures written { IfOk result (λ answer. IsAnswer core.now.dims request.now answer) }
+    ensures steps { steps.new ≤ steps.old + length cuboid.now.cells }
+{
+    let _rules = core.dims();
+    cuboid.answer(alloc, core.dims(), request, steps)
+}
+
+/// The sums of a request: from the cells of the cuboid of its measure, where there is one, and else from the core.
+#[tactic(auto, using(cube_answers::proofs::Valid::valid_fits, cube_answers::proofs::Valid::valid_measure))]
+pub(crate) fn sums<L: Ledger>(
+    alloc: Global,
+    core: &Core,
+    rollups: &Rollups,
+    request: &Request,
+    steps: &mut Steps<L>,
+) -> Result<Answer, NoMemory>
+    requires request { is_request core.now.dims request.now ≡ true }
+    requires long { length rollups.now.kept ≡ length core.now.dims.measures }
+    requires serves { IfSome (cuboid_of rollups.now request.now.what) (Serves core.now request.now) }
+    ensures sums { IfOk result (λ answer. (p : Policy) → answer ≡ answer_of (world core.now p) request.now) }
+    ensures written { IfOk result (λ answer. IsAnswer core.now.dims request.now answer) }
+    ensures steps { IfSome (cuboid_of rollups.now request.now.what) (λ k. steps.new ≤ steps.old + length k.cells) }
+{
+    match cuboid_for(rollups, request.what) {
+        Some(cuboid) => rolled_sums(alloc, core, cuboid, request, steps),
+        None => answer(alloc, core, request, steps),
+    }
+}
