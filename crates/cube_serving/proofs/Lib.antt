@@ -1,3 +1,4 @@
 pub mod Phrases
 pub mod Wired
 pub mod Played
+mod Listening

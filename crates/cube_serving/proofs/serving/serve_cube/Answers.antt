@@ -1,5 +1,6 @@
 use Rattle.std.proofs.Common.{◌∙◌, ◌++◌, ℕ, List, codes, ap, inl, inr, subst, sym, IsTrue}
 use Rattle.cube_opening.proofs.Accepted.{all_accepted}
+use Rattle.cube_serving.proofs.Listening.{asked_all, heard_or_failed}
 use Rattle.cube_serving.proofs.Wired.{served}
 use Rattle.cube_serving.proofs.serving.serve_cube.Goals as goal
 
@@ -49,3 +50,13 @@ returns-in-Err-clause-complete g c = λ all kept some files store wire.
 
 pub returns-clause-others : goal.returns-clause-others
 returns-clause-others g c = λ told log other. c.serve_engine-end.ensures.others (subst IsTrue (sym c.in-Ok-open_engine.ensures.told) told) log other ∙ c.in-Ok-open_engine.ensures.others told log other
+
+pub returns-in-Err-listen-clause-asks : goal.returns-in-Err-listen-clause-asks
+returns-in-Err-listen-clause-asks g c =
+    let files = c.args.files.now in
+    let new = c.open_guarded.new.files in
+    asked_all c.args.dims_name.now c.args.facts_name.now c.args.policy_name.now (g.F.Folder.files files) (g.F.Folder.asked files) (g.F.Folder.asked new) (g.F.Folder.faults files) (g.F.Folder.faults new) c.close-in-Err-listen.result c.in-Ok.ensures.asks_ok
+
+pub returns-in-Err-listen-clause-heard : goal.returns-in-Err-listen-clause-heard
+returns-in-Err-listen-clause-heard g c =
+    inr (λ told. heard_or_failed c.args.address.now (g.W.Wire.heard c.args.wire.now) (g.W.Wire.heard c.listen.new.self) c.close-in-Err-listen.result (c.in-Err-listen.ensures.heard told) c.close-in-Err-listen.ensures.0)
