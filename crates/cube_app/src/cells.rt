@@ -60,10 +60,10 @@ fn put_told<O: Sink>(
     }
 }
 
-// What is told of a cell: the fact file of the twin, or the changes.
-fn told_of(alloc: Global, engine: &Engine, is_twin: bool, cell: &Text) -> Result<Text, NoChanges>
-    ensures ok { IfOk result (λ text. cell_text is_twin engine.now.core engine.now.policy engine.now.history cell.now ≡ Ok text) }
-    ensures err { IfErr result (λ why. Refuses why (cell_text is_twin engine.now.core engine.now.policy engine.now.history cell.now)) }
+// What an engine tells of a cell at its end: the fact file of the twin, or the changes.
+fn told_of(alloc: Global, engine: Engine, is_twin: bool, cell: &Text) -> Result<Text, NoChanges>
+    ensures ok { IfOk result (λ text. cell_text is_twin engine.core engine.policy engine.history cell.now ≡ Ok text) }
+    ensures err { IfErr result (λ why. Refuses why (cell_text is_twin engine.core engine.policy engine.history cell.now)) }
 {
     if is_twin {
         engine.twin_text(alloc, cell.as_slice())
@@ -115,7 +115,7 @@ fn tell_cell<F: Folder, S: Store, O: Sink>(
         Ok(started) => started,
         Err(report) => return report,
     };
-    let told = told_of(alloc, &started.value, is_twin, cell);
+    let told = told_of(alloc, started.value, is_twin, cell);
     put_told(alloc, started.room, told, out)
 }
 
