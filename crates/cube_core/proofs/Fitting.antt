@@ -67,3 +67,17 @@ ancestors_more ds ls xs i a b c = rw (drop_more ds i no_dimension a, drop_more l
 
 pub ancestors_all : (ds : List NamedDimension) (ls xs : List ℕ) (i : ℕ) → length ds ≤ i → ancestors (map plain (drop i ds)) (drop i ls) (drop i xs) ≡ []
 ancestors_all ds ls xs i a = rw (drop_all i ds a) refl
+
+-- a key has a member for each dimension
+pub ancestors_long : (ds : List NamedDimension) (ls xs : List ℕ) → length ls ≡ length ds → length xs ≡ length ds → length (ancestors (map plain ds) ls xs) ≡ length ds
+ancestors_long [] ls xs e f = refl
+ancestors_long (d ∷ ds) [] xs e f = absurd (omega (arith, e))
+ancestors_long (d ∷ ds) (l ∷ ls) [] e f = absurd (omega (arith, f))
+ancestors_long (d ∷ ds) (l ∷ ls) (x ∷ xs) e f = ap suc (ancestors_long ds ls xs (omega (arith, e)) (omega (arith, f)))
+
+pub ancestors_at : (ds : List NamedDimension) (ls xs : List ℕ) (k : ℕ) → length ls ≡ length ds → length xs ≡ length ds → k < length ds → get_or (ancestors (map plain ds) ls xs) k 0 ≡ up (plain (get_or ds k no_dimension)) (get_or ls k 0) (get_or xs k 0)
+ancestors_at [] ls xs k e f h = absurd (omega (arith, h))
+ancestors_at (d ∷ ds) [] xs k e f h = absurd (omega (arith, e))
+ancestors_at (d ∷ ds) (l ∷ ls) [] k e f h = absurd (omega (arith, f))
+ancestors_at (d ∷ ds) (l ∷ ls) (x ∷ xs) zero e f h = refl
+ancestors_at (d ∷ ds) (l ∷ ls) (x ∷ xs) (suc k) e f h = ancestors_at ds ls xs k (omega (arith, e)) (omega (arith, f)) (omega (arith, h))

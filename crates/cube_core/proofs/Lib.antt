@@ -4,7 +4,10 @@ pub mod Grouped
 pub mod Points
 pub mod Fitting
 pub mod Keys
+pub mod Ranking
 pub mod Totals
 pub mod Worked
 pub mod Orders
 pub mod Candidates
+pub mod Sizes
+pub mod Ranked

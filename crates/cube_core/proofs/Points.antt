@@ -4,7 +4,7 @@ use Rattle.std.proofs.Common.{◌≡◌, ℕ, zero, suc, ◌<◌, ◌≤◌, ◌
 use Rattle.std.proofs.lemmas.List.{get_or_read}
 use Rattle.cube_model.specs.Cubes.{up, names_at, Each, IsPoint}
 use Rattle.cube_model.specs.Cores.{Core}
-use Rattle.cube_model.specs.Dims.{NamedDimension, plain, plains, no_dimension, IsDimension}
+use Rattle.cube_model.specs.Dims.{NamedDimension, plain, plains, members, no_dimension, IsDimension}
 use Rattle.cube_model.proofs.DimsFacts.{up-named, up-all, number_below, length-distinct, length-names_at}
 use Rattle.cube_model.proofs.Sources.{Each-get_or}
 
@@ -43,6 +43,14 @@ up_small d l x h k = go (below l (length d.levels))
         let most = h.few_leaves in
         omega (arith, e, n, few, names, most)
     go (inr high) = let e = up-all d l x high in omega (arith, e)
+
+-- a member is there for each leaf
+pub up_there : (d : NamedDimension) (l x : ℕ) → IsDimension d → l < length d.levels → x < length d.paths → up (plain d) l x < length (members d l)
+up_there d l x h low k =
+    let e = up-named d l x h.distinct_leaves low k in
+    let names = length-names_at d l in
+    let n = number_below (names_at (plain d) l) x (omega (arith, names, k)) in
+    omega (arith, e, n)
 
 -- what is read at a place is its point
 pub point_read : (core : Core) (place : ℕ) (points : List (List ℕ)) (point xs : List ℕ) → Each (IsPoint (plains core.dims)) core.shape.points → place < length core.shape.points → points ≡ core.shape.points → point ≡ get_or points place point → xs ≡ point

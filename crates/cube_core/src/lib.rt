@@ -2,8 +2,10 @@
 //! sums over them.
 #![tactic(auto)]
 
+mod by_rank;
 mod core_cube;
 mod index;
+mod ranks;
 mod rows;
 mod steps;
 mod sums;

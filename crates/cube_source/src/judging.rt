@@ -88,7 +88,7 @@ fn any_unmixed(core: &Core, object: &Object, mixed: &[bool]) -> bool
     false
 }
 
-/// The first cell of one cuboid that an object protects and no block parts. The places are sorted by their
+/// The first cell of one cuboid that an object protects and no block parts. The places are grouped by their
 /// keys only where one in the slice is not flagged: each cell with a flagged place is parted.
 fn uncut_at(
     alloc: Global,
@@ -229,7 +229,7 @@ fn first_uncut(
 /// does not cut: in the order of the objects, then of the cuboids by number, then of the keys; of a
 /// measure under the parity rule in the order of the places.
 ///
-/// It sorts all places once by the cuboid, and once more for each cuboid at or below an object at which a
+/// It groups all places once by the cuboid, and once more for each cuboid at or below an object at which a
 /// place of the object's slice has only places of its own cell beside it. It lists no protected cells.
 pub fn judge(
     alloc: Global,
