@@ -8,40 +8,18 @@ use Rattle.cube_model.specs.declared.answer.Row.{Row}
 use Rattle.cube_model.specs.declared.policy.Policy.{Policy}
 use Rattle.cube_model.specs.declared.request.Request.{Request}
 use Rattle.cube_model.specs.Cores.{Core, IsCore, shown}
-use Rattle.cube_model.specs.Cubes.{Dimension, up, names_at, ancestors, key_at, point, places, IsPoint, IsIn}
-use Rattle.cube_model.specs.Dims.{Dims, IsDims, NamedDimension, plain, plains, members, dimension_at, no_dimension, IsDimension}
+use Rattle.cube_model.specs.Cubes.{Dimension, up, ancestors, key_at, point, places, IsPoint, IsIn}
+use Rattle.cube_model.specs.Dims.{Dims, IsDims, plain, plains, dimension_at}
 use Rattle.cube_model.specs.Protection.{core_cell}
 use Rattle.cube_model.specs.Requests.{fits, rows, row_at, row_keys, is_picked}
-use Rattle.cube_model.proofs.DimsFacts.{up-named, number_below, length-names_at}
 use Rattle.cube_model.proofs.Members.{IsIn-filter, IsIn-map, IsIn-count_from, IsIn-in_order}
 use Rattle.cube_model.proofs.Sources.{Each-get_or}
-use Rattle.cube_core.proofs.Fitting.{lengths_fit}
-use Rattle.cube_core.proofs.Points.{length-point, leaf_below, dimension_of}
+use Rattle.cube_core.proofs.Fitting.{lengths_fit, ancestors_long, ancestors_at}
+use Rattle.cube_core.proofs.Points.{length-point, leaf_below, dimension_of, up_there}
 use Rattle.cube_text.specs.Keys.{KeyFits}
 use Rattle.cube_answers.specs.AnswerText.{RowFits, IsThere, IsAnswer}
 use Rattle.cube_answers.specs.Sums.{row_sum}
 use Rattle.cube_answers.specs.VerdictText.{unprotected, CellFits}
-
--- a member is there for each leaf
-pub up_there : (d : NamedDimension) (l x : ℕ) → IsDimension d → l < length d.levels → x < length d.paths → up (plain d) l x < length (members d l)
-up_there d l x h low k =
-    let e = up-named d l x h.distinct_leaves low k in
-    let names = length-names_at d l in
-    let n = number_below (names_at (plain d) l) x (omega (arith, names, k)) in
-    omega (arith, e, n)
-
-pub ancestors_long : (ds : List NamedDimension) (ls xs : List ℕ) → length ls ≡ length ds → length xs ≡ length ds → length (ancestors (map plain ds) ls xs) ≡ length ds
-ancestors_long [] ls xs e f = refl
-ancestors_long (d ∷ ds) [] xs e f = absurd (omega (arith, e))
-ancestors_long (d ∷ ds) (l ∷ ls) [] e f = absurd (omega (arith, f))
-ancestors_long (d ∷ ds) (l ∷ ls) (x ∷ xs) e f = ap suc (ancestors_long ds ls xs (omega (arith, e)) (omega (arith, f)))
-
-pub ancestors_at : (ds : List NamedDimension) (ls xs : List ℕ) (k : ℕ) → length ls ≡ length ds → length xs ≡ length ds → k < length ds → get_or (ancestors (map plain ds) ls xs) k 0 ≡ up (plain (get_or ds k no_dimension)) (get_or ls k 0) (get_or xs k 0)
-ancestors_at [] ls xs k e f h = absurd (omega (arith, h))
-ancestors_at (d ∷ ds) [] xs k e f h = absurd (omega (arith, e))
-ancestors_at (d ∷ ds) (l ∷ ls) [] k e f h = absurd (omega (arith, f))
-ancestors_at (d ∷ ds) (l ∷ ls) (x ∷ xs) zero e f h = refl
-ancestors_at (d ∷ ds) (l ∷ ls) (x ∷ xs) (suc k) e f h = ancestors_at ds ls xs k (omega (arith, e)) (omega (arith, f)) (omega (arith, h))
 
 -- the ancestors of a point are a key that is there
 pub key_there : (s : Dims) (ls xs : List ℕ) → IsDims s → length ls ≡ length s.dimensions → IsPoint (plains s) xs → (length (ancestors (plains s) ls xs) ≡ length s.dimensions) × KeyFits s ls (ancestors (plains s) ls xs)

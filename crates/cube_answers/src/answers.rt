@@ -1,11 +1,13 @@
 // The text of an answer: CSV with a header.
-ghost use Rattle.std.specs.Prelude.{◌≡◌, ◌++◌, length, flat_map, IfOk, OnOk};
+ghost use Rattle.std.specs.Prelude.{◌≡◌, ◌≤◌, ◌++◌, length, flat_map, ℤ, IfOk, OnOk};
 ghost use Rattle.std.specs.List.{All};
 ghost use Rattle.cube_text.specs.Quoting.{field};
+ghost use Rattle.cube_text.specs.Units.{units_text};
 ghost use Rattle.cube_answers.specs.AnswerText.{what_name, sum_text, header_line, row_line, answer_text as answer_words, RowFits, IsThere, IsAnswer};
 
+use crate::numbers::push_units;
 use cube_model::{Answer, AnswerRow, Dims, NoMemory, Request, Text, What};
-use cube_text::{push_field, push_heads, push_key, write_units};
+use cube_text::{push_field, push_heads, push_key};
 use std::alloc::Global;
 
 fn push_what(text: &mut Text, dims: &Dims, what: What) -> Result<(), NoMemory>
@@ -19,14 +21,24 @@ fn push_what(text: &mut Text, dims: &Dims, what: What) -> Result<(), NoMemory>
 }
 
 // How many decimals a sum is written with.
-fn sum_of(alloc: Global, dims: &Dims, what: What, sum: i64) -> Result<Text, NoMemory>
+fn decimals_of(dims: &Dims, what: What) -> u32
     requires { IsThere dims.now what }
-    ensures { IfOk result (λ text. text ≡ sum_text dims.now what sum) }
+    ensures few { result ≤ 6 }
+    ensures written { (sum : ℤ) → sum_text dims.now what sum ≡ units_text result sum }
 {
     match what {
-        What::Count => write_units(alloc, sum, 0),
-        What::Measure(measure) => write_units(alloc, sum, dims.measure(measure).decimals()),
+        What::Count => 0,
+        What::Measure(measure) => dims.measure(measure).decimals(),
     }
+}
+
+// Puts a sum, which needs no quotes.
+#[tactic(auto, using(crate::proofs::Plain::units_are_plain))]
+fn push_sum(text: &mut Text, dims: &Dims, what: What, sum: i64) -> Result<(), NoMemory>
+    requires { IsThere dims.now what }
+    ensures { OnOk result (text.new ≡ text.old ++ field (sum_text dims.now what sum)) }
+{
+    push_units(text, sum, decimals_of(dims, what))
 }
 
 #[tactic(auto, using(cube_text::proofs::Lines::lines_behind))]
@@ -47,7 +59,6 @@ fn push_header(
 
 #[tactic(auto, using(cube_text::proofs::Lines::lines_behind))]
 fn push_row(
-    alloc: Global,
     text: &mut Text,
     dims: &Dims,
     request: &Request,
@@ -59,13 +70,11 @@ fn push_row(
     ensures { OnOk result (text.new ≡ text.old ++ row_line dims.now request.now row.now) }
 {
     push_key(text, dims, request.group.as_slice(), row.key.as_slice())?;
-    let sum = sum_of(alloc, dims, request.what, row.sum)?;
-    push_field(text, sum.as_slice())?;
+    push_sum(text, dims, request.what, row.sum)?;
     text.push(b'\n')
 }
 
 fn push_rows(
-    alloc: Global,
     text: &mut Text,
     dims: &Dims,
     request: &Request,
@@ -77,7 +86,7 @@ fn push_rows(
     ensures { OnOk result (text.new ≡ text.old ++ flat_map (row_line dims.now request.now) rows.now) }
 {
     for row in rows {
-        push_row(alloc, text, dims, request, row)?;
+        push_row(text, dims, request, row)?;
     }
     Ok(())
 }
@@ -95,6 +104,6 @@ pub fn answer_text(
 {
     let mut text = Text::new(alloc);
     push_header(alloc, &mut text, dims, request)?;
-    push_rows(alloc, &mut text, dims, request, answer.as_slice())?;
+    push_rows(&mut text, dims, request, answer.as_slice())?;
     Ok(text)
 }

@@ -2,6 +2,7 @@
 #![tactic(auto)]
 
 mod answers;
+mod numbers;
 mod refusals;
 mod sums;
 #[cfg(test)]
