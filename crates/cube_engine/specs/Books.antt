@@ -1,9 +1,8 @@
 -- A book: one cube with the policy that it is asked under, what its history holds, and where that is kept.
-use Rattle.std.specs.Prelude.{◌≡◌, ℕ, List, [], ◌∷◌, Bool, true, false, Some, None}
+use Rattle.std.specs.Prelude.{◌≡◌, ℕ, List, Bool, true, false, Some}
 use Rattle.std.specs.declared.option.Option.{Option}
 use Rattle.cube_model.specs.declared.ask.Inner.{Inner}
 use Rattle.cube_model.specs.declared.entry.Entry.{Entry}
-use Rattle.cube_model.specs.declared.entry.Entry.TheVariants.{Asked}
 use Rattle.cube_model.specs.declared.outcome.Outcome.{Outcome}
 use Rattle.cube_model.specs.declared.policy.Policy.{Policy}
 use Rattle.cube_model.specs.declared.reply.Reply.{Reply}
@@ -14,6 +13,7 @@ use Rattle.cube_model.specs.Cores.{Core, shown, world}
 use Rattle.cube_model.specs.Rooms.{Room, alone}
 use Rattle.cube_journal.specs.Keeping.{Journal}
 use Rattle.cube_journal.specs.RequestLines.{request_line}
+use Rattle.cube_rollup.specs.Rollups.{entry_of}
 use Rattle.cube_engine.specs.Kept.{MayEnter}
 use Rattle.cube_engine.specs.Steps.{inner_reply, inner_history}
 
@@ -49,10 +49,6 @@ abbrev pub with_waiting : Option Request → Book → Book
 with_waiting waits b = record { core = b.core; policy = b.policy; history = b.history; waiting = waits; journal = b.journal }
 
 -- the entry that waits, if any
-abbrev pub entry_of : Option Request → List Entry
-entry_of None = []
-entry_of (Some r) = Asked r ∷ []
-
 abbrev pub entry_waiting : Book → List Entry
 entry_waiting b = entry_of b.waiting
 

@@ -1,5 +1,5 @@
 -- How many values of the cube an ask reads.
-use Rattle.std.specs.Prelude.{◌≡◌, ℕ, ◌+◌, ◌≤◌, false, true, List, Ok}
+use Rattle.std.specs.Prelude.{◌≡◌, ℕ, ◌+◌, ◌≤◌, false, true, List, slice_index_or, Option, None, Ok}
 use Rattle.cube_model.specs.declared.ask.Inner.{Inner}
 use Rattle.cube_model.specs.declared.ask.Inner.TheVariants.{Query, Witness, Shape}
 use Rattle.cube_model.specs.declared.entry.Entry.{Entry}
@@ -8,7 +8,6 @@ use Rattle.cube_model.specs.declared.request.Request.{Request}
 use Rattle.cube_model.specs.declared.request.What.{What}
 use Rattle.cube_model.specs.declared.request.What.TheVariants.{Count, Measure}
 use Rattle.cube_model.specs.declared.verdict.Verdict.TheVariants.{Answer}
-use Rattle.std.specs.Prelude.{Option, None, slice_index_or}
 use Rattle.cube_model.specs.Cores.{Core}
 use Rattle.cube_model.specs.Cubes.{Public, is_finer}
 use Rattle.cube_model.specs.Dims.{Dims}

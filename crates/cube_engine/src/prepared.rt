@@ -1,5 +1,5 @@
 // What an ask comes to, before anything is kept: the reply, and for a request that enters the history its line.
-ghost use Rattle.std.specs.Prelude.{◌≡◌, ◌≢◌, ◌≤◌, ◌+◌, true, None, length, is_some, IfOk, OnOk, OnErr};
+ghost use Rattle.std.specs.Prelude.{◌≡◌, ◌≤◌, ◌+◌, true, None, length, is_some, IfOk, OnOk, OnErr};
 ghost use Rattle.std.specs.Option.{IfSome};
 ghost use Rattle.cube_model.specs.declared.ask.Inner.TheVariants as inner;
 ghost use Rattle.cube_model.specs.declared.policy.Policy.{Policy};
@@ -20,12 +20,12 @@ ghost use Rattle.cube_engine.specs.Prepared.{given_as, Comes, InnerComes};
 ghost use Rattle.cube_engine.specs.Reads.{cuboid_of, AskReadsFew, ReadsFew, Serves};
 ghost use Rattle.cube_answers.specs.VerdictText.{verdict_text as verdict_words, IsVerdict};
 
-use crate::rolling::{hold_next, sums};
+use crate::rolling::{answer_request, hold_next};
 use cube_admit::State;
-use cube_answers::{answer_text, verdict_text};
+use cube_answers::verdict_text;
 use cube_core::{Core, Steps};
 use cube_journal::{Line, line_of};
-use cube_model::{Fixed, Kind, NoMemory, Outcome, Policy, Reply, Request, Text, Verdict};
+use cube_model::{Fixed, Kind, NoMemory, Outcome, Policy, Reply, Request, Verdict};
 use cube_query::{RequestFault, read_request};
 use cube_rollup::Rollups;
 use std::alloc::Global;
@@ -38,24 +38,6 @@ pub(crate) enum Prepared {
     Said(Reply, Outcome),
     /// The reply to a request that waits to enter the history, and the line that keeps it.
     Waits(Reply, Line),
-}
-
-// The answer to a request that was read, in words.
-fn answer_request<L: Ledger>(
-    alloc: Global,
-    core: &Core,
-    rollups: &Rollups,
-    request: &Request,
-    steps: &mut Steps<L>,
-) -> Result<Text, NoMemory>
-    requires request { is_request core.now.dims request.now ≡ true }
-    requires long { length rollups.now.kept ≡ length core.now.dims.measures }
-    requires serves { IfSome (cuboid_of rollups.now request.now.what) (Serves core.now request.now) }
-    ensures text { IfOk result (λ text. (p : Policy) → text ≡ answer_words core.now.dims request.now (answer_of (world core.now p) request.now)) }
-    ensures steps { IfSome (cuboid_of rollups.now request.now.what) (λ k. steps.new ≤ steps.old + length k.cells) }
-{
-    let answer = sums(alloc, core, rollups, request, steps)?;
-    answer_text(alloc, core.dims(), request, &answer)
 }
 
 // Whether the request is answered.

@@ -1,21 +1,21 @@
-// The cuboids that a book answers from.
-ghost use Rattle.std.specs.Prelude.{◌≡◌, ◌<◌, ◌≤◌, ◌+◌, ℕ, true, None, Some, length, option_copied, is_some, IfOk, OnOk, OnErr};
+// The cuboids that a book answers from, and the answers.
+ghost use Rattle.std.specs.Prelude.{◌≡◌, ◌<◌, ◌≤◌, ◌+◌, ℕ, true, None, length, option_copied, IfOk, OnOk};
 ghost use Rattle.std.specs.Option.{IfSome};
 ghost use Rattle.cube_model.specs.declared.policy.Policy.{Policy};
 ghost use Rattle.cube_model.specs.declared.request.What.TheVariants as whats;
 ghost use Rattle.cube_model.specs.Cores.{shown, world};
 ghost use Rattle.cube_model.specs.Policies.{IsPolicy};
-ghost use Rattle.cube_model.specs.Requests.{answer as answer_of, asks};
+ghost use Rattle.cube_model.specs.Requests.{answer as answer_of};
 ghost use Rattle.cube_admit.specs.States.{waiting, StandsFor};
 ghost use Rattle.cube_query.specs.Canonical.{is_request};
-ghost use Rattle.cube_answers.specs.AnswerText.{IsAnswer};
+ghost use Rattle.cube_answers.specs.AnswerText.{answer_text as answer_words, IsAnswer};
 ghost use Rattle.cube_rollup.specs.Rollups.{kept_at, IsCuboidAt, RollupsStand};
 ghost use Rattle.cube_engine.specs.Reads.{cuboid_of, Serves};
 
 use cube_admit::{Next, State};
-use cube_answers::answer;
+use cube_answers::{answer, answer_text};
 use cube_core::{Core, Steps};
-use cube_model::{Answer, NoMemory, Policy, Request, What};
+use cube_model::{Answer, NoMemory, Policy, Request, Text, What};
 use cube_rollup::{Cuboid, Rollups};
 use std::alloc::Global;
 use std::sync::ledger::{Blank, Ledger};
@@ -126,24 +126,75 @@ fn rolled_sums<L: Ledger>(
     cuboid.answer(alloc, core.dims(), request, steps)
 }
 
-/// The sums of a request: from the cells of the cuboid of its measure, where there is one, and else from the core.
+// The text of the answer to a request from the cells of a cuboid, grouped anew.
+fn grouped_text<L: Ledger>(
+    alloc: Global,
+    core: &Core,
+    cuboid: &Cuboid,
+    request: &Request,
+    steps: &mut Steps<L>,
+) -> Result<Text, NoMemory>
+    requires request { is_request core.now.dims request.now ≡ true }
+    requires serves { Serves core.now request.now cuboid.now }
+    ensures text { IfOk result (λ text. (p : Policy) → text ≡ answer_words core.now.dims request.now (answer_of (world core.now p) request.now)) }
+    ensures steps { steps.new ≤ steps.old + length cuboid.now.cells }
+{
+    let sums = rolled_sums(alloc, core, cuboid, request, steps)?;
+    answer_text(alloc, core.dims(), request, &sums)
+}
+
+// The text of the answer to a request from the cells of a cuboid: of these as they stand, where they are the answer.
+fn rolled_text<L: Ledger>(
+    alloc: Global,
+    core: &Core,
+    cuboid: &Cuboid,
+    request: &Request,
+    steps: &mut Steps<L>,
+) -> Result<Text, NoMemory>
+    requires request { is_request core.now.dims request.now ≡ true }
+    requires serves { Serves core.now request.now cuboid.now }
+    ensures text { IfOk result (λ text. (p : Policy) → text ≡ answer_words core.now.dims request.now (answer_of (world core.now p) request.now)) }
+    ensures steps { steps.new ≤ steps.old + length cuboid.now.cells }
+{
+    let _rules = core.dims();
+    match cuboid.kept_answer(request, steps) {
+        Some(cells) => answer_text(alloc, core.dims(), request, cells),
+        None => grouped_text(alloc, core, cuboid, request, steps),
+    }
+}
+
+// The text of the answer to a request from the core.
 #[tactic(auto, using(cube_answers::proofs::Valid::valid_fits, cube_answers::proofs::Valid::valid_measure))]
-pub(crate) fn sums<L: Ledger>(
+fn core_text<L: Ledger>(
+    alloc: Global,
+    core: &Core,
+    request: &Request,
+    steps: &mut Steps<L>,
+) -> Result<Text, NoMemory>
+    requires { is_request core.now.dims request.now ≡ true }
+    ensures { IfOk result (λ text. (p : Policy) → text ≡ answer_words core.now.dims request.now (answer_of (world core.now p) request.now)) }
+{
+    let sums = answer(alloc, core, request, steps)?;
+    answer_text(alloc, core.dims(), request, &sums)
+}
+
+/// The answer to a request that was read, in words: from the cells of the cuboid of its measure, where there is one, and else
+/// from the core.
+pub(crate) fn answer_request<L: Ledger>(
     alloc: Global,
     core: &Core,
     rollups: &Rollups,
     request: &Request,
     steps: &mut Steps<L>,
-) -> Result<Answer, NoMemory>
+) -> Result<Text, NoMemory>
     requires request { is_request core.now.dims request.now ≡ true }
     requires long { length rollups.now.kept ≡ length core.now.dims.measures }
     requires serves { IfSome (cuboid_of rollups.now request.now.what) (Serves core.now request.now) }
-    ensures sums { IfOk result (λ answer. (p : Policy) → answer ≡ answer_of (world core.now p) request.now) }
-    ensures written { IfOk result (λ answer. IsAnswer core.now.dims request.now answer) }
+    ensures text { IfOk result (λ text. (p : Policy) → text ≡ answer_words core.now.dims request.now (answer_of (world core.now p) request.now)) }
     ensures steps { IfSome (cuboid_of rollups.now request.now.what) (λ k. steps.new ≤ steps.old + length k.cells) }
 {
     match cuboid_for(rollups, request.what) {
-        Some(cuboid) => rolled_sums(alloc, core, cuboid, request, steps),
-        None => answer(alloc, core, request, steps),
+        Some(cuboid) => rolled_text(alloc, core, cuboid, request, steps),
+        None => core_text(alloc, core, request, steps),
     }
 }

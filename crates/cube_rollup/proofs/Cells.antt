@@ -1,12 +1,13 @@
 -- What a cuboid that stands for a core has: points, sums that fit, and the rows of a request.
-use Rattle.std.specs.List.{sum, sum_by, All, AllByRecursion}
-use Rattle.std.proofs.Common.{◌≡◌, ℕ, zero, suc, ◌<◌, ◌≤◌, inl, inr, Bool, true, false, cond, ◌&&◌, List, [], ◌∷◌, length, map, filter, take, get_or, None, ℤ, pos, refl, sym, ap, ap₂, ◌∙◌, subst, arith, leb}
+use Rattle.std.specs.List.{list_all, sum, sum_by, All, AllByRecursion}
+use Rattle.std.proofs.Common.{◌≡◌, ℕ, zero, suc, ◌<◌, ◌≤◌, inl, inr, Bool, true, false, cond, ◌&&◌, List, [], ◌∷◌, length, map, filter, take, get_or, Option, None, Some, is_none, ℤ, pos, refl, sym, ap, ap₂, ◌∙◌, subst, arith, leb}
 use Rattle.std.proofs.lemmas.Bool.{false≢true, and_parts, and_from}
 use Rattle.std.proofs.lemmas.List.{length-map}
 use Rattle.std.proofs.lemmas.List.Sums.{sum-map, sum_by-cons}
 use Rattle.cube_model.specs.declared.answer.AnswerRow.{AnswerRow}
 use Rattle.cube_model.specs.declared.answer.Row.{Row}
 use Rattle.cube_model.specs.declared.policy.Policy.{Policy}
+use Rattle.cube_model.specs.declared.request.Pick.{Pick}
 use Rattle.cube_model.specs.declared.request.Request.{Request}
 use Rattle.cube_model.specs.declared.request.What.{What}
 use Rattle.cube_model.specs.declared.request.What.TheVariants.{Count, Measure}
@@ -14,7 +15,7 @@ use Rattle.cube_model.specs.Cores.{Core, IsCore, IsSumOf, AreSumsOf, shown, worl
 use Rattle.cube_model.specs.Cubes.{Dimension, Public, World, same, in_order, with_key, before, count_from, places, point, key_at, are_levels, is_finer, Each, IsIn, IsPoint, IsHierarchy}
 use Rattle.cube_model.specs.Dims.{Dims, NamedDimension, plain, plains, IsDimension}
 use Rattle.cube_model.specs.Requests.{is_picked, in_picks, in_row, row_keys, row_at, rows, total, values, summed, answer, grain, fits, asks, is_measure}
-use Rattle.cube_model.proofs.Members.{IsIn-filter, map_has}
+use Rattle.cube_model.proofs.Members.{same_eq, IsIn-filter, map_has}
 use Rattle.cube_model.proofs.Orders.{in_order_has, in_order_increasing}
 use Rattle.cube_model.proofs.Sources.{Each-get_or, place_below}
 use Rattle.cube_model.proofs.Sums.{gather}
@@ -23,7 +24,7 @@ use Rattle.cube_core.specs.Grouping.{pointed, grouped, key_in, picked_in, row_wi
 use Rattle.cube_core.specs.Rows.{ArePlaces}
 use Rattle.cube_core.proofs.Grouped.{rows_all}
 use Rattle.cube_core.proofs.Totals.{IsMore, sum_more, facts_less, from_increasing, few_at_places, value_bound, place_below as item_below, ArePlaces-filter}
-use Rattle.cube_rollup.specs.Cuboids.{Cuboid, cell_keys, covered_at, summed_cell, first_point, StandsFor, sums_of, AreBounded, whole, summed_row, first_of_row, AreRowsOf}
+use Rattle.cube_rollup.specs.Cuboids.{Cuboid, cell_keys, covered_at, summed_cell, first_point, StandsFor, sums_of, AreBounded, whole, takes_all, summed_row, first_of_row, AreRowsOf}
 use Rattle.cube_rollup.proofs.Sums.{at_key, partition_all, gather-pos, over-pos, over_alike, sum_by-ones, pos_same, total_bound, filter_true}
 use Rattle.cube_rollup.proofs.Unions.{cells_of, first_place, is_first, has_cell, cell_sum, CanAnswer, rows_from_cells}
 
@@ -189,37 +190,47 @@ whole_fits_at (d ∷ ds) (l ∷ ls) e = let p = and_parts (leb l d.levels) (are_
 pub whole_fits : (d : Dims) (m : ℕ) (levels : List ℕ) (r : Request) → are_levels (plains d) levels ≡ true → r ≡ whole m levels → fits (plains d) r.group r.picks ≡ true
 whole_fits d m levels r e is = ap (λ (q : Request). fits (plains d) q.group q.picks) is ∙ whole_fits_at (plains d) levels e
 
--- and picks them all
-all_in_picks : (ds : List Dimension) (ls xs : List ℕ) → in_picks ds (map (λ (l : ℕ). None) ls) xs ≡ true
-all_in_picks [] ls xs = refl
-all_in_picks (d ∷ ds) [] xs = refl
-all_in_picks (d ∷ ds) (l ∷ ls) [] = refl
-all_in_picks (d ∷ ds) (l ∷ ls) (x ∷ xs) = all_in_picks ds ls xs
+-- and picks nothing
+whole_unpicked : (levels : List ℕ) → list_all is_none (map (λ (l : ℕ). let p : Option Pick = None in p) levels) ≡ true
+whole_unpicked [] = refl
+whole_unpicked (l ∷ ls) = whole_unpicked ls
 
-all_picked : (g : Public) (m : ℕ) (levels : List ℕ) (i : ℕ) → is_picked g (whole m levels) i ≡ true
+-- a request that picks nothing takes every place
+all_in_picks : (ds : List Dimension) (ps : List (Option Pick)) (xs : List ℕ) → list_all is_none ps ≡ true → in_picks ds ps xs ≡ true
+all_in_picks [] ps xs e = refl
+all_in_picks (d ∷ ds) [] xs e = refl
+all_in_picks (d ∷ ds) (None ∷ ps) [] e = refl
+all_in_picks (d ∷ ds) (None ∷ ps) (x ∷ xs) e = all_in_picks ds ps xs e
+all_in_picks (d ∷ ds) (Some p ∷ ps) xs e = absurd (false≢true e)
+
+all_picked : (g : Public) (r : Request) (i : ℕ) → list_all is_none r.picks ≡ true → is_picked g r i ≡ true
 unfolding is_picked
-all_picked g m levels i = all_in_picks g.dimensions levels (point g i)
+all_picked g r i e = all_in_picks g.dimensions r.picks (point g i) e
 
 filter_same : {X : Type 0} (p q : X → Bool) (xs : List X) → ((x : X) → p x ≡ q x) → filter p xs ≡ filter q xs
 filter_same p q [] h = refl
 filter_same p q (x ∷ xs) h = rw (h x, filter_same p q xs h) refl
 
-whole_keys : (g : Public) (m : ℕ) (levels : List ℕ) → row_keys g (whole m levels) ≡ cell_keys g levels
-whole_keys g m levels = ap (λ is. in_order (map (key_at g levels) is)) (filter_same (is_picked g (whole m levels)) (λ i. true) (places g) (all_picked g m levels) ∙ filter_true (places g))
+all_keys : (g : Public) (r : Request) → list_all is_none r.picks ≡ true → row_keys g r ≡ cell_keys g r.group
+all_keys g r e = ap (λ is. in_order (map (key_at g r.group) is)) (filter_same (is_picked g r) (λ i. true) (places g) (λ i. all_picked g r i e) ∙ filter_true (places g))
 
-whole_row : (g : Public) (m : ℕ) (levels key : List ℕ) → (row_at g (whole m levels) key).places ≡ covered_at g levels key
-whole_row g m levels key = filter_same (in_row g (whole m levels) key) (λ i. same (key_at g levels i) key) (places g) (λ i. ap (λ b. b && same (key_at g levels i) key) (all_picked g m levels i))
+all_row : (g : Public) (r : Request) (key : List ℕ) → list_all is_none r.picks ≡ true → (row_at g r key).places ≡ covered_at g r.group key
+all_row g r key e = filter_same (in_row g r key) (λ i. same (key_at g r.group i) key) (places g) (λ i. ap (λ b. b && same (key_at g r.group i) key) (all_picked g r i e))
 
 -- the rows of all places, cell by cell
 abbrev pub cell_row : Public → List ℕ → List ℕ → Row
 cell_row g levels key = record { key = key; places = covered_at g levels key }
 
-pub whole_rows : (g : Public) (m : ℕ) (levels : List ℕ) → rows g (whole m levels) ≡ map (cell_row g levels) (cell_keys g levels)
-whole_rows g m levels = each (row_keys g (whole m levels)) ∙ ap (map (cell_row g levels)) (whole_keys g m levels)
+-- the rows of a request that picks nothing are the cells at its levels
+all_rows : (g : Public) (r : Request) → list_all is_none r.picks ≡ true → rows g r ≡ map (cell_row g r.group) (cell_keys g r.group)
+all_rows g r e = each (row_keys g r) ∙ ap (map (cell_row g r.group)) (all_keys g r e)
   where
-    each : (ks : List (List ℕ)) → map (row_at g (whole m levels)) ks ≡ map (cell_row g levels) ks
+    each : (ks : List (List ℕ)) → map (row_at g r) ks ≡ map (cell_row g r.group) ks
     each [] = refl
-    each (k ∷ ks) = ap₂ (λ (is : List ℕ) (rs : List Row). record { key = k; places = is } ∷ rs) (whole_row g m levels k) (each ks)
+    each (k ∷ ks) = ap₂ (λ (is : List ℕ) (rs : List Row). record { key = k; places = is } ∷ rs) (all_row g r k e) (each ks)
+
+pub whole_rows : (g : Public) (m : ℕ) (levels : List ℕ) → rows g (whole m levels) ≡ map (cell_row g levels) (cell_keys g levels)
+whole_rows g m levels = all_rows g (whole m levels) (whole_unpicked levels)
 
 all_by : {X Y : Type 0} (P : Y → Type 0) (f : X → Y) (xs : List X) → ((x : X) → IsIn x xs → P (f x)) → AllByRecursion P (map f xs)
 all_by P f [] h = tt
@@ -254,6 +265,18 @@ stands c m levels r all s ok e l request is made = subst (StandsFor c) (sym made
   cells = λ p. ap (map (summed_row (get_or c.cube m []))) (is p ∙ ap (rows (shown c p)) request ∙ whole_rows (shown c p) m levels) ∙ same_cells (world c p) m levels (cell_keys (shown c p) levels);
   points = λ p. ap (map (first_of_row c)) (is p ∙ ap (rows (shown c p)) request ∙ whole_rows (shown c p) m levels) ∙ same_points c p levels (cell_keys (shown c p) levels);
 })
+
+-- the cells of a cuboid that stands for a core, as they stand, are the answer to a request that takes them all
+pub kept_is : (c : Core) (s : Cuboid) (r : Request) (p : Policy) → StandsFor c s → asks s.measure r ≡ true → takes_all s.levels r ≡ true → s.cells ≡ answer (world c p) r
+kept_is c s r p h asked taken =
+    let g : Public = shown c p in
+    let w : World = world c p in
+    let parts = and_parts (same s.levels r.group) (list_all is_none r.picks) taken in
+    h.cells p
+    ∙ ap (λ (ls : List ℕ). map (summed_cell w s.measure ls) (cell_keys g ls)) (same_eq s.levels r.group parts.0)
+    ∙ sym (same_cells w s.measure r.group (cell_keys g r.group))
+    ∙ ap (map (summed_row (values w s.measure))) (sym (all_rows g r parts.1))
+    ∙ sym (answer_rows w r (values w s.measure) (ap (summed w) (what_is s.measure r.what asked)))
 
 pub few_cells : (c : Core) (s : Cuboid) → StandsFor c s → length s.cells ≤ 65536
 few_cells c s h =

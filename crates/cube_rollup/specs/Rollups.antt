@@ -17,6 +17,7 @@ pub record Rollups : Type 0 where
   pub kept : List (Option Cuboid)
   pub next : Option Cuboid
 
+-- those that are kept once the next one, if any, has taken its place
 abbrev pub entered_by : List (Option Cuboid) → Option Cuboid → List (Option Cuboid)
 entered_by kept None = kept
 entered_by kept (Some k) = slice_set kept k.measure (Some k)
@@ -27,6 +28,7 @@ entered r = entered_by r.kept r.next
 
 -- ---- which ones they are
 
+-- the source of a measure by its method: a lattice measure alone has one
 abbrev pub source_by : Method → Option (List ℕ) → Option (List ℕ)
 source_by Plain s = None
 source_by Lattice s = s
@@ -48,6 +50,7 @@ pub record AreKept (c : Core) (p : Policy) (h : List Entry) (ks : List (Option C
   pub long : length ks ≡ length p.methods
   pub each : (m : ℕ) → m < length p.methods → IsCuboidAt c m (kept_at (shown c p) h m) (slice_index_or ks m None)
 
+-- the entry of a request that waits, if any
 abbrev pub entry_of : Option Request → List Entry
 entry_of None = []
 entry_of (Some r) = Asked r ∷ []

@@ -1,20 +1,43 @@
 // Answers from cells.
-ghost use Rattle.std.specs.Prelude.{◌≡◌, ◌+◌, ◌≤◌, true, length, map, IfOk};
-ghost use Rattle.std.specs.List.{sum_by, AllByRecursion};
+ghost use Rattle.std.specs.Prelude.{◌≡◌, ◌+◌, ◌≤◌, true, length, map, is_none, is_some, option_copied, IfOk};
+ghost use Rattle.std.specs.List.{list_all, sum_by, AllByRecursion};
+ghost use Rattle.std.specs.Option.{ForNone, IfSome};
 ghost use Rattle.cube_core.specs.Rows.{ArePlaces};
 ghost use Rattle.cube_model.specs.Cores.{Core, world};
-ghost use Rattle.cube_model.specs.Cubes.{is_finer};
+ghost use Rattle.cube_model.specs.Cubes.{is_finer, same};
 ghost use Rattle.cube_model.specs.Dims.{plains};
 ghost use Rattle.cube_model.specs.Requests as requests;
 ghost use Rattle.cube_model.specs.Requests.{asks, fits, grain, total};
 ghost use Rattle.cube_model.specs.declared.policy.Policy.{Policy};
+ghost use Rattle.cube_rollup.specs.Cuboids as said;
 ghost use Rattle.cube_rollup.specs.Cuboids.{sums_of, summed_row, StandsFor, StandsWith};
 
 use crate::Cuboid;
 use cube_core::{Steps, rows_of};
-use cube_model::{Answer, AnswerRow, Dims, NoMemory, Request, Row, Rows};
+use cube_model::{Answer, AnswerRow, Dims, NoMemory, Pick, Request, Row, Rows};
 use std::alloc::Global;
 use std::sync::ledger::Ledger;
+
+/// Whether no dimension is picked from.
+fn are_none(picks: &[Option<Pick>]) -> bool
+    ensures { result ≡ list_all is_none picks.now }
+{
+    picks.iter().all(|pick| pick.is_none())
+}
+
+/// Whether two cuboids have the same levels.
+fn are_same(levels: &[u32], others: &[u32]) -> bool
+    ensures { result ≡ same levels.now others.now }
+{
+    levels == others
+}
+
+/// Whether a request groups at just some levels and picks nothing.
+fn takes_all(levels: &[u32], request: &Request) -> bool
+    ensures { result ≡ said.takes_all levels.now request.now }
+{
+    are_same(levels, request.group.as_slice()) && are_none(request.picks.as_slice())
+}
 
 impl Cuboid {
     /// The sum over the cells of a row, whose places are the numbers of cells. One step for each.
@@ -53,7 +76,7 @@ impl Cuboid {
     /// The answer to a request for the cuboid's measure whose grain the cuboid is finer than or equal
     /// to: the rows that the request has in a core for which the cuboid stands, with their plain sums.
     ///
-    /// It groups the cells, by a sort, and reads each at most once.
+    /// It groups the cells and reads each at most once.
     pub fn answer<L: Ledger>(
         &self,
         alloc: Global,
@@ -70,5 +93,24 @@ impl Cuboid {
     {
         let rows = rows_of(alloc, dims, self.points(), request)?;
         self.sum_rows(alloc, rows, steps)
+    }
+
+    /// The answer to a request for the cuboid's measure, where the cells are the answer as they stand:
+    /// where the request groups at just the cuboid's levels and picks nothing.
+    ///
+    /// One step for each cell, and none where there is nothing.
+    #[tactic(auto, using(crate::proofs::Cells::kept_is))]
+    pub fn kept_answer<L: Ledger>(&self, request: &Request, steps: &mut Steps<L>) -> Option<&Answer>
+        requires measure { asks self.now.measure request.now ≡ true }
+        ensures answer { IfSome (option_copied result) (λ answer. (core : Core) (p : Policy) → StandsFor core self.now → answer ≡ requests.answer (world core p) request.now) }
+        ensures some { is_some result ≡ said.takes_all self.now.levels request.now }
+        ensures steps { steps.new ≤ steps.old + length self.now.cells }
+        ensures none { ForNone (option_copied result) (steps.new ≡ steps.old) }
+    {
+        if takes_all(self.levels().as_slice(), request) {
+            Some(self.all_cells(steps))
+        } else {
+            None
+        }
     }
 }

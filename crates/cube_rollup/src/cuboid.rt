@@ -81,6 +81,17 @@ impl Cuboid {
         self.cells.len() as u32
     }
 
+    /// The cells with their sums, as they stand. One step for each.
+    pub(crate) fn all_cells<L: Ledger>(&self, steps: &mut Steps<L>) -> &Answer
+        ensures cells { result.now ≡ self.now.cells }
+        ensures steps { steps.new ≡ steps.old + length self.now.cells }
+    {
+        'cells: for _cell in self.cells.as_slice() {
+            steps.tick();
+        }
+        &self.cells
+    }
+
     /// The sum of a cell. One step.
     pub fn cell<L: Ledger>(&self, i: u32, steps: &mut Steps<L>) -> i64
         requires { i < length self.now.cells }

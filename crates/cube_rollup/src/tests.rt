@@ -176,6 +176,21 @@ fn push_cells<L: Ledger>(
     text.push(b'\n')
 }
 
+/// Key and sum of each cell, where the cells are the answer as they stand.
+fn push_kept<L: Ledger>(
+    text: &mut Text,
+    cuboid: &Cuboid,
+    request: &Request,
+    steps: &mut Steps<L>,
+) -> Result<(), NoMemory>
+    requires { asks cuboid.now.measure request.now ≡ true }
+{
+    match cuboid.kept_answer(request, steps) {
+        None => text.push(b'-'),
+        Some(cells) => push_rows(text, cells.as_slice()),
+    }
+}
+
 /// The cells of a cuboid of pay, and what is answered from them.
 fn told_of<L: Ledger>(
     alloc: Global,
@@ -200,6 +215,7 @@ fn told_of<L: Ledger>(
     let mut text = Text::new(alloc);
     push_cells(&mut text, &cuboid, &mut steps)?;
     push_rows(&mut text, answer.as_slice())?;
+    push_kept(&mut text, &cuboid, &request, &mut steps)?;
     Ok(text)
 }
 
@@ -215,17 +231,17 @@ fn rows_are_unions_of_cells(rt: HostRuntime) -> Result<(), Fail> {
     let areas = told_of::<Brand>(alloc, (1, 0), (1, 2), (None, None), Blank::new(1))?;
     assert_eq!(rt;
         areas.as_slice(),
-        b"40 20 40 50 \n0 0 60\n1 0 90\n".as_slice()
+        b"40 20 40 50 \n0 0 60\n1 0 90\n-".as_slice()
     );
     let february = told_of::<Brand>(alloc, (1, 0), (2, 2), (None, FEBRUARY), Blank::new(1))?;
-    assert_eq!(rt; february.as_slice(), b"40 20 40 50 \n0 0 70\n".as_slice());
+    assert_eq!(rt; february.as_slice(), b"40 20 40 50 \n0 0 70\n-".as_slice());
     let finest = told_of::<Brand>(alloc, (0, 0), (2, 0), (None, None), Blank::new(1))?;
     assert_eq!(rt;
         finest.as_slice(),
-        b"10 20 30 40 50 \n0 0 80\n0 1 70\n".as_slice()
+        b"10 20 30 40 50 \n0 0 80\n0 1 70\n-".as_slice()
     );
     let all = told_of::<Brand>(alloc, (2, 2), (2, 2), (None, None), Blank::new(1))?;
-    assert_eq!(rt; all.as_slice(), b"150 \n0 0 150\n".as_slice());
+    assert_eq!(rt; all.as_slice(), b"150 \n0 0 150\n0 0 150\n".as_slice());
     Ok(())
 }
 
