@@ -8,6 +8,7 @@ mod folder;
 mod sink;
 mod source;
 mod store;
+mod streams;
 #[cfg(test)]
 mod tests;
 mod wire;
@@ -16,4 +17,5 @@ pub use folder::FileFolder;
 pub use sink::WriterSink;
 pub use source::ReaderSource;
 pub use store::{FileStore, MAX_PATH};
+pub use streams::hold_streams;
 pub use wire::TcpWire;

@@ -10,10 +10,11 @@ use cube_io::{Failed, FileFault, Store, StoreFault};
 use cube_model::{NoMemory, Text};
 use std::alloc::Global;
 use std::collections::BTreeMap;
-use std::fs::{OpenFile, OpenOptions};
-use std::io::{ErrorKind, Seek, SeekFrom};
+use std::fs::{File, OpenFile, OpenOptions, TryLockError};
+use std::io::{ErrorKind, Seek, SeekFrom, Write};
+use std::os::unix::fs::MetadataExt;
 use std::rt::Files;
-use std::{fs, io, str};
+use std::{fmt, fs, io, str};
 
 /// The longest path in bytes.
 pub const MAX_PATH: usize = 4_096;
@@ -21,49 +22,115 @@ pub const MAX_PATH: usize = 4_096;
 /// The most bytes of a log that are read.
 const MAX_LOG: usize = 268_435_456;
 
+/// The file of a log: locked, so that no other program that asks for the lock has it, and as this program left it.
+#[derive(Drop)]
+struct LogFile {
+    file: File,
+    /// So many bytes are surely in it.
+    length: u64,
+    /// So many more a call that failed may have left behind them.
+    loose: u64,
+}
+
 /// The open files of the logs, each by its number.
 #[derive(Drop)]
-struct LogFiles<'a, R: Files> {
+struct LogFiles<'a, R: Files<File = File> + AllocGlobal, N: Write + Drop> {
     rt: &'a R,
+    notes: N,
     name: String,
     path: String,
-    files: BTreeMap<u32, R::File>,
+    files: BTreeMap<u32, LogFile>,
 }
 
-/// The folder that a path names a file of.
-fn folder_of(path: &str) -> &str {
-    match path.rsplit_once('/') {
-        Some(("", _)) => "/",
-        Some((folder, _)) => folder,
-        None => ".",
-    }
-}
-
-/// Puts the names of a folder's files on the disk.
-fn sync_folder<R: Files>(rt: &R, folder: &str) -> io::Result<()> {
-    OpenOptions::new().read(true).open(rt, folder)?.sync_all()
-}
-
-/// Makes a file that isn't there. Where its name does not reach the disk, it is taken away again.
-fn make<R: Files>(rt: &R, path: &str) -> io::Result<R::File> {
-    let file = OpenOptions::new()
+/// Puts the names of a file's folder on the disk.
+fn sync_folder<R: Files + AllocGlobal>(rt: &R, path: &str) -> io::Result<()> {
+    let mut folder = fs::canonicalize(rt, path)?;
+    folder.pop();
+    OpenOptions::new()
         .read(true)
-        .append(true)
-        .create_new(true)
-        .open(rt, path)?;
-    if let Err(error) = sync_folder(rt, folder_of(path)) {
-        let _ = fs::remove_file(rt, path);
-        return Err(error);
-    }
-    Ok(file)
+        .open(rt, folder.as_path())?
+        .sync_all()
 }
 
 /// Opens a file to read it and to write at its end, and makes it where it isn't there.
 fn open_or_make<R: Files>(rt: &R, path: &str) -> io::Result<R::File> {
-    match OpenOptions::new().read(true).append(true).open(rt, path) {
-        Err(error) if error.kind() == ErrorKind::NotFound => make(rt, path),
-        other => other,
+    OpenOptions::new()
+        .read(true)
+        .append(true)
+        .create(true)
+        .open(rt, path)
+}
+
+/// Why a file is not worked on.
+#[derive(Drop)]
+enum Trouble {
+    /// The machine refused, for this reason.
+    Refused(io::Error),
+    /// It is a folder, a pipe or a device.
+    NoFile,
+    /// Another program has the lock.
+    InUse,
+    /// Its name stands for another file now, or for none.
+    Moved,
+    /// It is longer or shorter than this program left it.
+    Changed,
+}
+
+impl From<io::Error> for Trouble {
+    fn from(error: io::Error) -> Trouble {
+        Trouble::Refused(error)
     }
+}
+
+impl fmt::Display for Trouble {
+    fn fmt<W: fmt::Write>(&self, f: &mut fmt::Formatter<W>) -> fmt::Result {
+        match self {
+            Trouble::Refused(error) => write!(f, "{error}"),
+            Trouble::NoFile => write!(f, "no regular file"),
+            Trouble::InUse => write!(f, "in use by another program"),
+            Trouble::Moved => write!(f, "moved or deleted"),
+            Trouble::Changed => write!(f, "changed by another program"),
+        }
+    }
+}
+
+/// Locks a file until it is closed, however the program ends.
+fn lock(file: &File) -> Result<(), Trouble> {
+    match file.try_lock() {
+        Ok(()) => Ok(()),
+        Err(TryLockError::WouldBlock) => Err(Trouble::InUse),
+        Err(TryLockError::Error(error)) => Err(Trouble::Refused(error)),
+    }
+}
+
+/// How long an open file is, where its name stands for it.
+fn length_behind<R: Files>(rt: &R, path: &str, file: &File) -> Result<u64, Trouble> {
+    let open = file.metadata()?;
+    let named = match fs::metadata(rt, path) {
+        Ok(named) => named,
+        Err(error) if error.kind() == ErrorKind::NotFound => return Err(Trouble::Moved),
+        Err(error) => return Err(Trouble::Refused(error)),
+    };
+    if open.nlink() == 0 || open.dev() != named.dev() || open.ino() != named.ino() {
+        return Err(Trouble::Moved);
+    }
+    Ok(open.len())
+}
+
+/// Opens the file of a log, makes it where it isn't there, and locks it before anything is read. Its name is on the disk then.
+fn open_log<R: Files<File = File> + AllocGlobal>(rt: &R, path: &str) -> Result<LogFile, Trouble> {
+    let file = open_or_make(rt, path)?;
+    if !file.metadata()?.is_file() {
+        return Err(Trouble::NoFile);
+    }
+    lock(&file)?;
+    sync_folder(rt, path)?;
+    let length = length_behind(rt, path, &file)?;
+    Ok(LogFile {
+        file,
+        length,
+        loose: 0,
+    })
 }
 
 /// All bytes of a file.
@@ -81,7 +148,47 @@ fn read_log<F: io::Read + Seek>(file: &mut F, alloc: Global) -> Result<Text, Sto
     }
 }
 
-impl<R: Files> LogFiles<'_, R> {
+impl LogFile {
+    /// Whether a file of this length is as this program left it.
+    fn is_left(&self, length: u64) -> bool {
+        self.length <= length && length - self.length <= self.loose
+    }
+
+    /// Sees that the name of the file still stands for it, and that nobody else wrote to it.
+    fn look<R: Files>(&self, rt: &R, path: &str) -> Result<(), Trouble> {
+        if self.is_left(length_behind(rt, path, &self.file)?) {
+            Ok(())
+        } else {
+            Err(Trouble::Changed)
+        }
+    }
+
+    /// Puts a piece at the end.
+    fn append(&mut self, piece: &[u8]) -> Result<(), Failed> {
+        let more = piece.len() as u64;
+        let written = write_whole(&mut self.file, piece);
+        match written {
+            Ok(()) => self.length = self.length.saturating_add(more),
+            Err(_) => self.loose = self.loose.saturating_add(more),
+        }
+        written
+    }
+
+    /// Cuts the file to a length that it has.
+    fn cut(&mut self, len: u64) -> Result<(), Trouble> {
+        if len > self.length {
+            return Err(Trouble::Changed);
+        }
+        // Where this fails the file may have either length.
+        self.loose = self.loose.saturating_add(self.length - len);
+        self.length = len;
+        self.file.set_len(len)?;
+        self.loose = 0;
+        Ok(())
+    }
+}
+
+impl<R: Files<File = File> + AllocGlobal, N: Write + Drop> LogFiles<'_, R, N> {
     /// Takes the name of log 0, and closes the files of another name.
     fn rename(&mut self, name: &[u8]) -> Result<(), Failed> {
         self.files.clear();
@@ -110,74 +217,108 @@ impl<R: Files> LogFiles<'_, R> {
         Ok(())
     }
 
+    /// Says in the notes why the file of the path is not worked on.
+    fn note(&mut self, trouble: &Trouble) -> Failed {
+        let path = &self.path;
+        let _ = writeln!(self.notes, "{path}: {trouble}");
+        Failed
+    }
+
     /// Opens the file of a log, where it isn't open.
     fn open(&mut self, log: u32) -> Result<(), Failed> {
+        self.find(log)?;
         if self.files.contains_key(&log) {
             return Ok(());
         }
-        self.find(log)?;
-        let Ok(file) = open_or_make(self.rt, self.path.as_str()) else {
-            return Err(Failed);
-        };
-        match self.files.insert(log, file) {
-            Ok(_) => Ok(()),
-            Err(_) => Err(Failed),
+        match open_log(self.rt, self.path.as_str()) {
+            Ok(file) => match self.files.insert(log, file) {
+                Ok(_) => Ok(()),
+                Err(_) => Err(Failed),
+            },
+            Err(trouble) => Err(self.note(&trouble)),
         }
     }
 
-    /// The open file of a log.
-    fn file(&mut self, log: u32) -> Result<&mut R::File, Failed> {
+    /// Sees that the file of a log is the one that its name stands for, as this program left it.
+    fn look(&mut self, log: u32) -> Result<(), Failed> {
         self.open(log)?;
-        self.files.get_mut(&log).ok_or(Failed)
+        let looked = match self.files.get(&log) {
+            Some(file) => file.look(self.rt, self.path.as_str()),
+            None => return Err(Failed),
+        };
+        match looked {
+            Ok(()) => Ok(()),
+            Err(trouble) => Err(self.note(&trouble)),
+        }
     }
 
     fn read_all(&mut self, alloc: Global, log: u32) -> Result<Text, StoreFault>
         ensures { IfOk result (λ text. length text ≤ 2 ^ 28) }
     {
-        match self.file(log) {
-            Ok(file) => read_log(file, alloc),
-            Err(_) => Err(StoreFault::Failed),
+        if self.look(log).is_err() {
+            return Err(StoreFault::Failed);
+        }
+        match self.files.get_mut(&log) {
+            Some(file) => read_log(&mut file.file, alloc),
+            None => Err(StoreFault::Failed),
         }
     }
 
     fn append(&mut self, log: u32, piece: &[u8]) -> Result<(), Failed> {
-        write_whole(self.file(log)?, piece)
+        self.look(log)?;
+        match self.files.get_mut(&log) {
+            Some(file) => file.append(piece),
+            None => Err(Failed),
+        }
     }
 
     fn cut(&mut self, log: u32, len: u64) -> Result<(), Failed> {
-        match self.file(log)?.set_len(len) {
+        self.look(log)?;
+        let done = match self.files.get_mut(&log) {
+            Some(file) => file.cut(len),
+            None => return Err(Failed),
+        };
+        match done {
             Ok(()) => Ok(()),
-            Err(_) => Err(Failed),
+            Err(trouble) => Err(self.note(&trouble)),
         }
     }
 
+    /// Puts the file on the disk, and then sees once more that its name stands for it: who asks for a line that was kept
+    /// finds it behind the name.
     fn sync(&mut self, log: u32) -> Result<(), Failed> {
-        match self.file(log)?.sync_all() {
-            Ok(()) => Ok(()),
-            Err(_) => Err(Failed),
+        self.open(log)?;
+        match self.files.get(&log) {
+            Some(file) if file.file.sync_all().is_ok() => {}
+            _ => return Err(Failed),
         }
+        self.look(log)
     }
 }
 
 /// Logs in files: log 0 in the file that `attach` names, log k in that name followed by `.k`. A file that isn't there is
-/// made. It is opened at the first call on its log. It tells nothing of the logs.
+/// made. It is opened and locked at the first call on its log, before anything is read, and stays so until the store is
+/// dropped or the program ends, however it ends. A file that another program has locked, that was moved or deleted, or
+/// that another program wrote to, is not worked on: nothing is read of it, written to it or cut from it. Its notes say
+/// why, in a line. It tells nothing of the logs.
 #[derive(Drop)]
-pub struct FileStore<'a, R: Files> {
-    files: LogFiles<'a, R>,
+pub struct FileStore<'a, R: Files<File = File> + AllocGlobal, N: Write + Drop> {
+    files: LogFiles<'a, R, N>,
     attached: bool,
     faults: u64,
 }
 
-impl<'a, R: Files> FileStore<'a, R> {
+impl<'a, R: Files<File = File> + AllocGlobal, N: Write + Drop> FileStore<'a, R, N> {
     /// A store of the machine's files, with room for a path.
-    pub fn new(alloc: Global, rt: &'a R) -> Result<Self, NoMemory>
-        ensures attached { IfOk result (λ store. ⟦<FileStore<'a, R> as Store>⟧.attached store ≡ false) }
-        ensures told { IfOk result (λ store. ⟦<FileStore<'a, R> as Store>⟧.told store ≡ false) }
-        ensures faults { IfOk result (λ store. ⟦<FileStore<'a, R> as Store>⟧.faults store ≡ 0) }
+    pub fn new(alloc: Global, rt: &'a R, notes: N) -> Result<Self, NoMemory>
+        ensures attached { IfOk result (λ store. ⟦<FileStore<'a, R, N> as Store>⟧.attached store ≡ false) }
+        ensures told { IfOk result (λ store. ⟦<FileStore<'a, R, N> as Store>⟧.told store ≡ false) }
+        ensures faults { IfOk result (λ store. ⟦<FileStore<'a, R, N> as Store>⟧.faults store ≡ 0) }
     {
         Ok(FileStore {
             files: LogFiles {
                 rt,
+                notes,
                 name: String::with_capacity(alloc, MAX_PATH)?,
                 path: String::with_capacity(alloc, MAX_PATH)?,
                 files: BTreeMap::new(alloc),
@@ -199,7 +340,7 @@ fn counted(faults: &mut u64, done: Result<(), Failed>) -> Result<(), Failed>
     done
 }
 
-impl<R: Files> Store for FileStore<'_, R> {
+impl<R: Files<File = File> + AllocGlobal, N: Write + Drop> Store for FileStore<'_, R, N> {
     ghost faults = { λ s. s.faults };
 
     ghost attached = { λ s. s.attached };

@@ -45,18 +45,24 @@ fn a_file_is_read_whole_or_is_at_fault(rt: HostRuntime) -> Result<(), Fail> {
     Ok(())
 }
 
+// Writes log 0 and log 2 of a name.
+fn write_logs(rt: &HostRuntime, name: &Text) -> Result<(), Fail> {
+    let mut store = FileStore::new(rt.alloc(), rt, rt.stderr())?;
+    store.attach(name)?;
+    store.append(0, b"kept\n")?;
+    store.append(2, b"other")?;
+    store.append(0, b"torn")?;
+    store.cut(0, 5)?;
+    store.sync(0)?;
+    Ok(())
+}
+
 #[test]
 fn logs_are_kept_in_files(rt: HostRuntime) -> Result<(), Fail> {
     let alloc = rt.alloc();
-    let mut store = FileStore::new(alloc, &rt)?;
     let name = Text::from_bytes(alloc, b"logs_are_kept_in_files.log")?;
-    store.attach(&name).expect(&rt, "a name");
-    assert!(rt; store.append(0, b"kept\n").is_ok());
-    assert!(rt; store.append(2, b"other").is_ok());
-    assert!(rt; store.append(0, b"torn").is_ok());
-    assert!(rt; store.cut(0, 5).is_ok());
-    assert!(rt; store.sync(0).is_ok());
-    let mut reader = FileStore::new(alloc, &rt)?;
+    write_logs(&rt, &name)?;
+    let mut reader = FileStore::new(alloc, &rt, rt.stderr())?;
     reader.attach(&name).expect(&rt, "a name");
     let first = reader.read_all(alloc, 0).expect(&rt, "log 0");
     let other = reader.read_all(alloc, 2).expect(&rt, "log 2");
@@ -70,7 +76,8 @@ fn logs_are_kept_in_files(rt: HostRuntime) -> Result<(), Fail> {
 #[test]
 fn a_store_of_no_file_fails(rt: HostRuntime) -> Result<(), Fail> {
     let alloc = rt.alloc();
-    let mut store = FileStore::new(alloc, &rt)?;
+    let mut notes = [0u8; 128];
+    let mut store = FileStore::new(alloc, &rt, notes.as_mut_slice())?;
     let long = [b'a'; 4_097];
     assert!(rt; store.attach(&Text::from_bytes(alloc, &long)?).is_err());
     store
@@ -79,6 +86,82 @@ fn a_store_of_no_file_fails(rt: HostRuntime) -> Result<(), Fail> {
     assert!(rt; store.append(0, b"").is_ok());
     assert!(rt; store.append(0, b"a").is_err());
     assert!(rt; store.sync(0).is_err());
+    drop(store);
+    assert!(rt; notes.starts_with(b"no/such/log: No such file or directory"));
+    Ok(())
+}
+
+#[test]
+fn a_pipe_or_a_device_is_no_log(rt: HostRuntime) -> Result<(), Fail> {
+    let mut notes = [0u8; 64];
+    let mut store = FileStore::new(rt.alloc(), &rt, notes.as_mut_slice())?;
+    store.attach(&Text::from_bytes(rt.alloc(), b"/dev/null")?)?;
+    assert!(rt; store.read_all(rt.alloc(), 0).is_err());
+    assert!(rt; store.append(0, b"a").is_err());
+    drop(store);
+    assert!(rt; notes.starts_with(b"/dev/null: no regular file\n/dev/null: no regular file\n"));
+    Ok(())
+}
+
+// Whether a second store reads a log that a first one has, whether it writes to it, and what it notes.
+fn try_second(rt: &HostRuntime, name: &Text, notes: &mut [u8]) -> Result<(bool, bool), Fail> {
+    let mut second = FileStore::new(rt.alloc(), rt, notes)?;
+    second.attach(name)?;
+    let reads = second.read_all(rt.alloc(), 0).is_ok();
+    let writes = second.append(0, b"second").is_ok();
+    Ok((reads, writes))
+}
+
+#[test]
+fn a_log_has_one_owner(rt: HostRuntime) -> Result<(), Fail> {
+    let name = Text::from_bytes(rt.alloc(), b"one_owner.log")?;
+    let mut first = FileStore::new(rt.alloc(), &rt, rt.stderr())?;
+    first.attach(&name).expect(&rt, "a name");
+    assert!(rt; first.append(0, b"first").is_ok());
+    let mut notes = [0u8; 128];
+    assert_eq!(rt; try_second(&rt, &name, &mut notes)?, (false, false));
+    assert!(rt; notes.starts_with(b"one_owner.log: in use by another program\n"));
+    assert!(rt; first.append(0, b" again").is_ok());
+    let kept = first.read_all(rt.alloc(), 0).expect(&rt, "the log");
+    assert_eq!(rt; kept.as_slice(), b"first again".as_slice());
+    fs::remove_file(&rt, "one_owner.log")?;
+    Ok(())
+}
+
+#[test]
+fn a_moved_log_is_left_alone(rt: HostRuntime) -> Result<(), Fail> {
+    let name = Text::from_bytes(rt.alloc(), b"moved.log")?;
+    let mut store = FileStore::new(rt.alloc(), &rt, rt.stderr())?;
+    store.attach(&name).expect(&rt, "a name");
+    assert!(rt; store.append(0, b"kept").is_ok());
+    fs::rename(&rt, "moved.log", "away.log")?;
+    assert!(rt; store.append(0, b" more").is_err());
+    assert!(rt; store.sync(0).is_err());
+    assert!(rt; store.cut(0, 0).is_err());
+    fs::write(&rt, "moved.log", "other")?;
+    assert!(rt; store.append(0, b" more").is_err());
+    let other = fs::read(&rt, "moved.log")?;
+    assert_eq!(rt; other.as_slice(), b"other".as_slice());
+    fs::rename(&rt, "away.log", "moved.log")?;
+    assert!(rt; store.append(0, b" back").is_ok());
+    let kept = fs::read(&rt, "moved.log")?;
+    assert_eq!(rt; kept.as_slice(), b"kept back".as_slice());
+    fs::remove_file(&rt, "moved.log")?;
+    Ok(())
+}
+
+#[test]
+fn a_log_that_another_wrote_to_is_left_alone(rt: HostRuntime) -> Result<(), Fail> {
+    let name = Text::from_bytes(rt.alloc(), b"changed.log")?;
+    let mut store = FileStore::new(rt.alloc(), &rt, rt.stderr())?;
+    store.attach(&name).expect(&rt, "a name");
+    assert!(rt; store.append(0, b"kept").is_ok());
+    fs::write(&rt, "changed.log", "kept by another")?;
+    assert!(rt; store.append(0, b" more").is_err());
+    assert!(rt; store.cut(0, 4).is_err());
+    let other = fs::read(&rt, "changed.log")?;
+    assert_eq!(rt; other.as_slice(), b"kept by another".as_slice());
+    fs::remove_file(&rt, "changed.log")?;
     Ok(())
 }
 

@@ -1,0 +1,85 @@
+#!/usr/bin/env bash
+# One owner: what befalls a journal of examples/pay that two programs want, that is moved away, that another program
+# writes to, and what befalls it where the standard streams are closed. Each is done, and seen to tell nothing more.
+set -eu
+here=$(cd "$(dirname "$0")" && pwd)
+pay=$here/../pay
+cube=${CUBE:-$here/../../cube}
+work=$(mktemp -d)
+trap 'rm -rf "$work"' EXIT
+journal=$work/pay.journal
+options=(--dims "$pay/dims.toml" --facts "$pay/facts.csv" --policy "$pay/policy.toml" --journal "$journal")
+areas='slice pay by region.area where time.month=Jan'
+grades='slice pay by grade.grade where time.month=Jan'
+
+fail() {
+    echo "one owner: $1" >&2
+    exit 1
+}
+
+# Starts `ask` on the journal, its input kept open on descriptor 3, and waits for the answer to a first line.
+begin() {
+    rm -f "$work/input" && mkfifo "$work/input"
+    "$cube" ask "${options[@]}" < "$work/input" > "$work/replies" 2> "$work/notes" &
+    exec 3> "$work/input"
+    echo "$1" >&3
+    wait_for "$2"
+}
+
+# Waits until so many replies stand in the output.
+wait_for() {
+    for _ in $(seq 100); do
+        [ "$(grep -cE '^[0-9]{3} [0-9]+$' "$work/replies")" -ge "$1" ] && return
+        sleep 0.1
+    done
+    fail "no reply"
+}
+
+finish() {
+    exec 3>&-
+    wait
+}
+
+"$cube" --version > /dev/null
+begin "$areas" 1
+cp "$journal" "$work/before"
+status=0
+echo "$grades" | "$cube" ask "${options[@]}" > "$work/second" 2> "$work/second-notes" || status=$?
+[ "$status" -eq 9 ] || fail "a second program ended with $status"
+[ ! -s "$work/second" ] || fail "a second program answered"
+grep -q 'in use by another program' "$work/second-notes" || fail "no note on the lock"
+cmp -s "$journal" "$work/before" || fail "a second program changed the journal"
+echo "a second program on the journal ends with status 9 and changes nothing"
+
+mv "$journal" "$work/away"
+echo "slice hours by region.area" >&3
+wait_for 2
+grep -q '^journal fault$' "$work/replies" || fail "an answer went to a journal without a name"
+grep -q 'moved or deleted' "$work/notes" || fail "no note on the move"
+[ ! -e "$journal" ] || fail "a journal was made anew"
+mv "$work/away" "$journal"
+echo "slice hours by region.area" >&3
+wait_for 3
+cmp -s <(head -n 2 "$journal") "$work/before" || fail "a moved journal was changed"
+echo "a journal that is moved away gets nothing, and goes on once it is back"
+
+echo 'q slice pay by time.month' >> "$journal"
+cp "$journal" "$work/before"
+echo "slice hours by time.month" >&3
+wait_for 4
+grep -q 'changed by another program' "$work/notes" || fail "no note on the change"
+cmp -s "$journal" "$work/before" || fail "a line of another program was cut away"
+finish
+echo "a journal that another program wrote to is left as it is"
+
+rm "$journal"
+echo "$areas" | "$cube" ask "${options[@]}" > "$work/open"
+rm "$journal"
+echo "$areas" | "$cube" ask "${options[@]}" > "$work/shut" 2>&-
+cmp -s "$work/open" "$work/shut" || fail "other replies with standard error closed"
+cp "$journal" "$work/before"
+echo "$areas" | "$cube" ask "${options[@]}" >&- 2>&- || fail "closed streams"
+"$cube" ask "${options[@]}" <&- || fail "a closed input"
+cmp -s "$journal" "$work/before" || fail "a closed stream wrote into the journal"
+echo "$areas" | "$cube" ask "${options[@]}" | cmp -s - "$work/open" || fail "the journal does not open again"
+echo "closed standard streams write nothing into the journal"
