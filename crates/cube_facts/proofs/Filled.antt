@@ -1,7 +1,6 @@
 -- A fact file, record by record, and the core that it fills.
 use Rattle.std.proofs.Common.{◌≡◌, inl, inr, ℕ, zero, suc, ◌+◌, ◌<◌, ◌≤◌, Bool, true, false, cond, List, [], ◌∷◌, ◌++◌, length, map, filter, flat_map, get_or, Option, Some, None, IfSome, Result, Ok, Err, ℤ, pos, All, refl, sym, ap, ap₂, subst, ◌∙◌, arith, ltb, length-append, sum, unwrap_or, eqb}
-use Rattle.std.specs.BTreeMap.{BTreeMap, get, keys, values, btree_map_len}
-use Rattle.std.specs.Map.{keys_of, values_of}
+use Rattle.std.specs.Map.{keys_of, values_of, lookup}
 use Rattle.std.specs.List.{list_all, AllByRecursion}
 use Rattle.std.specs.Str.{bytes_eq}
 use Rattle.std.proofs.lemmas.Bool.{false≢true, lt-ltb, le-ltb, ltb-true, ltb-false, and_parts, and_right, false_from_ne_true}
@@ -25,11 +24,12 @@ use Rattle.cube_model.proofs.Orders.{in_order_increasing}
 use Rattle.cube_model.proofs.Parities.{at_place}
 use Rattle.cube_facts.specs.Records.{records_of}
 use Rattle.cube_facts.specs.FactFile.{Fact, field_in, leaf_in, units_in, leaves_of, fact_of, column_faults, own_faults, record_faults, most_points, points_in, facts_of, points_of, facts_at, units_sum, shape_of, cube_of}
-use Rattle.cube_facts.specs.Filling.{Point, point_cmp, totals_of, Fills, HasRoom, IsFact, IsFilled}
+use Rattle.cube_facts.specs.Filling.{Point, has_leaves, totals_of, HasTotals, Gathers, Fills, HasRoom, IsFact, AreFacts}
 use Rattle.cube_facts.specs.Table.{IsUnits}
 use Rattle.cube_facts.specs.declared.fault.FactsFault.{FactsFault}
 use Rattle.cube_facts.specs.declared.fault.FactsFault.TheVariants as fault
 use Rattle.cube_facts.specs.declared.totals.Totals.{Totals}
+use Rattle.cube_facts.proofs.Adding.{totals_parts}
 use Rattle.cube_facts.proofs.Load.{unless_first}
 
 -- ---- what is left to say
@@ -68,25 +68,22 @@ start_whole s bytes header rows h is none = rw (h, is, none) refl
 -- ---- the loop
 
 -- how the file stands behind some records: what is left to say, and the points so far
-pub record Reads (s : Dims) (bytes : List ℕ) (header : List (List ℕ)) (points : BTreeMap Point Totals) (count : ℕ) (left : List (List (List ℕ))) : Type 0 where
+pub record Reads (s : Dims) (bytes : List ℕ) (header : List (List ℕ)) (points : List (Point × Totals)) (count : ℕ) (left : List (List (List ℕ))) : Type 0 where
   pub earlier : List (List (List ℕ))
   pub counted : count ≡ length earlier
   pub whole : facts_of s bytes ≡ rest_of s header earlier left
-  pub filled : IsFilled s (map (fact_of s header) earlier) points
+  pub facts : AreFacts s (map (fact_of s header) earlier)
+  pub gathers : Gathers (length s.measures) (map (fact_of s header) earlier) points
 
-pub reads_start : (s : Dims) (bytes : List ℕ) (header : List (List ℕ)) (points : BTreeMap Point Totals) (left : List (List (List ℕ)))
-    → begins_with_mark (strip_bom bytes) ≡ false → records_of bytes ≡ header ∷ left → flat_map (column_faults header) (column_names s) ≡ [] → points.entries ≡ []
+pub reads_start : (s : Dims) (bytes : List ℕ) (header : List (List ℕ)) (points : List (Point × Totals)) (left : List (List (List ℕ)))
+    → begins_with_mark (strip_bom bytes) ≡ false → records_of bytes ≡ header ∷ left → flat_map (column_faults header) (column_names s) ≡ [] → points ≡ []
     → Reads s bytes header points 0 left
 reads_start s bytes header points left mark start none empty = record {
   earlier = [];
   counted = refl;
   whole = start_whole s bytes header left mark start none;
-  filled = record {
-    fills = record { keys = rw empty refl; totals = λ q. rw empty refl };
-    each = tt;
-    few = omega arith;
-    few_points = omega arith;
-  };
+  facts = record { each = tt; few = omega arith; few_points = omega arith };
+  gathers = record { keys = rw empty refl; many = rw empty refl; totals = λ q. rw empty refl };
 }
 
 -- where the points of some records are few enough
@@ -97,35 +94,35 @@ points_fit s header earlier f count counted none few =
     let test : ltb most_points (length (points_in s header (earlier ++ f ∷ []))) ≡ false = le-ltb most_points (length (points_in s header (earlier ++ f ∷ []))) few_here in
     rw (sym counted, none, test) refl
 
-pub reads_more : (s : Dims) (bytes : List ℕ) (header : List (List ℕ)) (points more : BTreeMap Point Totals) (count : ℕ) (left behind : List (List (List ℕ))) (f : List (List ℕ)) (fact : Fact)
+pub reads_more : (s : Dims) (bytes : List ℕ) (header : List (List ℕ)) (points more : List (Point × Totals)) (count : ℕ) (left behind : List (List (List ℕ))) (f : List (List ℕ)) (fact : Fact)
     → Reads s bytes header points count left → left ≡ f ∷ behind → own_faults s header count f ≡ [] → count < 1000000 → fact ≡ fact_of s header f → IsFact s fact
-    → ((facts : List Fact) → Fills (length s.measures) facts points → Fills (length s.measures) (facts ++ fact ∷ []) more)
-    → btree_map_len more ≤ 65536
+    → ((facts : List Fact) → Gathers (length s.measures) facts points → Gathers (length s.measures) (facts ++ fact ∷ []) more)
+    → length more ≤ 65536
     → Reads s bytes header more (count + 1) behind
 reads_more s bytes header points more count left behind f fact r next none few is rules step small =
     let facts = map (fact_of s header) r.earlier in
     let grown : map (fact_of s header) (r.earlier ++ f ∷ []) ≡ facts ++ fact ∷ [] = map-append (fact_of s header) r.earlier (f ∷ []) ∙ ap (λ g. facts ++ g ∷ []) (sym is) in
-    let fills = step facts r.filled.fills in
-    let long : length (points_of (facts ++ fact ∷ [])) ≡ btree_map_len more = ap length (sym fills.keys) ∙ length-map (keys_of more.entries) (λ k. k.items) ∙ length-map more.entries (λ e. e.0) in
+    let gathers = step facts r.gathers in
+    let long : length (points_of (facts ++ fact ∷ [])) ≡ length more = gathers.many in
     let points_few : length (points_of (facts ++ fact ∷ [])) ≤ 65536 = omega (arith, long, small) in
     let fits : record_faults s header r.earlier f ≡ [] = points_fit s header r.earlier f count r.counted none (rw grown points_few) in
     record {
       earlier = r.earlier ++ f ∷ [];
       counted = rw (length-append r.earlier (f ∷ [])) (ap (λ (n : ℕ). n + 1) r.counted);
       whole = r.whole ∙ ap (rest_of s header r.earlier) next ∙ rest_more s header r.earlier behind f fits;
-      filled = rw grown (record {
-        fills = fills;
-        each = each_more (IsFact s) facts fact r.filled.each rules;
+      facts = rw grown (record {
+        each = each_more (IsFact s) facts fact r.facts.each rules;
         few = rw (length-append facts (fact ∷ [])) (omega (arith, few, r.counted, length-map r.earlier (fact_of s header)));
         few_points = points_few;
       });
+      gathers = rw grown gathers;
     }
   where
     each_more : {X : Type 0} (P : X → Type 0) (xs : List X) (x : X) → Each P xs → P x → Each P (xs ++ x ∷ [])
     each_more P [] x h k = (k, tt)
     each_more P (y ∷ ys) x h k = (h.0, each_more P ys x h.1 k)
 
-pub reads_fault : (s : Dims) (bytes : List ℕ) (header : List (List ℕ)) (points : BTreeMap Point Totals) (count : ℕ) (left behind : List (List (List ℕ))) (f : List (List ℕ)) (e : FactsFault)
+pub reads_fault : (s : Dims) (bytes : List ℕ) (header : List (List ℕ)) (points : List (Point × Totals)) (count : ℕ) (left behind : List (List (List ℕ))) (f : List (List ℕ)) (e : FactsFault)
     → Reads s bytes header points count left → left ≡ f ∷ behind → first (own_faults s header count f) ≡ Some e → facts_of s bytes ≡ Err e
 reads_fault s bytes header points count left behind f e r next h =
     r.whole ∙ ap (rest_of s header r.earlier) next ∙ rest_fault s header r.earlier behind f e (first_of_more (own_faults s header (length r.earlier) f) _ e (rw r.counted at h))
@@ -134,25 +131,25 @@ reads_fault s bytes header points count left behind f e r next h =
     first_of_more [] gs e h = absurd (cc)
     first_of_more (g ∷ fs) gs e h = h
 
-pub reads_points : (s : Dims) (bytes : List ℕ) (header : List (List ℕ)) (points more : BTreeMap Point Totals) (count : ℕ) (left behind : List (List (List ℕ))) (f : List (List ℕ)) (fact : Fact)
+pub reads_points : (s : Dims) (bytes : List ℕ) (header : List (List ℕ)) (points more : List (Point × Totals)) (count : ℕ) (left behind : List (List (List ℕ))) (f : List (List ℕ)) (fact : Fact)
     → Reads s bytes header points count left → left ≡ f ∷ behind → own_faults s header count f ≡ [] → fact ≡ fact_of s header f
-    → ((facts : List Fact) → Fills (length s.measures) facts points → Fills (length s.measures) (facts ++ fact ∷ []) more)
-    → 65536 < btree_map_len more
+    → ((facts : List Fact) → Gathers (length s.measures) facts points → Gathers (length s.measures) (facts ++ fact ∷ []) more)
+    → 65536 < length more
     → facts_of s bytes ≡ Err (fault.Limit limit.Points 65536)
 reads_points s bytes header points more count left behind f fact r next none is step large =
     let facts = map (fact_of s header) r.earlier in
     let grown : map (fact_of s header) (r.earlier ++ f ∷ []) ≡ facts ++ fact ∷ [] = map-append (fact_of s header) r.earlier (f ∷ []) ∙ ap (λ g. facts ++ g ∷ []) (sym is) in
-    let fills = step facts r.filled.fills in
-    let long : length (points_of (facts ++ fact ∷ [])) ≡ btree_map_len more = ap length (sym fills.keys) ∙ length-map (keys_of more.entries) (λ k. k.items) ∙ length-map more.entries (λ e. e.0) in
+    let gathers = step facts r.gathers in
+    let long : length (points_of (facts ++ fact ∷ [])) ≡ length more = gathers.many in
     let same : map (leaves_of s header) (r.earlier ++ f ∷ []) ≡ map (λ g. g.leaves) (facts ++ fact ∷ []) = sym (map-map (λ (g : Fact). g.leaves) (fact_of s header) (r.earlier ++ f ∷ [])) ∙ ap (map (λ (g : Fact). g.leaves)) grown in
     let many : 65536 < length (points_in s header (r.earlier ++ f ∷ [])) = rw same (omega (arith, long, large)) in
     let test : ltb most_points (length (points_in s header (r.earlier ++ f ∷ []))) ≡ true = lt-ltb most_points (length (points_in s header (r.earlier ++ f ∷ []))) many in
     let here : own_faults s header (length r.earlier) f ≡ [] = rw (sym r.counted) none in
     r.whole ∙ ap (rest_of s header r.earlier) next ∙ rest_fault s header r.earlier behind f (fault.Limit limit.Points 65536) (rw (here, test) refl)
 
-pub reads_end : (s : Dims) (bytes : List ℕ) (header : List (List ℕ)) (points : BTreeMap Point Totals) (count : ℕ) (left : List (List (List ℕ)))
-    → Reads s bytes header points count left → left ≡ [] → (facts : List Fact) × (facts_of s bytes ≡ Ok facts) × IsFilled s facts points
-reads_end s bytes header points count left r none = (map (fact_of s header) r.earlier, r.whole ∙ ap (rest_of s header r.earlier) none ∙ rest_none s header r.earlier, r.filled)
+pub reads_end : (s : Dims) (bytes : List ℕ) (header : List (List ℕ)) (points : List (Point × Totals)) (count : ℕ) (left : List (List (List ℕ)))
+    → Reads s bytes header points count left → left ≡ [] → (facts : List Fact) × (facts_of s bytes ≡ Ok facts) × AreFacts s facts × Gathers (length s.measures) facts points
+reads_end s bytes header points count left r none = (map (fact_of s header) r.earlier, r.whole ∙ ap (rest_of s header r.earlier) none ∙ rest_none s header r.earlier, r.facts, r.gathers)
 
 -- ---- facts keep their rules
 
@@ -217,12 +214,6 @@ at_bounded s facts x m h = sum_bounded s m (facts_at facts x) (each_filter (IsFa
 
 -- ---- the totals of the map
 
-totals_parts : (n : ℕ) (fs : List Fact) (t : Totals) → totals_of n fs ≡ Some t → (t.facts ≡ length fs) × (t.sums ≡ map (λ m. units_sum m fs) (count_from 0 n))
-totals_parts n [] t e = absurd (cc)
-totals_parts n (f ∷ fs) t e =
-    let is : record { facts = length (f ∷ fs); sums = map (λ m. units_sum m (f ∷ fs)) (count_from 0 n) } ≡ t = cc in
-    (sym (ap (λ (t : Totals). t.facts) is), sym (ap (λ (t : Totals). t.sums) is))
-
 count_long : (a n : ℕ) → length (count_from a n) ≡ n
 count_long a zero = refl
 count_long a (suc n) = ap suc (count_long (suc a) n)
@@ -235,36 +226,28 @@ all_mapped P h ms k i d l =
 at_most : (facts : List Fact) (x : List ℕ) → length (facts_at facts x) ≤ length facts
 at_most facts x = omega (arith, length-filter (λ (f : Fact). same x f.leaves) facts, count_by-le-length (λ (f : Fact). same x f.leaves) facts)
 
-pub filled_room : (s : Dims) (facts : List Fact) (points : BTreeMap Point Totals) (k : ℕ) → IsFilled s facts points → length facts < 1000000 → k ≡ length s.measures
-    → (q : Point) → IfSome (get point_cmp points q) (λ t. HasRoom t × (k ≡ length t.sums))
-filled_room s facts points k filled few long q = go (get point_cmp points q) (filled.fills.totals q)
+gathered_room : (s : Dims) (facts : List Fact) (points : List (Point × Totals)) (k : ℕ) → AreFacts s facts → Gathers (length s.measures) facts points → length facts < 1000000 → k ≡ length s.measures
+    → (x : List ℕ) → IfSome (lookup (has_leaves x) points) (λ t. HasRoom t × (k ≡ length t.sums))
+gathered_room s facts points k are gathers few long x = go (lookup (has_leaves x) points) (gathers.totals x)
   where
-    go : (o : Option Totals) → o ≡ totals_of (length s.measures) (facts_at facts q.items) → IfSome o (λ t. HasRoom t × (k ≡ length t.sums))
+    go : (o : Option Totals) → o ≡ totals_of (length s.measures) (facts_at facts x) → IfSome o (λ t. HasRoom t × (k ≡ length t.sums))
     go None e = tt
     go (Some t) e =
-        let parts = totals_parts (length s.measures) (facts_at facts q.items) t (sym e) in
-        let most = at_most facts q.items in (
+        let parts = totals_parts (length s.measures) (facts_at facts x) t (sym e) in
+        let most = at_most facts x in (
           record {
             few = omega (arith, parts.0, most, few);
-            bounded = subst (All (IsSumOf t.facts)) (sym parts.1) (all_mapped (IsSumOf t.facts) (λ m. units_sum m (facts_at facts q.items)) (count_from 0 (length s.measures))
-                (λ m. subst (λ n. IsSumOf n (units_sum m (facts_at facts q.items))) (sym parts.0) (at_bounded s facts q.items m filled.each)));
+            bounded = subst (All (IsSumOf t.facts)) (sym parts.1) (all_mapped (IsSumOf t.facts) (λ m. units_sum m (facts_at facts x)) (count_from 0 (length s.measures))
+                (λ m. subst (λ n. IsSumOf n (units_sum m (facts_at facts x))) (sym parts.0) (at_bounded s facts x m are.each)));
           },
-          long ∙ sym (ap length parts.1 ∙ length-map (count_from 0 (length s.measures)) (λ m. units_sum m (facts_at facts q.items)) ∙ count_long 0 (length s.measures)),
+          long ∙ sym (ap length parts.1 ∙ length-map (count_from 0 (length s.measures)) (λ m. units_sum m (facts_at facts x)) ∙ count_long 0 (length s.measures)),
         )
 
-pub reads_room : (s : Dims) (bytes : List ℕ) (header : List (List ℕ)) (points : BTreeMap Point Totals) (count k : ℕ) (left : List (List (List ℕ))) → Reads s bytes header points count left → count < 1000000 → k ≡ length s.measures
-    → (q : Point) → IfSome (get point_cmp points q) (λ t. HasRoom t × (k ≡ length t.sums))
-reads_room s bytes header points count k left r few long = filled_room s (map (fact_of s header) r.earlier) points k r.filled (omega (arith, few, r.counted, length-map r.earlier (fact_of s header))) long
+pub reads_room : (s : Dims) (bytes : List ℕ) (header : List (List ℕ)) (points : List (Point × Totals)) (count k : ℕ) (left : List (List (List ℕ))) → Reads s bytes header points count left → count < 1000000 → k ≡ length s.measures
+    → (x : List ℕ) → IfSome (lookup (has_leaves x) points) (λ t. HasRoom t × (k ≡ length t.sums))
+reads_room s bytes header points count k left r few long = gathered_room s (map (fact_of s header) r.earlier) points k r.facts r.gathers (omega (arith, few, r.counted, length-map r.earlier (fact_of s header))) long
 
--- ---- from the map to the shape and the cube
-
--- each entry has the totals of its point
-abbrev HasTotals : ℕ → List Fact → Point × Totals → Type 0
-HasTotals n facts e = ((e.1).facts ≡ length (facts_at facts (e.0).items)) × ((e.1).sums ≡ map (λ m. units_sum m (facts_at facts (e.0).items)) (count_from 0 n))
-
-entries_hold : (n : ℕ) (facts : List Fact) (points : BTreeMap Point Totals) (es : List (Point × Totals)) → Fills n facts points → AllByRecursion (λ e. get point_cmp points e.0 ≡ Some e.1) es → AllByRecursion (HasTotals n facts) es
-entries_hold n facts points [] h k = tt
-entries_hold n facts points (e ∷ es) h k = (totals_parts n (facts_at facts (e.0).items) e.1 (sym (h.totals e.0) ∙ k.0), entries_hold n facts points es h k.1)
+-- ---- from the entries to the shape and the cube
 
 map_alike : {X Y : Type 0} (f g : X → Y) (xs : List X) → ((x : X) → IsIn x xs → f x ≡ g x) → map f xs ≡ map g xs
 map_alike f g [] h = refl
@@ -280,27 +263,27 @@ column_of n m facts (e ∷ es) l h = ap₂ (λ y ys. y ∷ ys)
     (ap (λ (xs : List ℤ). get_or xs m (pos 0)) (h.0).1 ∙ at_place (λ k. units_sum k (facts_at facts (e.0).items)) n m l)
     (column_of n m facts es l h.1)
 
-pub sums_long : (s : Dims) (facts : List Fact) (points : BTreeMap Point Totals) (k : ℕ) → IsFilled s facts points → All (λ e. get point_cmp points e.0 ≡ Some e.1) points.entries → k ≡ length s.measures → All (λ t. length t.sums ≡ k) (values points)
-sums_long s facts points k filled there long = All-from_recursion (λ t. length t.sums ≡ k) (values points) (go points.entries (entries_hold (length s.measures) facts points points.entries filled.fills (recursion_from_All (λ e. get point_cmp points e.0 ≡ Some e.1) points.entries there)))
+pub sums_long : (s : Dims) (facts : List Fact) (points : List (Point × Totals)) (k : ℕ) → Fills (length s.measures) facts points → k ≡ length s.measures → All (λ t. length t.sums ≡ k) (values_of points)
+sums_long s facts points k fills long = All-from_recursion (λ t. length t.sums ≡ k) (values_of points) (go points (recursion_from_All (HasTotals (length s.measures) facts) points fills.totals))
   where
     go : (es : List (Point × Totals)) → AllByRecursion (HasTotals (length s.measures) facts) es → AllByRecursion (λ t. length t.sums ≡ k) (values_of es)
     go [] h = tt
     go (e ∷ es) h = (ap length (h.0).1 ∙ length-map (count_from 0 (length s.measures)) (λ m. units_sum m (facts_at facts (e.0).items)) ∙ count_long 0 (length s.measures) ∙ sym long, go es h.1)
 
-pub shape_filled : (s : Dims) (facts : List Fact) (points : BTreeMap Point Totals) (shape : Shape) → IsFilled s facts points → All (λ e. get point_cmp points e.0 ≡ Some e.1) points.entries
-    → shape.points ≡ map (λ k. k.items) (keys points) → shape.facts ≡ map (λ t. t.facts) (values points) → shape ≡ shape_of facts
-shape_filled s facts points shape filled there points_are facts_are = ap₂ (λ (p : List (List ℕ)) (c : List ℕ). record { points = p; facts = c })
-    (points_are ∙ filled.fills.keys)
-    (facts_are ∙ counts_of (length s.measures) facts points.entries (entries_hold (length s.measures) facts points points.entries filled.fills (recursion_from_All (λ e. get point_cmp points e.0 ≡ Some e.1) points.entries there))
-    ∙ ap (map (λ x. length (facts_at facts x))) filled.fills.keys)
+pub shape_filled : (s : Dims) (facts : List Fact) (points : List (Point × Totals)) (shape : Shape) → Fills (length s.measures) facts points
+    → shape.points ≡ map (λ k. k.items) (keys_of points) → shape.facts ≡ map (λ t. t.facts) (values_of points) → shape ≡ shape_of facts
+shape_filled s facts points shape fills points_are facts_are = ap₂ (λ (p : List (List ℕ)) (c : List ℕ). record { points = p; facts = c })
+    (points_are ∙ fills.keys)
+    (facts_are ∙ counts_of (length s.measures) facts points (recursion_from_All (HasTotals (length s.measures) facts) points fills.totals)
+    ∙ ap (map (λ x. length (facts_at facts x))) fills.keys)
 
-pub cube_filled : (s : Dims) (facts : List Fact) (points : BTreeMap Point Totals) (k : ℕ) (cube : List (List ℤ)) → IsFilled s facts points → All (λ e. get point_cmp points e.0 ≡ Some e.1) points.entries → k ≡ length s.measures
-    → cube ≡ map (λ m. map (λ t. get_or t.sums m (pos 0)) (values points)) (count_from 0 k) → cube ≡ cube_of s facts
-cube_filled s facts points k cube filled there long is =
-    is ∙ ap (λ n. map (λ m. map (λ t. get_or t.sums m (pos 0)) (values points)) (count_from 0 n)) long
-    ∙ map_alike (λ m. map (λ t. get_or t.sums m (pos 0)) (values points)) (λ m. map (λ x. units_sum m (facts_at facts x)) (points_of facts)) (count_from 0 (length s.measures))
-    (λ m h. column_of (length s.measures) m facts points.entries (below m (length s.measures) (IsIn-count_from m 0 (length s.measures) h).1) (entries_hold (length s.measures) facts points points.entries filled.fills (recursion_from_All (λ e. get point_cmp points e.0 ≡ Some e.1) points.entries there))
-    ∙ ap (map (λ x. units_sum m (facts_at facts x))) filled.fills.keys)
+pub cube_filled : (s : Dims) (facts : List Fact) (points : List (Point × Totals)) (k : ℕ) (cube : List (List ℤ)) → Fills (length s.measures) facts points → k ≡ length s.measures
+    → cube ≡ map (λ m. map (λ t. get_or t.sums m (pos 0)) (values_of points)) (count_from 0 k) → cube ≡ cube_of s facts
+cube_filled s facts points k cube fills long is =
+    is ∙ ap (λ n. map (λ m. map (λ t. get_or t.sums m (pos 0)) (values_of points)) (count_from 0 n)) long
+    ∙ map_alike (λ m. map (λ t. get_or t.sums m (pos 0)) (values_of points)) (λ m. map (λ x. units_sum m (facts_at facts x)) (points_of facts)) (count_from 0 (length s.measures))
+    (λ m h. column_of (length s.measures) m facts points (below m (length s.measures) (IsIn-count_from m 0 (length s.measures) h).1) (recursion_from_All (HasTotals (length s.measures) facts) points fills.totals)
+    ∙ ap (map (λ x. units_sum m (facts_at facts x))) fills.keys)
   where
     below : (m n : ℕ) → m < 0 + n → m < n
     below m n l = omega (arith, l)
@@ -383,24 +366,24 @@ columns_bounded s facts m h i l =
     (at_bounded s facts (get_or (points_of facts) i []) m h))
 
 -- what the facts of a file fill is a core
-pub core_of_facts : (s : Dims) (facts : List Fact) (points : BTreeMap Point Totals) → IsDims s → IsFilled s facts points → IsCore (record { dims = s; shape = shape_of facts; cube = cube_of s facts })
-core_of_facts s facts points rules filled = record {
+pub core_of_facts : (s : Dims) (facts : List Fact) → IsDims s → AreFacts s facts → IsCore (record { dims = s; shape = shape_of facts; cube = cube_of s facts })
+core_of_facts s facts rules are = record {
   dims = rules;
-  points = each_from (IsPoint (plains s)) (points_of facts) (λ x h. (let f = fact_there facts x h in subst (IsPoint (plains s)) f.2 (each_at (IsFact s) f.0 facts filled.each f.1).leaves));
+  points = each_from (IsPoint (plains s)) (points_of facts) (λ x h. (let f = fact_there facts x h in subst (IsPoint (plains s)) f.2 (each_at (IsFact s) f.0 facts are.each f.1).leaves));
   increasing = in_order_increasing (map (λ (f : Fact). f.leaves) facts);
-  few_points = filled.few_points;
+  few_points = are.few_points;
   facts = length-map (points_of facts) (λ x. length (facts_at facts x));
   counted = each_from (λ n. 0 < n) (map (λ x. length (facts_at facts x)) (points_of facts)) (λ n h. (
       let x = IsIn-map (λ x. length (facts_at facts x)) n (points_of facts) h in
       let f = fact_there facts x.0 x.1 in
       let here : same x.0 (f.0).leaves ≡ true = ap (λ y. same y (f.0).leaves) (sym f.2) ∙ same_refl (f.0).leaves in
       subst (λ k. 0 < k) x.2 (some_there f.0 (facts_at facts x.0) (filter_has (λ g. same x.0 g.leaves) f.0 facts here f.1))));
-  few_facts = (let all = counted_once (points_of facts) facts (in_order_increasing (map (λ (f : Fact). f.leaves) facts)) in omega (arith, all, filled.few));
+  few_facts = (let all = counted_once (points_of facts) facts (in_order_increasing (map (λ (f : Fact). f.leaves) facts)) in omega (arith, all, are.few));
   measures = length-map (count_from 0 (length s.measures)) (λ m. map (λ x. units_sum m (facts_at facts x)) (points_of facts)) ∙ count_long 0 (length s.measures);
   values = each_from (λ (values : List ℤ). length values ≡ length (points_of facts)) (cube_of s facts) (λ column h. (
       let m = IsIn-map (λ m. map (λ x. units_sum m (facts_at facts x)) (points_of facts)) column (count_from 0 (length s.measures)) h in
       ap length (sym m.2) ∙ length-map (points_of facts) (λ x. units_sum m.0 (facts_at facts x))));
   bounded = each_from (AreSumsOf (map (λ x. length (facts_at facts x)) (points_of facts))) (cube_of s facts) (λ column h. (
       let m = IsIn-map (λ m. map (λ x. units_sum m (facts_at facts x)) (points_of facts)) column (count_from 0 (length s.measures)) h in
-      subst (AreSumsOf (map (λ x. length (facts_at facts x)) (points_of facts))) m.2 (columns_bounded s facts m.0 filled.each)));
+      subst (AreSumsOf (map (λ x. length (facts_at facts x)) (points_of facts))) m.2 (columns_bounded s facts m.0 are.each)));
 }

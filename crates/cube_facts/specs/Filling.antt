@@ -1,23 +1,22 @@
 -- How facts are added up: at each point the number of its facts, and the plain sum of each measure.
-use Rattle.std.specs.Prelude.{◌≡◌, ℕ, ◌+◌, ◌<◌, ◌≤◌, List, [], ◌∷◌, length, map, Vec, Option, Some, None, ℤ, ◌+ℤ◌, All}
-use Rattle.std.specs.BTreeMap.{BTreeMap, get, keys}
-use Rattle.std.specs.Ordering.{nat_cmp}
-use Rattle.std.specs.Cmp.Lexicographic.{slice_cmp}
+use Rattle.std.specs.Prelude.{◌≡◌, ℕ, ◌+◌, ◌<◌, ◌≤◌, List, [], ◌∷◌, length, map, Vec, Bool, Option, Some, None, ℤ, ◌+ℤ◌, All}
+use Rattle.std.specs.Map.{keys_of, lookup}
+use Rattle.std.specs.Str.{bytes_eq}
 use Rattle.std.specs.declared.alloc.Global.{Global}
-use Rattle.std.specs.declared.cmp.Ordering.{Ordering}
 use Rattle.cube_model.specs.Cores.{IsSumOf}
-use Rattle.cube_model.specs.Cubes.{Each, IsPoint, count_from}
+use Rattle.cube_model.specs.Cubes.{Each, IsPoint, count_from, in_order}
 use Rattle.cube_model.specs.Dims.{Dims, plains}
 use Rattle.cube_facts.specs.FactFile.{Fact, facts_at, units_sum, points_of}
 use Rattle.cube_facts.specs.Table.{IsUnits}
 use Rattle.cube_facts.specs.declared.totals.Totals.{Totals}
 
--- a point as the key of a map, in lexicographic order
+-- a point as the key of a map
 abbrev pub Point : Type 0
 Point = Vec ℕ Global
 
-abbrev pub point_cmp : Point → Point → Ordering
-point_cmp a b = slice_cmp nat_cmp a.items b.items
+-- a key has these leaves
+abbrev pub has_leaves : List ℕ → Point → Bool
+has_leaves x k = bytes_eq x k.items
 
 -- the sums, each with one number more
 abbrev pub sums_with : List ℤ → List ℤ → List ℤ
@@ -35,10 +34,20 @@ abbrev pub totals_of : ℕ → List Fact → Option Totals
 totals_of n [] = None
 totals_of n (f ∷ fs) = Some (record { facts = length (f ∷ fs); sums = map (λ m. units_sum m (f ∷ fs)) (count_from 0 n) })
 
--- the map has at each point the totals of its facts
-pub record Fills (n : ℕ) (facts : List Fact) (points : BTreeMap Point Totals) : Type 0 where
-  pub keys : map (λ k. k.items) (keys points) ≡ points_of facts
-  pub totals : (q : Point) → get point_cmp points q ≡ totals_of n (facts_at facts q.items)
+-- an entry has the totals of its point
+abbrev pub HasTotals : ℕ → List Fact → Point × Totals → Type 0
+HasTotals n facts e = ((e.1).facts ≡ length (facts_at facts (e.0).items)) × ((e.1).sums ≡ map (λ m. units_sum m (facts_at facts (e.0).items)) (count_from 0 n))
+
+-- Entries have, in whatever order, each point of some facts once, with the totals of its facts.
+pub record Gathers (n : ℕ) (facts : List Fact) (entries : List (Point × Totals)) : Type 0 where
+  pub keys : in_order (map (λ k. k.items) (keys_of entries)) ≡ points_of facts
+  pub many : length (points_of facts) ≡ length entries
+  pub totals : (x : List ℕ) → lookup (has_leaves x) entries ≡ totals_of n (facts_at facts x)
+
+-- Entries have each point of some facts in order, with the totals of its facts.
+pub record Fills (n : ℕ) (facts : List Fact) (entries : List (Point × Totals)) : Type 0 where
+  pub keys : map (λ k. k.items) (keys_of entries) ≡ points_of facts
+  pub totals : All (HasTotals n facts) entries
 
 -- totals of fewer than 1,000,000 facts, none of which has a number above 10^12
 pub record HasRoom (t : Totals) : Type 0 where
@@ -51,9 +60,8 @@ pub record IsFact (s : Dims) (f : Fact) : Type 0 where
   pub long : length f.units ≡ length s.measures
   pub bounded : All IsUnits f.units
 
--- the map is that of some facts of a file, of which there are not too many
-pub record IsFilled (s : Dims) (facts : List Fact) (points : BTreeMap Point Totals) : Type 0 where
-  pub fills : Fills (length s.measures) facts points
+-- facts of a file, not too many of them
+pub record AreFacts (s : Dims) (facts : List Fact) : Type 0 where
   pub each : Each (IsFact s) facts
   pub few : length facts ≤ 1000000
   pub few_points : length (points_of facts) ≤ 65536

@@ -1,15 +1,15 @@
 // Fact files: facts in the columns that dimensions and measures name, added up at their points.
-ghost use Rattle.std.specs.Prelude.{◌≡◌, ◌⊎◌, List, Ok, Err, IfOk, IfErr};
+ghost use Rattle.std.specs.Prelude.{◌≡◌, ◌⊎◌, List, length, Ok, Err, IfOk, IfErr};
 ghost use Rattle.cube_model.specs.Answers.{Answers};
 ghost use Rattle.cube_model.specs.Cores.{IsCore};
 ghost use Rattle.cube_facts.specs.FactFile.{Fact, facts_of, filled_of};
-ghost use Rattle.cube_facts.specs.Filling.{IsFilled};
+ghost use Rattle.cube_facts.specs.Filling.{AreFacts, Gathers};
 ghost use Rattle.cube_facts.specs.declared.fault.FactsFault.TheVariants as fault;
 
 use crate::FactsFault;
 use crate::layout::Layout;
 use crate::records::{has_second_mark, open_records};
-use crate::totals::{Points, add_fact, cube_of, shape_of};
+use crate::totals::{Points, add_fact, cube_of, shape_of, sort_points};
 use csv::ByteRecord;
 use cube_model::{Cube, Dims, LimitKind, Shape};
 use std::alloc::Global;
@@ -19,7 +19,7 @@ const MAX_POINTS: usize = 65_536;
 
 // The points of a file, with what their facts add up to.
 fn read_points(alloc: Global, dims: &Dims, bytes: &[u8]) -> Result<Points, FactsFault>
-    ensures ok { IfOk result (λ points. (facts : List Fact) × (facts_of dims.now bytes.now ≡ Ok facts) × IsFilled dims.now facts points) }
+    ensures ok { IfOk result (λ points. (facts : List Fact) × (facts_of dims.now bytes.now ≡ Ok facts) × AreFacts dims.now facts × Gathers (length dims.now.measures) facts points.entries) }
     ensures err { IfErr result (λ e. (e ≡ fault.NoMemory) ⊎ (facts_of dims.now bytes.now ≡ Err e)) }
 {
     if has_second_mark(bytes) {
@@ -37,17 +37,19 @@ fn read_points(alloc: Global, dims: &Dims, bytes: &[u8]) -> Result<Points, Facts
         Err(fault) => return Err(fault),
     };
     let mut points = Points::new(alloc);
+    let mut leaves = Vec::new(alloc);
+    let mut units = Vec::new(alloc);
     'records: for earlier in 0..u64::MAX {
         match reader.read_byte_record(&mut row) {
             Ok(true) => {}
             Ok(false) => return Ok(points),
             Err(_) => return Err(FactsFault::NoMemory),
         }
-        let (leaves, units) = match layout.read_fact(alloc, &row, earlier) {
-            Ok(fact) => fact,
+        match layout.read_fact(alloc, &row, earlier, &mut leaves, &mut units) {
+            Ok(()) => {}
             Err(fault) => return Err(fault),
-        };
-        add_fact(alloc, &mut points, leaves, units)?;
+        }
+        add_fact(alloc, &mut points, leaves.as_slice(), units.as_slice())?;
         if points.len() > MAX_POINTS {
             return Err(FactsFault::Limit {
                 which: LimitKind::Points,
@@ -61,14 +63,15 @@ fn read_points(alloc: Global, dims: &Dims, bytes: &[u8]) -> Result<Points, Facts
 /// Reads a fact file by the columns that the dimensions and the measures name: the points at which
 /// there are facts, and the plain sum of each measure at each of them.
 ///
-/// Columns that nothing names are ignored. The time is that of the records, each with a look-up in
-/// an ordered map of the points.
+/// Columns that nothing names are ignored. The time is that of the records, each with one look-up
+/// of its point by a hash, and of one sort of the points.
 pub fn read_facts(alloc: Global, dims: &Dims, bytes: &[u8]) -> Result<(Shape, Cube), FactsFault>
     ensures said { Answers fault.NoMemory result (filled_of dims.now bytes.now) }
     ensures rules { IfOk result (λ filled. IsCore (record { dims = dims.now; shape = filled.0; cube = filled.1 })) }
 {
     let measures = dims.measures().len();
-    let points = read_points(alloc, dims, bytes)?;
+    let mut points = read_points(alloc, dims, bytes)?;
+    sort_points(&mut points)?;
     let shape = shape_of(alloc, &points)?;
     let cube = cube_of(alloc, &points, measures)?;
     Ok((shape, cube))

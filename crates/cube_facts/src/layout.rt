@@ -1,5 +1,5 @@
 // Where the columns stand that dimensions and measures name, and what a record says in them.
-ghost use Rattle.std.specs.Prelude.{◌≡◌, ◌⊎◌, ◌<◌, ◌≤◌, ◌+◌, ◌-◌, ◌^◌, [], ◌∷◌, ◌++◌, length, map, drop, take, zip, flat_map, count_by, unwrap_or, slice_index_or, All, IfOk, IfSome, OnOk, IfErr, Some, None, Ok};
+ghost use Rattle.std.specs.Prelude.{◌≡◌, ◌⊎◌, ◌<◌, ◌≤◌, ◌+◌, ◌-◌, ◌^◌, [], ◌∷◌, ◌++◌, length, map, drop, take, zip, flat_map, count_by, unwrap_or, slice_index_or, All, IfOk, IfSome, OnOk, IfErr, Some, None, Ok, true};
 ghost use Rattle.std.specs.Str.{bytes_eq};
 ghost use Rattle.csv.specs.Records.{fields_of, field_at};
 ghost use Rattle.cube_model.specs.Answers.{Answers};
@@ -206,10 +206,11 @@ fn check_field(
     check_numbers(alloc, dims.measures(), name, field, row)
 }
 
-fn push_unit(units: &mut Values, unit: i64) -> Result<(), NoMemory>
-    ensures { OnOk result (units.new ≡ units.old ++ unit ∷ []) }
+fn push_unit(units: &mut Vec<i64>, unit: i64) -> Result<(), NoMemory>
+    ensures { OnOk result (units.new.items ≡ units.old.items ++ unit ∷ []) }
 {
-    units.push(unit)
+    units.push(unit)?;
+    Ok(())
 }
 
 /// Where the columns stand that dimensions and measures name.
@@ -251,34 +252,34 @@ impl<'a> Layout<'a> {
         field_of(row, self.places.as_slice()[number])
     }
 
-    // The leaves that a record names, unless it lacks one.
-    fn leaves(&self, alloc: Global, row: &ByteRecord) -> Result<Option<Vec<u32>>, NoMemory>
-        ensures { IfOk result (λ o. IfSome o (λ leaves. map (λ d. leaf_of d (field_in self.now.header (fields_of row.now) d.column)) self.now.dims.now.dimensions ≡ map Some leaves.items)) }
+    // Takes the leaves that a record names in the place of others, and whether it lacks none.
+    fn take_leaves(&self, row: &ByteRecord, leaves: &mut Vec<u32>) -> Result<bool, NoMemory>
+        ensures { IfOk result (λ whole. whole ≡ true → map (λ d. leaf_of d (field_in self.now.header (fields_of row.now) d.column)) self.now.dims.now.dimensions ≡ map Some leaves.new.items) }
     {
-        let mut leaves = Vec::new(alloc);
+        leaves.clear();
         for (number, dimension) in self.dims.dimensions().iter().enumerate() {
             let Some(leaf) = find_leaf(dimension, self.field_under(row, number)) else {
-                return Ok(None);
+                return Ok(false);
             };
             leaves.push(leaf)?;
         }
-        Ok(Some(leaves))
+        Ok(true)
     }
 
-    // The units that a record names, unless it lacks some.
-    fn units(&self, alloc: Global, row: &ByteRecord) -> Result<Option<Values>, NoMemory>
-        ensures said { IfOk result (λ o. IfSome o (λ units. map (λ m. units_of m.decimals (field_in self.now.header (fields_of row.now) m.column)) self.now.dims.now.measures ≡ map Ok units)) }
-        ensures bounded { IfOk result (λ o. IfSome o (λ units. All IsUnits units)) }
+    // Takes the units that a record names in the place of others, and whether it lacks none.
+    fn take_units(&self, row: &ByteRecord, units: &mut Vec<i64>) -> Result<bool, NoMemory>
+        ensures said { IfOk result (λ whole. whole ≡ true → map (λ m. units_of m.decimals (field_in self.now.header (fields_of row.now) m.column)) self.now.dims.now.measures ≡ map Ok units.new.items) }
+        ensures bounded { IfOk result (λ whole. whole ≡ true → All IsUnits units.new.items) }
     {
+        units.clear();
         let first = self.dims.dimensions().len();
-        let mut units = Items::new(alloc);
         for (number, measure) in self.dims.measures().iter().enumerate() {
             let Ok(unit) = find_units(measure, self.field_under(row, first + number)) else {
-                return Ok(None);
+                return Ok(false);
             };
-            push_unit(&mut units, unit)?;
+            push_unit(units, unit)?;
         }
-        Ok(Some(units))
+        Ok(true)
     }
 
     // Checks the fields of a record in the order of the header.
@@ -298,16 +299,18 @@ impl<'a> Layout<'a> {
         Ok(())
     }
 
-    /// What a record says behind so many others: a leaf of each dimension, and the units of each measure.
+    /// Takes what a record says behind so many others: a leaf of each dimension, and the units of each measure.
     pub(crate) fn read_fact(
         &self,
         alloc: Global,
         row: &ByteRecord,
         earlier: u64,
-    ) -> Result<(Vec<u32>, Values), FactsFault>
+        leaves: &mut Vec<u32>,
+        units: &mut Vec<i64>,
+    ) -> Result<(), FactsFault>
         requires { earlier < 2 ^ 64 - 1 }
-        ensures fact { IfOk result (λ fact. record { leaves = fact.0.items; units = fact.1 } ≡ fact_of self.now.dims.now self.now.header (fields_of row.now)) }
-        ensures bounded { IfOk result (λ fact. All IsUnits fact.1) }
+        ensures fact { OnOk result (record { leaves = leaves.new.items; units = units.new.items } ≡ fact_of self.now.dims.now self.now.header (fields_of row.now)) }
+        ensures bounded { OnOk result (All IsUnits units.new.items) }
         ensures few { OnOk result (earlier < 1000000) }
         ensures ok { OnOk result (own_faults self.now.dims.now self.now.header earlier (fields_of row.now) ≡ []) }
         ensures err { IfErr result (λ e. (e ≡ fault.NoMemory) ⊎ (first (own_faults self.now.dims.now self.now.header earlier (fields_of row.now)) ≡ Some e)) }
@@ -321,11 +324,10 @@ impl<'a> Layout<'a> {
         if row.len() != self.header.len() {
             return Err(FactsFault::Fields { row: earlier + 1 });
         }
-        let leaves = self.leaves(alloc, row)?;
-        let units = self.units(alloc, row)?;
-        match (leaves, units) {
-            (Some(leaves), Some(units)) => Ok((leaves, units)),
-            _ => Err(self.first_fault(alloc, row, earlier + 1)),
+        if self.take_leaves(row, leaves)? && self.take_units(row, units)? {
+            Ok(())
+        } else {
+            Err(self.first_fault(alloc, row, earlier + 1))
         }
     }
 

@@ -7,7 +7,7 @@ use Rattle.cube_facts.specs.FactFile.{field_in}
 use Rattle.cube_facts.specs.Table.{IsUnits}
 use Rattle.cube_facts.proofs.Recorded.{measure_column}
 use Rattle.cube_facts.proofs.Turns.{said_more}
-use Rattle.cube_facts.proofs.layout.Layout.units.Goals as goal
+use Rattle.cube_facts.proofs.layout.Layout.take_units.Goals as goal
 
 pub loop-number-preserved : goal.loop-number-preserved
 loop-number-preserved c =
@@ -26,6 +26,6 @@ loop-number-preserved c =
     let value = ap (units_of m.decimals) (sym column) ∙ sym c.find_units.ensures.said ∙ c.in-Ok.is in
     let bound = rw c.in-Ok.is at c.find_units.ensures.bounded in
     record {
-      said = said_more (λ m. units_of m.decimals (field_in header fields m.column)) Ok s.measures i m c.loop-number.units c.push_unit.new.units c.in-Ok.unit l at c.loop-number.invariant.said value pushed;
-      bounded = rw pushed (All-push IsUnits c.loop-number.units c.in-Ok.unit c.loop-number.invariant.bounded bound);
+      said = said_more (λ m. units_of m.decimals (field_in header fields m.column)) Ok s.measures i m c.loop-number.units.items c.push_unit.new.units.items c.in-Ok.unit l at c.loop-number.invariant.said value pushed;
+      bounded = rw pushed (All-push IsUnits c.loop-number.units.items c.in-Ok.unit c.loop-number.invariant.bounded bound);
     }

@@ -1,9 +1,10 @@
-use Rattle.std.proofs.Common.{◌∙◌, ap, sym, ◌<◌, arith, length, get_or, Some}
+use Rattle.std.proofs.Common.{◌∙◌, ap, sym, ◌<◌, arith, ◌≤◌, length, map, get_or, Some}
+use Rattle.std.proofs.lemmas.List.{take_all}
 use Rattle.csv.specs.Records.{fields_of}
 use Rattle.cube_facts.specs.FactFile.{leaf_of, field_in}
 use Rattle.cube_facts.proofs.Recorded.{dimension_column}
 use Rattle.cube_facts.proofs.Turns.{said_more}
-use Rattle.cube_facts.proofs.layout.Layout.leaves.Goals as goal
+use Rattle.cube_facts.proofs.layout.Layout.take_leaves.Goals as goal
 
 pub loop-number-preserved : goal.loop-number-preserved
 loop-number-preserved c =
@@ -19,3 +20,12 @@ loop-number-preserved c =
     let column = c.field_under.ensures ∙ ap (field_in header fields) (dimension_column s i d l at) in
     let leaf = sym (sym c.in-Some.is ∙ c.find_leaf.ensures ∙ ap (leaf_of d) column) in
     said_more (λ d. leaf_of d (field_in header fields d.column)) Some s.dimensions i d c.loop-number.leaves.items c.push.new.self.items c.in-Some.leaf l at c.loop-number.invariant leaf c.in_ok-push.ensures.items
+
+pub returns : goal.returns
+returns c = λ whole. (
+    let s = c.args.self.now.dims.now in
+    let header = c.args.self.now.header in
+    let fields = fields_of c.args.row.now in
+    let long = ap length c.dimensions-dimension-items.ensures.dimensions in
+    let all : length s.dimensions ≤ c.loop-number.number = omega (arith, long, c.loop-number-test.false) in
+    ap (map (λ d. leaf_of d (field_in header fields d.column))) (sym (take_all c.loop-number.number s.dimensions all)) ∙ c.loop-number.invariant)

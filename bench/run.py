@@ -1,0 +1,236 @@
+#!/usr/bin/env python3
+"""Measures `cube` beside its peers on files that are made from a number.
+
+Runs the program and its peers by turns, and prints a table: the median of the seconds, the most memory, and the ratio
+of the program's median to each peer's. Needs Python 3 alone; the command `sqlite3`, or else Python's module of that
+name, is the peer for sums, and pandas where it is installed.
+"""
+
+import argparse
+import os
+import random
+import shutil
+import signal
+import statistics
+import subprocess
+import sys
+import tempfile
+import time
+
+TOP = os.path.dirname(os.path.dirname(os.path.abspath(__file__)))
+POINTS = 65_536
+MEASURES = (("v", 0), ("w", 2), ("x", 2))
+
+SQLITE_MODULE = """
+import csv, sqlite3, sys
+with open("facts.csv", newline="") as file:
+    rows = csv.reader(file)
+    names = next(rows)
+    base = sqlite3.connect(":memory:")
+    base.execute("create table facts (%s)" % ", ".join(names))
+    base.executemany("insert into facts values (%s)" % ", ".join("?" * len(names)), rows)
+keys = ", ".join(names[:-3])
+sums = ", ".join("sum(%s)" % name for name in names[-3:])
+print(len(base.execute("select %s, %s, count(*) from facts group by %s" % (keys, sums, keys)).fetchall()))
+"""
+
+PANDAS = """
+import pandas
+facts = pandas.read_csv("facts.csv")
+keys = list(facts.columns[:-3])
+print(len(facts.groupby(keys).agg(["sum", "count"])))
+"""
+
+
+# ---- inputs
+
+def leaf(dimension, number):
+    return f"{chr(97 + dimension)}{number}"
+
+
+def write_dims(folder, sizes):
+    with open(f"{folder}/dims.toml", "w") as file:
+        for dimension, size in enumerate(sizes):
+            name = chr(97 + dimension)
+            file.write(f'[[dimension]]\nname = "{name}"\ncolumn = "{name}"\nlevels = ["l"]\npaths = [\n')
+            file.writelines(f'  ["{leaf(dimension, number)}"],\n' for number in range(size))
+            file.write("]\n\n")
+        for name, decimals in MEASURES:
+            file.write(f'[[measure]]\nname = "{name}"\ndecimals = {decimals}\n\n')
+
+
+def write_policy(folder, dimensions, objects):
+    """One measure with a source, one with links, one that is open."""
+    with open(f"{folder}/policy.toml", "w") as file:
+        for (name, _), method in zip(MEASURES, ("lattice", "parity", "open")):
+            file.write(f'[[measure]]\nname = "{name}"\nmethod = "{method}"\n\n')
+        below = ", ".join(f'{chr(97 + dimension)} = "l"' for dimension in range(dimensions))
+        for _ in range(objects):
+            file.write(f'[[object]]\nmeasure = "v"\nbelow = {{ {below} }}\n\n')
+
+
+def write_facts(folder, sizes, points, records, chance):
+    """Each point at least once, in no order."""
+    total = 1
+    for size in sizes:
+        total *= size
+    places = list(range(total)) if total == points else chance.sample(range(total), points)
+    rows = places + [chance.choice(places) for _ in range(records - points)]
+    chance.shuffle(rows)
+    with open(f"{folder}/facts.csv", "w") as file:
+        file.write(",".join([chr(97 + d) for d in range(len(sizes))] + [name for name, _ in MEASURES]) + "\n")
+        for place in rows:
+            leaves = []
+            for dimension in reversed(range(len(sizes))):
+                place, number = divmod(place, sizes[dimension])
+                leaves.append(leaf(dimension, number))
+            file.write(
+                f"{','.join(reversed(leaves))},{chance.randrange(-50, 1000)},"
+                f"{chance.randrange(100_000) / 100:.2f},{chance.randrange(100_000) / 100:.2f}\n"
+            )
+
+
+def make(room, name, sizes, points, records, objects, number):
+    folder = f"{room}/{name}"
+    os.makedirs(folder)
+    write_dims(folder, sizes)
+    write_policy(folder, len(sizes), objects)
+    write_facts(folder, sizes, points, records, random.Random(f"{number} {name}"))
+    return folder
+
+
+# ---- runs
+
+def run(words, folder, stdin=b""):
+    """The seconds and the most memory of one run, in MB."""
+    start = time.perf_counter()
+    child = subprocess.Popen(words, cwd=folder, stdin=subprocess.PIPE, stdout=subprocess.DEVNULL, stderr=subprocess.PIPE)
+    child.stdin.write(stdin)
+    child.stdin.close()
+    said = child.stderr.read()
+    _, status, used = os.wait4(child.pid, 0)
+    seconds = time.perf_counter() - start
+    if status:
+        sys.exit(f"{' '.join(words)}: status {status}: {said[-300:].decode(errors='replace')}")
+    return seconds, used.ru_maxrss / 1024
+
+
+def run_server(words, folder):
+    """Until it listens."""
+    start = time.perf_counter()
+    child = subprocess.Popen(words, cwd=folder, stdin=subprocess.DEVNULL, stdout=subprocess.DEVNULL, stderr=subprocess.PIPE)
+    line = child.stderr.readline()
+    seconds = time.perf_counter() - start
+    child.send_signal(signal.SIGTERM)
+    child.stderr.read()
+    _, _, used = os.wait4(child.pid, 0)
+    if not line.startswith(b"listening"):
+        sys.exit(f"{' '.join(words)}: {line.decode(errors='replace')}")
+    return seconds, used.ru_maxrss / 1024
+
+
+def files(program, command, *more):
+    return [program, command, "--dims", "dims.toml", "--facts", "facts.csv", "--policy", "policy.toml", *more]
+
+
+def with_journal(program, folder, command, *more):
+    """A run from an empty journal."""
+    def start(stdin=b""):
+        if os.path.exists(f"{folder}/journal"):
+            os.remove(f"{folder}/journal")
+        words = files(program, command, "--journal", "journal", *more)
+        return run_server(words, folder) if command == "serve" else run(words, folder, stdin)
+    return start
+
+
+def sqlite_peer(folder, dimensions):
+    if not shutil.which("sqlite3"):
+        return lambda: run([sys.executable, "-c", SQLITE_MODULE], folder)
+    keys = ",".join(chr(97 + d) for d in range(dimensions))
+    columns = ",".join([f"{chr(97 + d)} text" for d in range(dimensions)] + [f"{name} real" for name, _ in MEASURES])
+    group = f"select count(*) from (select {keys},sum(v),sum(w),sum(x),count(*) from facts group by {keys})"
+    words = ["sqlite3", ":memory:", f"create table facts ({columns})", ".import --csv --skip 1 facts.csv facts", group]
+    return lambda: run(words, folder)
+
+
+def pandas_peer(folder):
+    found = subprocess.run([sys.executable, "-c", "import pandas"], stderr=subprocess.DEVNULL)
+    return None if found.returncode else lambda: run([sys.executable, "-c", PANDAS], folder)
+
+
+# ---- the table
+
+def median(runs):
+    return statistics.median(seconds for seconds, _ in runs)
+
+
+def by_turns(named, rounds):
+    """Runs all, one after another, so many times."""
+    made = {name: [] for name in named}
+    for _ in range(rounds):
+        for name, start in named.items():
+            made[name].append(start())
+    return made
+
+
+def print_rows(title, made, against):
+    """A row for each, with the ratios to the first of those that are compared with."""
+    print(f"\n{title}\n")
+    print("| Run | Median, s | Least, s | Memory, MB | " + " | ".join(f"to {name}" for name in against) + " |")
+    print("|" + "---|" * (4 + len(against)))
+    for name, runs in made.items():
+        ratios = " | ".join(f"{median(runs) / median(made[other]):.3f}" for other in against)
+        least = min(seconds for seconds, _ in runs)
+        print(f"| {name} | {median(runs):.3f} | {least:.3f} | {max(most for _, most in runs):.0f} | {ratios} |")
+
+
+def measure_load(program, room, number, rounds):
+    full = make(room, "full", (256, 256), POINTS, 1_000_000, 1, number)
+    peers = {"sqlite3": sqlite_peer(full, 2), "pandas": pandas_peer(full)}
+    peers = {name: start for name, start in peers.items() if start}
+    named = {"check": lambda: run(files(program, "check"), full), **peers}
+    print_rows("1,000,000 records on 65,536 points, three measures", by_turns(named, rounds), list(peers))
+    named = {
+        "check": lambda: run(files(program, "check"), full),
+        "ask, until ready": with_journal(program, full, "ask"),
+        "serve, until ready": with_journal(program, full, "serve", "--address", "127.0.0.1:0"),
+        "witness": with_journal(program, full, "witness", "--cell", "cell v a.l=a0, b.l=b0"),
+    }
+    print_rows("The commands on the same files", by_turns(named, rounds), ["check"])
+
+
+def measure_growth(program, room, number, rounds):
+    folders = {f"full, {count:,} records": make(room, f"full{count}", (256, 256), POINTS, count, 1, number) for count in (250_000, 500_000, 1_000_000)}
+    folders["sparse, of 2^30 points, 1,000,000 records"] = make(room, "sparse", (1024, 1024, 1024), POINTS, 1_000_000, 1, number)
+    named = {name: (lambda folder=folder: run(files(program, "check"), folder)) for name, folder in folders.items()}
+    print_rows("How `check` grows", by_turns(named, rounds), ["full, 1,000,000 records"])
+
+
+def measure_objects(program, room, number, rounds):
+    folders = {f"{count} equal objects": make(room, f"objects{count}", (4,) * 8, POINTS, POINTS, count, number) for count in (1, 64)}
+    named = {name: (lambda folder=folder: run(files(program, "check"), folder)) for name, folder in folders.items()}
+    print_rows("`check` over 8 dimensions and 65,536 points", by_turns(named, rounds), ["1 equal objects"])
+
+
+PARTS = {"load": measure_load, "growth": measure_growth, "objects": measure_objects}
+
+
+def main():
+    words = argparse.ArgumentParser(description=__doc__, formatter_class=argparse.RawDescriptionHelpFormatter)
+    words.add_argument("--program", default=f"{TOP}/crates/cube_app/out/cube_app", help="the program, built by ./cube --version")
+    words.add_argument("--number", default="1", help="what the files are made from")
+    words.add_argument("--rounds", type=int, default=5, help="how often each is run")
+    words.add_argument("parts", nargs="*", help=f"of {', '.join(PARTS)}; all where none is named")
+    said = words.parse_args()
+    unknown = [part for part in said.parts if part not in PARTS]
+    if unknown:
+        words.error(f"no part {unknown[0]}")
+    program = os.path.abspath(said.program)
+    print(f"{time.strftime('%Y-%m-%d')}, {os.cpu_count()} processors, files of the number {said.number}, {said.rounds} rounds by turns")
+    with tempfile.TemporaryDirectory(prefix="cube-bench-") as room:
+        for part in said.parts or PARTS:
+            PARTS[part](program, room, said.number, said.rounds)
+
+
+if __name__ == "__main__":
+    main()
