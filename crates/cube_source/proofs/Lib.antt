@@ -11,5 +11,4 @@ pub mod Among
 pub mod Repeats
 pub mod Once
 pub mod Growing
-pub mod Worked
 pub mod Tables

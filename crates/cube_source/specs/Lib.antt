@@ -4,5 +4,4 @@ pub mod Judged
 pub mod Keys
 pub mod Objects
 pub mod Pairs
-pub mod Worked
 pub mod Tables
