@@ -1,6 +1,6 @@
 -- The cuboids that a book answers from: they are those of what its state keeps, and each serves the requests that are answered.
 use Rattle.std.specs.Option.{IfSome, option_map}
-use Rattle.std.proofs.Common.{◌≡◌, ℕ, zero, suc, ◌+◌, ◌<◌, ◌≤◌, Bool, true, false, List, [], ◌∷◌, ◌++◌, length, map, get_or, Option, Some, None, is_some, refl, sym, ap, ◌∙◌, subst, arith, append-nil, eqb}
+use Rattle.std.proofs.Common.{◌≡◌, ℕ, zero, suc, ◌+◌, ◌<◌, ◌≤◌, Bool, true, false, List, [], ◌∷◌, ◌++◌, length, map, get_or, Option, Some, None, refl, sym, ap, ◌∙◌, subst, arith, append-nil, eqb}
 use Rattle.std.proofs.lemmas.Bool.{eqb-true, eq-eqb, false≢true}
 use Rattle.std.proofs.lemmas.Bool.Decides.{nat_tests}
 use Rattle.std.proofs.lemmas.List.{length-map}
@@ -215,27 +215,20 @@ has_entered c p s t r now stands same none is =
 same_answer : (a b : Bool) → Answer a ≡ Answer b → a ≡ b
 same_answer a b e = cc
 
-is_none : (o : Option Pending) → is_some o ≡ false → o ≡ None
-is_none None e = refl
-is_none (Some q) e = absurd (false≢true (sym e))
-
 -- a cuboid has as many cells as its core has at its levels
 as_many : (c : Core) (p : Policy) (k : Cuboid) → CuboidStands c k → length k.cells ≡ length (cell_keys (shown c p) k.levels)
 as_many c p k stands = ap (λ (cells : List AnswerRow). length cells) (stands.cells p) ∙ length-map (cell_keys (shown c p) k.levels) _
 
 -- a request that adds nothing to the history is answered from the source cuboid
-pub reads_few : (c : Core) (p : Policy) (h : List Entry) (r : Request) (pending : Option Pending) (waits : Option Request) (rollups : Rollups) (before between after : ℕ) → is_valid (shown c p) r ≡ true → IsAdmissible (shown c p) h → ((m : ℕ) → r.what ≡ Measure m → m < length p.methods)
-    → verdict (shown c p) h r ≡ Answer (is_some pending) → waits ≡ waits_for (Answer (is_some pending)) r → RollupsStand c p h waits rollups → (pending ≡ None → between ≡ before) → IfSome (cuboid_of rollups r.what) (λ k. after ≤ between + length k.cells) → ReadsFew (shown c p) h r before after
-reads_few c p h r pending waits rollups before between after valid admissible there judged waiting_is stands untouched few m asked lattice passed = go (get_or (entered rollups) m None) kept counted
+pub reads_few : (c : Core) (p : Policy) (h : List Entry) (r : Request) (fresh : Bool) (waits : Option Request) (rollups : Rollups) (before after : ℕ) → is_valid (shown c p) r ≡ true → IsAdmissible (shown c p) h → ((m : ℕ) → r.what ≡ Measure m → m < length p.methods)
+    → verdict (shown c p) h r ≡ Answer fresh → waits ≡ waits_for (Answer fresh) r → RollupsStand c p h waits rollups → IfSome (cuboid_of rollups r.what) (λ k. after ≤ before + length k.cells) → ReadsFew (shown c p) h r before after
+reads_few c p h r fresh waits rollups before after valid admissible there judged waiting_is stands few m asked lattice passed = go (get_or (entered rollups) m None) kept counted
   where
     g : Public
     g = shown c p
 
-    old : is_some pending ≡ false
-    old = same_answer (is_some pending) false (sym judged ∙ passed)
-
-    steady : between ≡ before
-    steady = untouched (is_none pending old)
+    old : fresh ≡ false
+    old = same_answer fresh false (sym judged ∙ passed)
 
     what_is : r.what ≡ Measure m
     what_is = measured r.what m asked
@@ -249,16 +242,15 @@ reads_few c p h r pending waits rollups before between after valid admissible th
     kept : IsCuboidAt c m (Some answered.0) (get_or (entered rollups) m None)
     kept = subst (λ (o : Option (List ℕ)). IsCuboidAt c m o (get_or (entered rollups) m None)) levels_are (stands.next.each m (there m what_is))
 
-    counted : IfSome (get_or (entered rollups) m None) (λ k. after ≤ between + length k.cells)
-    counted = subst (λ (w : What). IfSome (cuboid_of rollups w) (λ k. after ≤ between + length k.cells)) what_is few
+    counted : IfSome (get_or (entered rollups) m None) (λ k. after ≤ before + length k.cells)
+    counted = subst (λ (w : What). IfSome (cuboid_of rollups w) (λ k. after ≤ before + length k.cells)) what_is few
 
-    go : (o : Option Cuboid) → IsCuboidAt c m (Some answered.0) o → IfSome o (λ k. after ≤ between + length k.cells) → after ≤ before + cells_at g (source h m)
+    go : (o : Option Cuboid) → IsCuboidAt c m (Some answered.0) o → IfSome o (λ k. after ≤ before + length k.cells) → after ≤ before + cells_at g (source h m)
     go None is up_to = absurd is
     go (Some k) is up_to =
         let cells : cells_at g (source h m) ≡ length (cell_keys g answered.0) = ap (cells_at g) answered.1 in
         let own : length k.cells ≡ length (cell_keys g answered.0) = as_many c p k is.2 ∙ ap (λ (ls : List ℕ). length (cell_keys g ls)) is.0 in
-        let e = steady in
-        omega (arith, up_to, cells, own, e)
+        omega (arith, up_to, cells, own)
 
 -- ---- the answer from a cuboid can be written
 

@@ -21,9 +21,6 @@ use Rattle.cube_model.specs.Logs.Left.{Leaves, Stops}
 use Rattle.cube_model.specs.Policies.{IsPolicy}
 use Rattle.cube_model.specs.Protection.{method, is_lattice, is_parity}
 use Rattle.cube_model.specs.Verdicts.{verdict, judged, judged_what, taken, taken_by}
-use Rattle.cube_admit.specs.States.{State as Standing, waiting, whole, entry_of}
-use Rattle.cube_admit.specs.declared.held.Pending.{Pending}
-use Rattle.std.specs.Option.{option_map}
 use Rattle.cube_io.specs.Desks.{ForeignStay}
 use Rattle.cube_io.specs.States.{State, Log, Gained, IsImage, settled}
 use Rattle.cube_io.specs.Told.{OthersStay}
@@ -43,6 +40,8 @@ use Rattle.cube_journal.proofs.LineFacts.{lines_split}
 use Rattle.cube_journal.proofs.Longer.{logs_grow}
 use Rattle.cube_engine.specs.declared.fault.EngineFault.{EngineFault}
 use Rattle.cube_engine.specs.declared.fault.EngineFault.TheVariants.{Inadmissible, NoMemory}
+use Rattle.cube_rollup.specs.Rollups.{entry_of}
+use Rattle.cube_engine.specs.Books.{Holding}
 use Rattle.cube_engine.specs.Kept.{digest_for, written, first_entry, by_left, judged_in, history_of, IsExact, RecoversWithin, IsWithin, MayEnter, IsTail, IsKept}
 use Rattle.cube_engine.specs.Opening.{of_open, IsStartFault}
 use Rattle.cube_engine.specs.Worlds.{first_history}
@@ -286,17 +285,9 @@ opened_exact c p h es bytes digest s n t is dims few lower reads leaves done = e
 pub keep_crash : (c : Core) (p : Policy) (h : List Entry) (j : Journal) (old new : Log) (r : Request) (line : List ℕ) → IsDims c.dims → IsKept c p h j old.state → MayEnter c p h r → line ≡ request_line c.dims r → Gained (IsInKeep line old.state) old new → Gained (IsWithin c p h) old new
 keep_crash c p h j old new r line dims kept may is gained = gained_map (IsInKeep line old.state) (IsWithin c p h) old new (λ s e. keep_within c p h j old.state s r line dims kept may is e) gained
 
--- the request that waits is the last of the whole
-pub waiting_whole : (s : Standing) (r : Request) → waiting s ≡ Some r → whole s ≡ s.history ++ Asked r ∷ []
-waiting_whole s r e = go s.pending e
-  where
-    entry_from : Option Request → List Entry
-    entry_from None = []
-    entry_from (Some r) = Asked r ∷ []
-
-    go : (p : Option Pending) → option_map (λ q. q.request) p ≡ Some r → s.history ++ entry_of p ≡ s.history ++ Asked r ∷ []
-    go None e = absurd (cc)
-    go (Some p) e = ap (λ (o : Option Request). s.history ++ entry_from o) e
+-- the request that waited is the last of the history now
+pub has_entered : (old new : Holding) (r : Request) → new ≡ record { core = old.core; policy = old.policy; history = old.history ++ entry_of old.waiting; waiting = None } → old.waiting ≡ Some r → new.history ≡ old.history ++ Asked r ∷ []
+has_entered old new r is waits = ap (λ (b : Holding). b.history) is ∙ ap (λ (o : Option Request). old.history ++ entry_of o) waits
 
 -- ---- the log of a desk
 

@@ -9,18 +9,20 @@ use Rattle.cube_model.specs.declared.policy.Policy.{Policy}
 use Rattle.cube_model.specs.declared.request.Request.{Request}
 use Rattle.cube_model.specs.declared.verdict.Verdict.{Verdict}
 use Rattle.cube_model.specs.declared.verdict.Verdict.TheVariants.{Answer, Full, SourceWould, Pair, Single}
-use Rattle.cube_model.specs.Cores.{Core, shown, world}
+use Rattle.cube_model.specs.Cores.{Core, IsCore, shown, world}
 use Rattle.cube_model.specs.Policies.{IsPolicy}
 use Rattle.cube_model.specs.Runs.{entered}
+use Rattle.cube_model.specs.Verdicts.{verdict, IsAdmissible}
 use Rattle.cube_admit.specs.States.{waits_for}
 use Rattle.cube_query.specs.Canonical.{is_request}
 use Rattle.cube_query.specs.Faults.{request_of}
-use Rattle.cube_engine.specs.Books.{is_answer}
+use Rattle.cube_answers.specs.VerdictText.{IsVerdict}
+use Rattle.cube_engine.specs.Books.{Holding, is_answer, that_waits}
 use Rattle.cube_engine.specs.Prepared.{Comes, InnerComes}
 use Rattle.cube_engine.specs.Steps.{inner_reply, inner_history}
 use Rattle.cube_engine.specs.declared.prepared.Prepared.{Prepared}
 use Rattle.cube_engine.specs.declared.prepared.Prepared.TheVariants.{Said, Waits}
-use Rattle.cube_engine.proofs.Named.{valid_under, read_reply, read_history}
+use Rattle.cube_engine.proofs.Named.{valid_under, verdict_named, read_reply, read_history}
 
 -- a refusal leaves the history, and nothing waits
 pub refused_stays : (h : List Entry) (r : Request) (v : Verdict) → is_answer v ≡ false → entered h r v ≡ h
@@ -36,6 +38,16 @@ refused_waits r (Full n) e = refl
 refused_waits r (SourceWould c t) e = refl
 refused_waits r (Pair k i j t) e = refl
 refused_waits r (Single k i t) e = refl
+
+-- the verdict on a request is one of the core that is held
+pub judged_named : (old new : Holding) (r : Request) (v : Verdict) (core : Core) → new ≡ that_waits new.waiting old → core ≡ new.core → IsCore new.core → IsPolicy new.core.dims new.policy → IsAdmissible (shown new.core new.policy) new.history → is_request old.core.dims r ≡ true
+    → v ≡ verdict (shown old.core old.policy) old.history r → IsVerdict core v
+judged_named old new r v core same at is_core is_policy admissible asked judged =
+    let core_is : IsCore old.core = subst (λ (n : Holding). IsCore n.core) same is_core in
+    let policy_is : IsPolicy old.core.dims old.policy = subst (λ (n : Holding). IsPolicy n.core.dims n.policy) same is_policy in
+    let stays : IsAdmissible (shown old.core old.policy) old.history = subst (λ (n : Holding). IsAdmissible (shown n.core n.policy) n.history) same admissible in
+    let named = verdict_named old.core old.policy old.history r core_is policy_is (valid_under old.core old.policy r policy_is asked) stays in
+    subst (λ (d : Core). IsVerdict d v) (sym (at ∙ ap (λ (n : Holding). n.core) same)) (subst (IsVerdict old.core) (sym judged) named)
 
 given_is_no_fault : (o : Outcome) → o ≡ Given → o ≢ JournalFault
 given_is_no_fault o e f = absurd (let x : Given ≡ JournalFault = sym e ∙ f in cc)

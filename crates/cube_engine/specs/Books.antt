@@ -1,4 +1,4 @@
--- A book: one cube with the policy that it is asked under, what its history holds, and where that is kept.
+-- A holding is one cube with the policy that it is asked under, and what its history holds; a book is one whose history is kept in a log.
 use Rattle.std.specs.Prelude.{◌≡◌, ℕ, List, Bool, true, false, Some}
 use Rattle.std.specs.declared.option.Option.{Option}
 use Rattle.cube_model.specs.declared.ask.Inner.{Inner}
@@ -16,6 +16,17 @@ use Rattle.cube_journal.specs.RequestLines.{request_line}
 use Rattle.cube_rollup.specs.Rollups.{entry_of}
 use Rattle.cube_engine.specs.Kept.{MayEnter}
 use Rattle.cube_engine.specs.Steps.{inner_reply, inner_history}
+
+-- one cube with its policy and its history, and the request that waits to enter that, if any
+pub record Holding : Type 0 where
+  pub core : Core
+  pub policy : Policy
+  pub history : List Entry
+  pub waiting : Option Request
+
+-- the holding where this waits
+abbrev pub that_waits : Option Request → Holding → Holding
+that_waits waits b = record { core = b.core; policy = b.policy; history = b.history; waiting = waits }
 
 pub record Book : Type 0 where
   pub core : Core

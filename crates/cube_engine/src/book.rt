@@ -17,46 +17,37 @@ ghost use Rattle.cube_engine.specs.Reads.{AskReadsFew};
 ghost use Rattle.cube_engine.specs.Worlds.{IsRuled};
 
 use crate::EngineFault;
+use crate::holding::Holding;
 use crate::opening::open_log;
-use crate::prepared::{Prepared, prepare_query};
-use crate::rolling::roll_all;
-use crate::witness::{NoChanges, changes_text, prepare_shape, prepare_witness, twin_text};
+use crate::prepared::Prepared;
+use crate::witness::NoChanges;
 use cube_admit::State;
 use cube_core::{Core, Steps};
 use cube_io::{Failed, Store};
 use cube_journal::{Journal, Line};
 use cube_model::{Inner, Policy, Text};
-use cube_rollup::Rollups;
 use std::alloc::Global;
-use std::marker::{Brand, Model};
-use std::sync::ledger::{Blank, Ledger};
+use std::marker::Model;
+use std::sync::ledger::Ledger;
 
-/// One cube with its policy and its history, the journal of that, and the cuboid at the source of each lattice measure, from
-/// which its requests are answered. A request that is answered first waits, and enters the history once its line is kept.
+/// One cube with its policy and its history, and the journal of that.
 #[derive(Drop)]
 pub struct Book {
-    core: Core,
-    policy: Policy,
-    state: State,
-    rollups: Rollups,
+    holding: Holding,
     journal: Journal,
 }
 
 impl Model for Book {
-    ghost use Rattle.std.specs.Prelude.{◌≡◌, ◌≤◌, ◌+◌, ◌*◌, ◌^◌, length};
-    ghost use Rattle.cube_model.specs.Cores.{shown};
+    ghost use Rattle.std.specs.Prelude.{◌≤◌, ◌+◌, ◌*◌, ◌^◌, length};
     ghost use Rattle.cube_model.specs.Entries.{requests};
-    ghost use Rattle.cube_model.specs.Policies.{IsPolicy};
-    ghost use Rattle.cube_admit.specs.States.{waiting as waiting_in, StandsFor};
-    ghost use Rattle.cube_rollup.specs.Rollups.{RollupsStand};
     ghost use Rattle.cube_engine.specs.Books as said;
 
     ghost Value = { said.Book };
 
-    ghost view = { λ b. record { core = b.core; policy = b.policy; history = b.state.history; waiting = waiting_in b.state; journal = b.journal } };
+    ghost view = { λ b. record { core = b.holding.core; policy = b.holding.policy; history = b.holding.history; waiting = b.holding.waiting; journal = b.journal } };
 
     // A journal has at most 2^14 bytes for each request, behind those that it was opened with.
-    ghost invariant = { λ b. IsPolicy b.core.dims b.policy × StandsFor (shown b.core b.policy) b.state × (b.journal.kept ≤ 2 ^ 28 + 2 ^ 14 * length (requests b.state.history)) × RollupsStand b.core b.policy b.state.history (waiting_in b.state) b.rollups };
+    ghost invariant = { λ b. b.journal.kept ≤ 2 ^ 28 + 2 ^ 14 * length (requests b.holding.history) };
 }
 
 impl Book {
@@ -90,14 +81,8 @@ impl Book {
             Ok(opened) => opened,
             Err(fault) => return Err(fault),
         };
-        match roll_all::<Brand>(alloc, &core, &policy, &state, Blank::new(1)) {
-            Ok(rollups) => Ok(Book {
-                core,
-                policy,
-                state,
-                rollups,
-                journal,
-            }),
+        match Holding::start(alloc, core, policy, state) {
+            Ok(holding) => Ok(Book { holding, journal }),
             Err(_) => Err(EngineFault::NoMemory),
         }
     }
@@ -107,9 +92,7 @@ impl Book {
         ensures core { result.now ≡ self.now.core }
         ensures rules { IsRuled self.now }
     {
-        let _state = &self.state;
-        let _rules = self.core.dims();
-        &self.core
+        self.holding.core()
     }
 
     /// The policy.
@@ -117,7 +100,7 @@ impl Book {
         ensures policy { result.now ≡ self.now.policy }
         ensures rules { IsPolicy self.now.core.dims self.now.policy }
     {
-        &self.policy
+        self.holding.policy()
     }
 
     /// The history and what is kept of it.
@@ -125,7 +108,7 @@ impl Book {
         ensures history { result.now.history ≡ self.now.history }
         ensures stands { StandsFor (shown self.now.core self.now.policy) result.now }
     {
-        &self.state
+        self.holding.state()
     }
 
     /// The changes that hide the cell that a text names, in words.
@@ -134,7 +117,7 @@ impl Book {
         ensures ok { IfOk result (λ words. text_of self.now.core.dims (shown self.now.core self.now.policy) (changes_for self.now.core.dims (shown self.now.core self.now.policy) self.now.history text.now) ≡ Ok words) }
         ensures err { IfErr result (λ why. Refuses why (text_of self.now.core.dims (shown self.now.core self.now.policy) (changes_for self.now.core.dims (shown self.now.core self.now.policy) self.now.history text.now))) }
     {
-        changes_text(alloc, &self.core, &self.policy, &self.state, text)
+        self.holding.changes_text(alloc, text)
     }
 
     /// The fact file of the twin for the cell that a text names.
@@ -143,7 +126,7 @@ impl Book {
         ensures ok { IfOk result (λ file. twin_for self.now.core self.now.policy self.now.history text.now ≡ Ok file) }
         ensures err { IfErr result (λ why. Refuses why (twin_for self.now.core self.now.policy self.now.history text.now)) }
     {
-        twin_text(alloc, &self.core, &self.policy, &self.state, text)
+        self.holding.twin_text(alloc, text)
     }
 
     // What a query comes to.
@@ -158,15 +141,7 @@ impl Book {
         ensures same { self.new ≡ with_waiting self.new.waiting self.old }
         ensures few { AskReadsFew self.old.core.dims (shown self.old.core self.old.policy) self.old.history (inner.Query text.now) steps.old steps.new }
     {
-        prepare_query(
-            alloc,
-            &self.core,
-            &self.policy,
-            &mut self.state,
-            &mut self.rollups,
-            text,
-            steps,
-        )
+        self.holding.query(alloc, text, steps)
     }
 
     // What a question for the changes that hide a cell comes to.
@@ -175,7 +150,7 @@ impl Book {
         ensures comes { InnerComes self.old.core.dims (world self.old.core self.old.policy) self.old.history (inner.Witness text.now) self.new.waiting result }
         ensures same { self.new ≡ with_waiting self.new.waiting self.old }
     {
-        prepare_witness(alloc, &self.core, &self.policy, &self.state, text)
+        self.holding.witness(alloc, text)
     }
 
     // What a question for the public shape comes to.
@@ -184,7 +159,7 @@ impl Book {
         ensures comes { InnerComes self.old.core.dims (world self.old.core self.old.policy) self.old.history inner.Shape self.new.waiting result }
         ensures same { self.new ≡ with_waiting self.new.waiting self.old }
     {
-        prepare_shape(alloc, &self.core, &self.policy, &self.state)
+        self.holding.shape(alloc)
     }
 
     // What is asked of the cube comes to.
@@ -227,18 +202,15 @@ impl Book {
         ensures exact { IsTrue (S.told store.old) → OnOk result (IsExact self.old.core self.old.policy self.new.history (S.logs store.new self.old.journal.log).state) }
         ensures crash { IsTrue (S.told store.old) → Gained (IsWithin self.old.core self.old.policy self.old.history) (S.logs store.old self.old.journal.log) (S.logs store.new self.old.journal.log) }
     {
-        let _rules = self.core.dims();
-        let _few = self.state.history();
+        let _rules = self.holding.core();
         let _short = line.as_slice();
         match self.journal.keep(store, line) {
             Ok(()) => {
-                self.state.commit();
-                self.rollups.commit();
+                self.holding.commit();
                 Ok(())
             }
             Err(failed) => {
-                self.state.drop_pending();
-                self.rollups.drop_next();
+                self.holding.let_go();
                 Err(failed)
             }
         }

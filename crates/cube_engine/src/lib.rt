@@ -5,6 +5,7 @@ mod book;
 mod desk;
 mod engine;
 mod fault;
+mod holding;
 mod opening;
 mod prepared;
 mod rolling;

@@ -6,8 +6,6 @@ ghost use Rattle.cube_model.specs.declared.request.What.TheVariants as what;
 ghost use Rattle.cube_model.specs.Cores.{shown, world};
 ghost use Rattle.cube_model.specs.Cubes.{are_levels};
 ghost use Rattle.cube_model.specs.Dims.{plains};
-ghost use Rattle.cube_model.specs.Policies.{IsPolicy};
-ghost use Rattle.cube_admit.specs.States.{StandsFor};
 ghost use Rattle.cube_query.specs.Canonical.{is_request};
 ghost use Rattle.cube_query.specs.Faults.{fault_status, fault_body};
 ghost use Rattle.cube_witness.specs.Grounds.{IsGrounds};
@@ -16,13 +14,12 @@ ghost use Rattle.cube_engine.specs.Changes.{Found, Refuses, found_at, found_by, 
 ghost use Rattle.cube_engine.specs.Prepared.{InnerComes};
 ghost use Rattle.cube_engine.specs.declared.witness.NoChanges.TheVariants as nothing;
 
+use crate::holding::Holding;
 use crate::prepared::Prepared;
-use cube_admit::State;
-use cube_core::Core;
 use cube_lattice::grain;
 use cube_model::{
-    Cell, Changes, Dims, Fixed, Key, Kind, Method, NoMemory, Outcome, Pick, Policy, Reply, Request,
-    Text, What,
+    Cell, Changes, Dims, Fixed, Key, Kind, Method, NoMemory, Outcome, Pick, Reply, Request, Text,
+    What,
 };
 use cube_query::{RequestFault, all_one, groups, read_request};
 use cube_shape::shape_text;
@@ -109,196 +106,152 @@ fn cell_of(alloc: Global, request: &Request) -> Result<Cell, NoMemory>
     })
 }
 
-// What is kept of the history of a measure, by its method.
-fn grounds_of<'a>(core: &Core, policy: &Policy, state: &'a State, measure: u32) -> Grounds<'a>
-    requires stands { StandsFor (shown core.now policy.now) state.now }
-    requires none { state.now.pending ≡ None }
-    requires measure { measure < length policy.now.methods }
-    ensures { IsGrounds (shown core.now policy.now) state.now.history measure result }
-{
-    let _core = core;
-    match policy.methods.as_slice()[measure as usize] {
-        Method::Plain => Grounds::Plain,
-        Method::Lattice => Grounds::Source(state.source(measure)),
-        Method::Parity => match state.colouring(measure) {
-            Some(colouring) => Grounds::Pairs(colouring),
-            None => unreachable!(),
-        },
-    }
-}
-
-// The changes for a cell of a measure.
-fn changes_at(
-    alloc: Global,
-    core: &Core,
-    policy: &Policy,
-    state: &State,
-    measure: u32,
-    cell: &Cell,
-) -> Result<(u32, Changes), NoChanges>
-    requires policy { IsPolicy core.now.dims policy.now }
-    requires stands { StandsFor (shown core.now policy.now) state.now }
-    requires none { state.now.pending ≡ None }
-    requires measure { measure < length core.now.dims.measures }
-    requires cell { are_levels (plains core.now.dims) cell.now.levels ≡ true }
-    ensures ok { IfOk result (λ found. found_at (shown core.now policy.now) state.now.history (what.Measure measure) cell.now ≡ Ok found) }
-    ensures places { IfOk result (λ found. (found.0 < length core.now.dims.measures) × All (λ change. change.place < length core.now.shape.points) found.1) }
-    ensures err { IfErr result (λ why. Refuses why (found_at (shown core.now policy.now) state.now.history (what.Measure measure) cell.now)) }
-{
-    let grounds = grounds_of(core, policy, state, measure);
-    match changes(alloc, core, policy, measure, &grounds, cell) {
-        Ok(changes) => Ok((measure, changes)),
-        Err(WitnessFault::Empty) => Err(refuse(alloc, 404, b"empty cell\n")),
-        Err(WitnessFault::NotProtected) => Err(refuse(alloc, 404, b"not protected\n")),
-        Err(WitnessFault::NoMemory) => Err(NoChanges::NoMemory),
-    }
-}
-
-// The changes for the cell that a request names.
-fn changes_of(
-    alloc: Global,
-    core: &Core,
-    policy: &Policy,
-    state: &State,
-    request: &Request,
-) -> Result<(u32, Changes), NoChanges>
-    requires policy { IsPolicy core.now.dims policy.now }
-    requires stands { StandsFor (shown core.now policy.now) state.now }
-    requires none { state.now.pending ≡ None }
-    requires request { is_request core.now.dims request.now ≡ true }
-    ensures ok { IfOk result (λ found. found_by core.now.dims (shown core.now policy.now) state.now.history (Ok request.now) ≡ Ok found) }
-    ensures places { IfOk result (λ found. (found.0 < length core.now.dims.measures) × All (λ change. change.place < length core.now.shape.points) found.1) }
-    ensures err { IfErr result (λ why. Refuses why (found_by core.now.dims (shown core.now policy.now) state.now.history (Ok request.now))) }
-{
-    let What::Measure(measure) = request.what else {
-        return Err(refuse(alloc, 400, b"not a cell of a measure\n"));
-    };
-    if !is_cell(core.dims(), request) {
-        return Err(refuse(alloc, 400, b"not a cell of a measure\n"));
-    }
-    let cell = cell_of(alloc, request)?;
-    changes_at(alloc, core, policy, state, measure, &cell)
-}
-
-// The changes for the cell that a text names.
-fn changes_for(
-    alloc: Global,
-    core: &Core,
-    policy: &Policy,
-    state: &State,
-    text: &[u8],
-) -> Result<(u32, Changes), NoChanges>
-    requires policy { IsPolicy core.now.dims policy.now }
-    requires stands { StandsFor (shown core.now policy.now) state.now }
-    requires none { state.now.pending ≡ None }
-    ensures ok { IfOk result (λ found. said.changes_for core.now.dims (shown core.now policy.now) state.now.history text.now ≡ Ok found) }
-    ensures places { IfOk result (λ found. (found.0 < length core.now.dims.measures) × All (λ change. change.place < length core.now.shape.points) found.1) }
-    ensures err { IfErr result (λ why. Refuses why (said.changes_for core.now.dims (shown core.now policy.now) state.now.history text.now)) }
-{
-    match read_request(alloc, core.dims(), text) {
-        Ok(request) => changes_of(alloc, core, policy, state, &request),
-        Err(RequestFault::NoMemory) => Err(NoChanges::NoMemory),
-        Err(fault) => Err(refuse_text(alloc, fault)),
-    }
-}
-
-/// The changes for the cell that a text names, in words.
-pub(crate) fn changes_text(
-    alloc: Global,
-    core: &Core,
-    policy: &Policy,
-    state: &State,
-    text: &[u8],
-) -> Result<Text, NoChanges>
-    requires policy { IsPolicy core.now.dims policy.now }
-    requires stands { StandsFor (shown core.now policy.now) state.now }
-    requires none { state.now.pending ≡ None }
-    ensures ok { IfOk result (λ words. text_of core.now.dims (shown core.now policy.now) (said.changes_for core.now.dims (shown core.now policy.now) state.now.history text.now) ≡ Ok words) }
-    ensures err { IfErr result (λ why. Refuses why (text_of core.now.dims (shown core.now policy.now) (said.changes_for core.now.dims (shown core.now policy.now) state.now.history text.now))) }
-{
-    let (_, changes) = match changes_for(alloc, core, policy, state, text) {
-        Ok(found) => found,
-        Err(why) => return Err(why),
-    };
-    Ok(witness_text(alloc, core.dims(), core.shape(), &changes)?)
-}
-
-/// The fact file of the twin for the cell that a text names.
-pub(crate) fn twin_text(
-    alloc: Global,
-    core: &Core,
-    policy: &Policy,
-    state: &State,
-    text: &[u8],
-) -> Result<Text, NoChanges>
-    requires policy { IsPolicy core.now.dims policy.now }
-    requires stands { StandsFor (shown core.now policy.now) state.now }
-    requires none { state.now.pending ≡ None }
-    ensures ok { IfOk result (λ file. twin_for core.now policy.now state.now.history text.now ≡ Ok file) }
-    ensures err { IfErr result (λ why. Refuses why (twin_for core.now policy.now state.now.history text.now)) }
-{
-    let (measure, changes) = match changes_for(alloc, core, policy, state, text) {
-        Ok(found) => found,
-        Err(why) => return Err(why),
-    };
-    match twin_facts(alloc, core, measure, &changes) {
-        Ok(file) => Ok(file),
-        Err(TwinFault::Beyond { .. }) => Err(refuse(alloc, 404, b"beyond the bound\n")),
-        Err(TwinFault::NoMemory) => Err(NoChanges::NoMemory),
-    }
-}
-
-/// What a question for the changes that hide a cell comes to.
-pub(crate) fn prepare_witness(
-    alloc: Global,
-    core: &Core,
-    policy: &Policy,
-    state: &State,
-    text: &[u8],
-) -> Prepared
-    requires policy { IsPolicy core.now.dims policy.now }
-    requires stands { StandsFor (shown core.now policy.now) state.now }
-    requires none { state.now.pending ≡ None }
-    ensures { InnerComes core.now.dims (world core.now policy.now) state.now.history (inner.Witness text.now) None result }
-{
-    match changes_text(alloc, core, policy, state, text) {
-        Ok(body) => Prepared::Said(
-            Reply::Made {
-                status: 200,
-                kind: Kind::Csv,
-                body,
+impl Holding {
+    // What is kept of the history of a measure, by its method.
+    fn grounds(&self, measure: u32) -> Grounds<'_>
+        requires none { self.now.waiting ≡ None }
+        requires measure { measure < length self.now.policy.methods }
+        ensures { IsGrounds (shown self.now.core self.now.policy) self.now.history measure result }
+    {
+        match self.policy.methods.as_slice()[measure as usize] {
+            Method::Plain => Grounds::Plain,
+            Method::Lattice => Grounds::Source(self.state.source(measure)),
+            Method::Parity => match self.state.colouring(measure) {
+                Some(colouring) => Grounds::Pairs(colouring),
+                None => unreachable!(),
             },
-            Outcome::Given,
-        ),
-        Err(NoChanges::Said { status, line }) => Prepared::Said(
-            Reply::Made {
-                status,
-                kind: Kind::Plain,
-                body: line,
-            },
-            Outcome::Given,
-        ),
-        Err(NoChanges::NoMemory) => {
-            Prepared::Said(Reply::Fixed(Fixed::NoMemory), Outcome::NoMemory)
         }
     }
-}
 
-/// What a question for the public shape comes to.
-pub(crate) fn prepare_shape(alloc: Global, core: &Core, policy: &Policy, state: &State) -> Prepared
-    requires { IsPolicy core.now.dims policy.now }
-    ensures { InnerComes core.now.dims (world core.now policy.now) state.now.history inner.Shape None result }
-{
-    let _state = state;
-    match shape_text(alloc, core, policy) {
-        Ok(body) => Prepared::Said(
-            Reply::Made {
-                status: 200,
-                kind: Kind::Json,
-                body,
-            },
-            Outcome::Given,
-        ),
-        Err(_) => Prepared::Said(Reply::Fixed(Fixed::NoMemory), Outcome::NoMemory),
+    // The changes for a cell of a measure.
+    fn changes_at(
+        &self,
+        alloc: Global,
+        measure: u32,
+        cell: &Cell,
+    ) -> Result<(u32, Changes), NoChanges>
+        requires none { self.now.waiting ≡ None }
+        requires measure { measure < length self.now.core.dims.measures }
+        requires cell { are_levels (plains self.now.core.dims) cell.now.levels ≡ true }
+        ensures ok { IfOk result (λ found. found_at (shown self.now.core self.now.policy) self.now.history (what.Measure measure) cell.now ≡ Ok found) }
+        ensures places { IfOk result (λ found. (found.0 < length self.now.core.dims.measures) × All (λ change. change.place < length self.now.core.shape.points) found.1) }
+        ensures err { IfErr result (λ why. Refuses why (found_at (shown self.now.core self.now.policy) self.now.history (what.Measure measure) cell.now)) }
+    {
+        let core = self.core();
+        let grounds = self.grounds(measure);
+        match changes(alloc, core, self.policy(), measure, &grounds, cell) {
+            Ok(changes) => Ok((measure, changes)),
+            Err(WitnessFault::Empty) => Err(refuse(alloc, 404, b"empty cell\n")),
+            Err(WitnessFault::NotProtected) => Err(refuse(alloc, 404, b"not protected\n")),
+            Err(WitnessFault::NoMemory) => Err(NoChanges::NoMemory),
+        }
+    }
+
+    // The changes for the cell that a request names.
+    fn changes_of(&self, alloc: Global, request: &Request) -> Result<(u32, Changes), NoChanges>
+        requires none { self.now.waiting ≡ None }
+        requires request { is_request self.now.core.dims request.now ≡ true }
+        ensures ok { IfOk result (λ found. found_by self.now.core.dims (shown self.now.core self.now.policy) self.now.history (Ok request.now) ≡ Ok found) }
+        ensures places { IfOk result (λ found. (found.0 < length self.now.core.dims.measures) × All (λ change. change.place < length self.now.core.shape.points) found.1) }
+        ensures err { IfErr result (λ why. Refuses why (found_by self.now.core.dims (shown self.now.core self.now.policy) self.now.history (Ok request.now))) }
+    {
+        let What::Measure(measure) = request.what else {
+            return Err(refuse(alloc, 400, b"not a cell of a measure\n"));
+        };
+        if !is_cell(self.core().dims(), request) {
+            return Err(refuse(alloc, 400, b"not a cell of a measure\n"));
+        }
+        let cell = cell_of(alloc, request)?;
+        self.changes_at(alloc, measure, &cell)
+    }
+
+    // The changes for the cell that a text names.
+    fn changes_for(&self, alloc: Global, text: &[u8]) -> Result<(u32, Changes), NoChanges>
+        requires none { self.now.waiting ≡ None }
+        ensures ok { IfOk result (λ found. said.changes_for self.now.core.dims (shown self.now.core self.now.policy) self.now.history text.now ≡ Ok found) }
+        ensures places { IfOk result (λ found. (found.0 < length self.now.core.dims.measures) × All (λ change. change.place < length self.now.core.shape.points) found.1) }
+        ensures err { IfErr result (λ why. Refuses why (said.changes_for self.now.core.dims (shown self.now.core self.now.policy) self.now.history text.now)) }
+    {
+        match read_request(alloc, self.core().dims(), text) {
+            Ok(request) => self.changes_of(alloc, &request),
+            Err(RequestFault::NoMemory) => Err(NoChanges::NoMemory),
+            Err(fault) => Err(refuse_text(alloc, fault)),
+        }
+    }
+
+    /// The changes for the cell that a text names, in words.
+    pub(crate) fn changes_text(&self, alloc: Global, text: &[u8]) -> Result<Text, NoChanges>
+        requires none { self.now.waiting ≡ None }
+        ensures ok { IfOk result (λ words. text_of self.now.core.dims (shown self.now.core self.now.policy) (said.changes_for self.now.core.dims (shown self.now.core self.now.policy) self.now.history text.now) ≡ Ok words) }
+        ensures err { IfErr result (λ why. Refuses why (text_of self.now.core.dims (shown self.now.core self.now.policy) (said.changes_for self.now.core.dims (shown self.now.core self.now.policy) self.now.history text.now))) }
+    {
+        let (_, changes) = match self.changes_for(alloc, text) {
+            Ok(found) => found,
+            Err(why) => return Err(why),
+        };
+        let core = self.core();
+        Ok(witness_text(alloc, core.dims(), core.shape(), &changes)?)
+    }
+
+    /// The fact file of the twin for the cell that a text names.
+    pub(crate) fn twin_text(&self, alloc: Global, text: &[u8]) -> Result<Text, NoChanges>
+        requires none { self.now.waiting ≡ None }
+        ensures ok { IfOk result (λ file. twin_for self.now.core self.now.policy self.now.history text.now ≡ Ok file) }
+        ensures err { IfErr result (λ why. Refuses why (twin_for self.now.core self.now.policy self.now.history text.now)) }
+    {
+        let (measure, changes) = match self.changes_for(alloc, text) {
+            Ok(found) => found,
+            Err(why) => return Err(why),
+        };
+        match twin_facts(alloc, self.core(), measure, &changes) {
+            Ok(file) => Ok(file),
+            Err(TwinFault::Beyond { .. }) => Err(refuse(alloc, 404, b"beyond the bound\n")),
+            Err(TwinFault::NoMemory) => Err(NoChanges::NoMemory),
+        }
+    }
+
+    /// What a question for the changes that hide a cell comes to.
+    pub(crate) fn witness(&self, alloc: Global, text: &[u8]) -> Prepared
+        requires none { self.now.waiting ≡ None }
+        ensures { InnerComes self.now.core.dims (world self.now.core self.now.policy) self.now.history (inner.Witness text.now) None result }
+    {
+        match self.changes_text(alloc, text) {
+            Ok(body) => Prepared::Said(
+                Reply::Made {
+                    status: 200,
+                    kind: Kind::Csv,
+                    body,
+                },
+                Outcome::Given,
+            ),
+            Err(NoChanges::Said { status, line }) => Prepared::Said(
+                Reply::Made {
+                    status,
+                    kind: Kind::Plain,
+                    body: line,
+                },
+                Outcome::Given,
+            ),
+            Err(NoChanges::NoMemory) => {
+                Prepared::Said(Reply::Fixed(Fixed::NoMemory), Outcome::NoMemory)
+            }
+        }
+    }
+
+    /// What a question for the public shape comes to.
+    pub(crate) fn shape(&self, alloc: Global) -> Prepared
+        ensures { InnerComes self.now.core.dims (world self.now.core self.now.policy) self.now.history inner.Shape None result }
+    {
+        match shape_text(alloc, self.core(), self.policy()) {
+            Ok(body) => Prepared::Said(
+                Reply::Made {
+                    status: 200,
+                    kind: Kind::Json,
+                    body,
+                },
+                Outcome::Given,
+            ),
+            Err(_) => Prepared::Said(Reply::Fixed(Fixed::NoMemory), Outcome::NoMemory),
+        }
     }
 }

@@ -1,48 +1,45 @@
-use Rattle.std.proofs.Common.{rules, ◌≡◌, ◌+◌, List, [], ◌∷◌, ◌++◌, length, Some, IsTrue, ap, sym, ◌∙◌, subst, arith}
+use Rattle.std.proofs.Common.{◌≡◌, ◌+◌, List, [], ◌∷◌, ◌++◌, length, Some, IsTrue, ap, sym, ◌∙◌, subst, arith}
 use Rattle.cube_model.specs.declared.entry.Entry.{Entry}
 use Rattle.cube_model.specs.declared.entry.Entry.TheVariants.{Asked}
-use Rattle.cube_model.specs.Cores.{shown}
 use Rattle.cube_model.specs.Entries.{requests}
 use Rattle.cube_admit.proofs.Standing.{requests-push}
-use Rattle.cube_admit.specs.States.{waiting}
 use Rattle.cube_io.specs.States.{Gained}
-use Rattle.cube_engine.specs.Books.{Book, IsWaiting}
+use Rattle.cube_engine.specs.Books.{Book, Holding, IsWaiting}
 use Rattle.cube_engine.specs.Kept.{IsKept, IsExact, IsWithin}
-use Rattle.cube_engine.proofs.Cuboids.{has_entered}
-use Rattle.cube_engine.proofs.Logs.{keep_crash, keep_done, keep_exact, keep_failed, waiting_whole}
+use Rattle.cube_engine.proofs.Logs.{has_entered, keep_crash, keep_done, keep_exact, keep_failed}
 use Rattle.cube_engine.proofs.book.Book.keep.Goals as goal
 
 pub invariant_of-self : goal.invariant_of-self
 invariant_of-self g c =
+    let x = c.self.inside in
     let r = c.requires.waits.request in
-    let waits : waiting c.self.inside.state ≡ Some r = ap (λ (b : Book). b.waiting) c.self.view_is ∙ c.requires.waits.waits in
-    let grown : c.commit.new.self.history ≡ c.self.inside.state.history ++ Asked r ∷ [] = c.commit.ensures.history ∙ waiting_whole c.self.inside.state r waits in
-    let more : length (requests c.commit.new.self.history) ≡ length (requests c.self.inside.state.history) + 1 = ap (λ (h : List Entry). length (requests h)) grown ∙ requests-push c.self.inside.state.history r in
+    let waits : x.holding.waiting ≡ Some r = ap (λ (b : Book). b.waiting) c.self.view_is ∙ c.requires.waits.waits in
+    let grown : c.commit.new.self.history ≡ x.holding.history ++ Asked r ∷ [] = has_entered x.holding c.commit.new.self r c.commit.ensures waits in
+    let more : length (requests c.commit.new.self.history) ≡ length (requests x.holding.history) + 1 = ap (λ (h : List Entry). length (requests h)) grown ∙ requests-push x.holding.history r in
     let longer = c.in-Ok.ensures.longer in
     let short = c.as_slice-short.ensures.short in
-    let before = c.self.invariant.2 in
-    let x = c.self.inside in
-    (c.self.invariant.0, c.commit.ensures.stands (shown x.core x.policy) c.self.invariant.1, omega (arith, more, longer, short, before), search (rules, has_entered))
+    let before = c.self.invariant in
+    omega (arith, more, longer, short, before)
 
 pub returns-in-Ok-clause-kept : goal.returns-in-Ok-clause-kept
 returns-in-Ok-clause-kept g c =
     let x = c.self.inside in
     let kept = subst (λ (b : Book). IsTrue (g.S.Store.told c.args.store.now) → IsKept b.core b.policy b.history b.journal (g.S.Store.logs c.args.store.now b.journal.log).state) (sym c.self.view_is) c.requires.kept in
     let holds = subst (λ (b : Book). IsWaiting b c.args.line.now) (sym c.self.view_is) c.requires.waits in
-    let grown : x.state.history ++ Asked holds.request ∷ [] ≡ c.commit.new.self.history = sym (c.commit.ensures.history ∙ waiting_whole x.state holds.request holds.waits) in
+    let grown : x.holding.history ++ Asked holds.request ∷ [] ≡ c.commit.new.self.history = sym (has_entered x.holding c.commit.new.self holds.request c.commit.ensures holds.waits) in
     subst (λ (b : Book). IsTrue (g.S.Store.told c.args.store.now) → IsKept b.core b.policy c.commit.new.self.history c.keep.new.self (g.S.Store.logs c.keep.new.store b.journal.log).state) c.self.view_is
-    (λ told. subst (λ (h : List Entry). IsKept x.core x.policy h c.keep.new.self (g.S.Store.logs c.keep.new.store x.journal.log).state) grown
-    (keep_done x.core x.policy x.state.history x.journal c.keep.new.self (g.S.Store.logs c.args.store.now x.journal.log).state (g.S.Store.logs c.keep.new.store x.journal.log).state holds.request c.args.line.now c.dims-rules.ensures.rules.dims (kept told) holds.may holds.is_line (c.keep.ensures.fits told) (c.in-Ok.ensures.ok told)))
+    (λ told. subst (λ (h : List Entry). IsKept x.holding.core x.holding.policy h c.keep.new.self (g.S.Store.logs c.keep.new.store x.journal.log).state) grown
+    (keep_done x.holding.core x.holding.policy x.holding.history x.journal c.keep.new.self (g.S.Store.logs c.args.store.now x.journal.log).state (g.S.Store.logs c.keep.new.store x.journal.log).state holds.request c.args.line.now c.core-rules.ensures.rules.dims (kept told) holds.may holds.is_line (c.keep.ensures.fits told) (c.in-Ok.ensures.ok told)))
 
 pub returns-in-Ok-clause-exact : goal.returns-in-Ok-clause-exact
 returns-in-Ok-clause-exact g c =
     let x = c.self.inside in
     let kept = subst (λ (b : Book). IsTrue (g.S.Store.told c.args.store.now) → IsKept b.core b.policy b.history b.journal (g.S.Store.logs c.args.store.now b.journal.log).state) (sym c.self.view_is) c.requires.kept in
     let holds = subst (λ (b : Book). IsWaiting b c.args.line.now) (sym c.self.view_is) c.requires.waits in
-    let grown : x.state.history ++ Asked holds.request ∷ [] ≡ c.commit.new.self.history = sym (c.commit.ensures.history ∙ waiting_whole x.state holds.request holds.waits) in
+    let grown : x.holding.history ++ Asked holds.request ∷ [] ≡ c.commit.new.self.history = sym (has_entered x.holding c.commit.new.self holds.request c.commit.ensures holds.waits) in
     subst (λ (b : Book). IsTrue (g.S.Store.told c.args.store.now) → IsExact b.core b.policy c.commit.new.self.history (g.S.Store.logs c.keep.new.store b.journal.log).state) c.self.view_is
-    (λ told. subst (λ (h : List Entry). IsExact x.core x.policy h (g.S.Store.logs c.keep.new.store x.journal.log).state) grown
-    (keep_exact x.core x.policy x.state.history x.journal (g.S.Store.logs c.args.store.now x.journal.log).state (g.S.Store.logs c.keep.new.store x.journal.log).state holds.request c.args.line.now c.dims-rules.ensures.rules.dims (kept told) holds.may holds.is_line (c.in-Ok.ensures.ok told)))
+    (λ told. subst (λ (h : List Entry). IsExact x.holding.core x.holding.policy h (g.S.Store.logs c.keep.new.store x.journal.log).state) grown
+    (keep_exact x.holding.core x.holding.policy x.holding.history x.journal (g.S.Store.logs c.args.store.now x.journal.log).state (g.S.Store.logs c.keep.new.store x.journal.log).state holds.request c.args.line.now c.core-rules.ensures.rules.dims (kept told) holds.may holds.is_line (c.in-Ok.ensures.ok told)))
 
 pub returns-in-Ok-clause-crash : goal.returns-in-Ok-clause-crash
 returns-in-Ok-clause-crash g c =
@@ -50,16 +47,16 @@ returns-in-Ok-clause-crash g c =
     let kept = subst (λ (b : Book). IsTrue (g.S.Store.told c.args.store.now) → IsKept b.core b.policy b.history b.journal (g.S.Store.logs c.args.store.now b.journal.log).state) (sym c.self.view_is) c.requires.kept in
     let holds = subst (λ (b : Book). IsWaiting b c.args.line.now) (sym c.self.view_is) c.requires.waits in
     subst (λ (b : Book). IsTrue (g.S.Store.told c.args.store.now) → Gained (IsWithin b.core b.policy b.history) (g.S.Store.logs c.args.store.now b.journal.log) (g.S.Store.logs c.keep.new.store b.journal.log)) c.self.view_is
-    (λ told. keep_crash x.core x.policy x.state.history x.journal (g.S.Store.logs c.args.store.now x.journal.log) (g.S.Store.logs c.keep.new.store x.journal.log) holds.request c.args.line.now c.dims-rules.ensures.rules.dims (kept told) holds.may holds.is_line (c.keep.ensures.states told))
+    (λ told. keep_crash x.holding.core x.holding.policy x.holding.history x.journal (g.S.Store.logs c.args.store.now x.journal.log) (g.S.Store.logs c.keep.new.store x.journal.log) holds.request c.args.line.now c.core-rules.ensures.rules.dims (kept told) holds.may holds.is_line (c.keep.ensures.states told))
 
 pub returns-in-Err-clause-kept : goal.returns-in-Err-clause-kept
 returns-in-Err-clause-kept g c =
     let x = c.self.inside in
     let kept = subst (λ (b : Book). IsTrue (g.S.Store.told c.args.store.now) → IsKept b.core b.policy b.history b.journal (g.S.Store.logs c.args.store.now b.journal.log).state) (sym c.self.view_is) c.requires.kept in
     let holds = subst (λ (b : Book). IsWaiting b c.args.line.now) (sym c.self.view_is) c.requires.waits in
-    subst (λ (b : Book). IsTrue (g.S.Store.told c.args.store.now) → IsKept b.core b.policy c.drop_pending.new.self.history c.keep.new.self (g.S.Store.logs c.keep.new.store b.journal.log).state) c.self.view_is
-    (λ told. subst (λ (h : List Entry). IsKept x.core x.policy h c.keep.new.self (g.S.Store.logs c.keep.new.store x.journal.log).state) (sym c.drop_pending.ensures.history)
-    (keep_failed x.core x.policy x.state.history x.journal c.keep.new.self (g.S.Store.logs c.args.store.now x.journal.log).state (g.S.Store.logs c.keep.new.store x.journal.log).state holds.request c.args.line.now (kept told) holds.may holds.is_line (c.keep.ensures.fits told) (c.in-Err.ensures.err told)))
+    subst (λ (b : Book). IsTrue (g.S.Store.told c.args.store.now) → IsKept b.core b.policy c.let_go.new.self.history c.keep.new.self (g.S.Store.logs c.keep.new.store b.journal.log).state) c.self.view_is
+    (λ told. subst (λ (h : List Entry). IsKept x.holding.core x.holding.policy h c.keep.new.self (g.S.Store.logs c.keep.new.store x.journal.log).state) (sym (ap (λ (b : Holding). b.history) c.let_go.ensures))
+    (keep_failed x.holding.core x.holding.policy x.holding.history x.journal c.keep.new.self (g.S.Store.logs c.args.store.now x.journal.log).state (g.S.Store.logs c.keep.new.store x.journal.log).state holds.request c.args.line.now (kept told) holds.may holds.is_line (c.keep.ensures.fits told) (c.in-Err.ensures.err told)))
 
 pub returns-in-Err-clause-crash : goal.returns-in-Err-clause-crash
 returns-in-Err-clause-crash g c =
@@ -67,4 +64,4 @@ returns-in-Err-clause-crash g c =
     let kept = subst (λ (b : Book). IsTrue (g.S.Store.told c.args.store.now) → IsKept b.core b.policy b.history b.journal (g.S.Store.logs c.args.store.now b.journal.log).state) (sym c.self.view_is) c.requires.kept in
     let holds = subst (λ (b : Book). IsWaiting b c.args.line.now) (sym c.self.view_is) c.requires.waits in
     subst (λ (b : Book). IsTrue (g.S.Store.told c.args.store.now) → Gained (IsWithin b.core b.policy b.history) (g.S.Store.logs c.args.store.now b.journal.log) (g.S.Store.logs c.keep.new.store b.journal.log)) c.self.view_is
-    (λ told. keep_crash x.core x.policy x.state.history x.journal (g.S.Store.logs c.args.store.now x.journal.log) (g.S.Store.logs c.keep.new.store x.journal.log) holds.request c.args.line.now c.dims-rules.ensures.rules.dims (kept told) holds.may holds.is_line (c.keep.ensures.states told))
+    (λ told. keep_crash x.holding.core x.holding.policy x.holding.history x.journal (g.S.Store.logs c.args.store.now x.journal.log) (g.S.Store.logs c.keep.new.store x.journal.log) holds.request c.args.line.now c.core-rules.ensures.rules.dims (kept told) holds.may holds.is_line (c.keep.ensures.states told))
