@@ -1,3 +1,3 @@
 pub mod Worlds
 pub mod Lives
-pub mod Renaming
+pub mod Ordered

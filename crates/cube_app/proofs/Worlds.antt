@@ -29,7 +29,8 @@ use Rattle.cube_talk.specs.AskLaws.{by_test, said_long, said_one, rooms_long, ro
 use Rattle.cube_talk.specs.Asks.{is_too_long, too_large, ask_of, said, rooms_behind, up_to_asks, talk, Says, Talked}
 use Rattle.cube_talk.specs.Lines.{ended_lines}
 use Rattle.cube_talk.specs.Replies.{reply_text}
-use Rattle.cube_app.specs.Worlds.{history_behind, twin_by, Hides}
+use Rattle.cube_io.specs.Seen.{SourceState, SinkState, Seen}
+use Rattle.cube_app.specs.Worlds.{history_behind, twin_by, Talk, Hides}
 use Rattle.cube_talk.specs.declared.talk.Ending.{Ending}
 use Rattle.cube_talk.specs.declared.talk.Ending.TheVariants.{Ended, InputFailed, OutputFailed, NoMemory, Spent}
 
@@ -137,14 +138,14 @@ says_open s w h NoMemory stated os text old new ok says = absurd says
 says_open s w h Spent stated os text old new ok (inl all) = (lines text, λ last m t adm ext within. inl (all.0, all.1, subst (Appends old new) (sym (talk_open s w h last (lines text) os stated m t ok adm ext within)) all.2))
 says_open s w h Spent stated os text old new ok (inr full) = (ended_lines text, λ last m t adm ext within. inr (full.0, full.1, full.2, subst (Appends old new) (sym (talk_open s w h last (ended_lines text) os stated m t ok adm ext within)) full.3))
 
-pub hidden : (core : Core) (policy : Policy) (h : List Entry) (stated : ℕ) (ending : Ending) (os : List Outcome) (bytes : ℕ) (left left' written written' : Option (List ℕ)) → IsCore core → IsPolicy core.dims policy → IsAdmissible (shown core policy) h
-    → Talked (manner core.dims) (alone (world core policy) h) stated ending os bytes left left' written written' → Hides core policy h stated ending os bytes left left' written written'
-hidden core policy h stated ending os bytes left left' written written' is_core is_policy adm talked =
+pub hidden : {I O : Type 0} (core : Core) (policy : Policy) (h : List Entry) (talk : Talk) (input : Seen SourceState I) (out : Seen SinkState O) → IsCore core → IsPolicy core.dims policy → IsAdmissible (shown core policy) h
+    → Talked (manner core.dims) (alone (world core policy) h) talk.stated talk.ending talk.outcomes talk.bytes input.before.left input.after.left out.before.written out.after.written → Hides core policy h talk input out
+hidden core policy h talk input out is_core is_policy adm talked =
     let ok : IsWorld (world core policy) = cores_are_worlds core policy is_core is_policy.methods in
-    let said = says_open core.dims (world core policy) h ending stated os talked.text written written' ok talked.says in
+    let said = says_open core.dims (world core policy) h talk.ending talk.stated talk.outcomes talked.text out.before.written out.after.written ok talked.says in
     record {
       lines = said.0;
-      admissible = behind_stays core.dims (world core policy) h (up_to_asks stated said.0) os adm;
+      admissible = behind_stays core.dims (world core policy) h (up_to_asks talk.stated said.0) talk.outcomes adm;
       hides = λ last good ext m t within. record {
         talked = record { text = talked.text; taken = talked.taken; counted = talked.counted; first = talked.first; more = talked.more; split = talked.split; matched = talked.matched; says = said.1 last m t good ext within };
         other_sum = other_sum (world core policy) last m t ok good within;

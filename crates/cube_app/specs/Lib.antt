@@ -1,6 +1,9 @@
 pub mod Cells
-pub mod Serves
+pub mod Ends
 pub mod Making
+pub mod Runs
+pub mod Serves
 pub mod Summary
+pub mod Talks
+pub mod Texts
 pub mod Worlds
-pub mod Run

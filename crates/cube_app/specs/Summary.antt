@@ -1,5 +1,6 @@
--- What `check` prints.
-use Rattle.std.specs.Prelude.{ℕ, List, ◌++◌, length, sum, codes, decimal, if◌then◌else◌}
+-- All that `check` does.
+use Rattle.std.specs.Prelude.{◌≡◌, ◌⊎◌, ℕ, List, ◌++◌, length, sum, codes, decimal, if◌then◌else◌}
+use Rattle.std.specs.declared.option.Option.{Option}
 use Rattle.std.specs.List.{sum_by}
 use Rattle.cube_model.specs.declared.policy.Policy.{Policy}
 use Rattle.cube_model.specs.Cores.{Core, shown}
@@ -8,6 +9,12 @@ use Rattle.cube_model.specs.Dims.{plains}
 use Rattle.cube_model.specs.Protection.{protected}
 use Rattle.cube_core.specs.Full.{is_full}
 use Rattle.cube_engine.specs.Kept.{digest_for}
+use Rattle.cube_io.specs.Causes.{Rose}
+use Rattle.cube_io.specs.Seen.{FolderState, SinkState, Seen, Unused}
+use Rattle.cube_opening.specs.Reports.{IsReport, Prints}
+use Rattle.cube_opening.specs.declared.report.Report.{Report}
+use Rattle.cube_words.specs.declared.ordered.CubeFiles.{CubeFiles}
+use Rattle.cube_app.specs.Ends.{IsSteady, EndsAtFiles, Make, AsksFiles, HasFiles}
 
 -- a word and its number
 abbrev pub count_line : List ℕ → ℕ → List ℕ
@@ -34,3 +41,23 @@ digest_line core policy = codes "digest " ++ digest_for core policy ++ codes "\n
 -- these lines, the number of protected cells, and the digest
 abbrev pub check_text : Core → Policy → List ℕ
 check_text core policy = core_text core ++ count_line (codes "protected") (protected_count core policy) ++ digest_line core policy
+
+-- ---- the run
+
+-- the summary was printed, unless memory ran out
+abbrev pub Summarizes : Core → Policy → Option (List ℕ) → Option (List ℕ) → Report → Type 0
+Summarizes core policy written written' r = Prints (check_text core policy) written written' r ⊎ (IsReport 7 (codes "no memory\n") r × (written' ≡ written))
+
+-- the summary of the core and the policy that the files make was printed
+pub record Checked {O : Type 0} (cube : CubeFiles) (files : FolderState) (out : Seen SinkState O) (r : Report) : Type 0 where
+  pub core : Core
+  pub policy : Policy
+  pub files_make : Make cube files core policy
+  pub printed : Summarizes core policy out.before.written out.after.written r
+
+-- All that `check` does with these files: it ends at a file, or it prints the summary. Where the files are accepted and no count rose, all
+-- was done, or memory ran out.
+pub record CheckRun {F O : Type 0} (cube : CubeFiles) (files : Seen FolderState F) (out : Seen SinkState O) (r : Report) : Type 0 where
+  pub answers : (EndsAtFiles cube files r × Unused out) ⊎ (Checked cube files.before out r × IsSteady files)
+  pub asks : AsksFiles cube files r
+  pub complete : HasFiles cube files.before → ¬ Rose files.before.faults files.after.faults → ¬ Rose out.before.faults out.after.faults → (r.status ≡ 0) ⊎ (r.status ≡ 7)

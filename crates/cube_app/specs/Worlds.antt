@@ -1,6 +1,5 @@
 -- What `ask` writes tells nothing of a protected cell.
 use Rattle.std.specs.Prelude.{◌≡◌, ℕ, List, pos, ◌+ℤ◌}
-use Rattle.std.specs.declared.option.Option.{Option}
 use Rattle.cube_model.specs.declared.cell.Cell.{Cell}
 use Rattle.cube_model.specs.declared.entry.Entry.{Entry}
 use Rattle.cube_model.specs.declared.outcome.Outcome.{Outcome}
@@ -13,6 +12,7 @@ use Rattle.cube_model.specs.Rooms.{alone}
 use Rattle.cube_model.specs.Twins.{changes, twin, sum_of}
 use Rattle.cube_model.specs.TwoWorlds.{Extends}
 use Rattle.cube_model.specs.Verdicts.{IsAdmissible}
+use Rattle.cube_io.specs.Seen.{SourceState, SinkState, Seen}
 use Rattle.cube_engine.specs.Steps.{manner}
 use Rattle.cube_engine.specs.Worlds.{first_history}
 use Rattle.cube_talk.specs.Asks.{rooms_behind, up_to_asks, Talked}
@@ -26,15 +26,22 @@ history_behind s w h stated ls os = first_history (rooms_behind (manner s) (alon
 abbrev pub twin_by : World → List Entry → ℕ → Cell → World
 twin_by w last m t = twin w m (changes w.shown last m t)
 
+-- What was talked: how many asks were stated, how it ended, what became of the asks, and how many bytes were taken.
+pub record Talk : Type 0 where
+  pub stated : ℕ
+  pub ending : Ending
+  pub outcomes : List Outcome
+  pub bytes : ℕ
+
 -- Over the other world the same would have been written, while the sum of the cell is greater by one there.
-pub record IsHidden (core : Core) (policy : Policy) (history last : List Entry) (stated : ℕ) (ending : Ending) (os : List Outcome) (bytes : ℕ) (left left' written written' : Option (List ℕ)) (m : ℕ) (t : Cell) : Type 0 where
-  pub talked : Talked (manner core.dims) (alone (twin_by (world core policy) last m t) history) stated ending os bytes left left' written written'
+pub record IsHidden {I O : Type 0} (core : Core) (policy : Policy) (history last : List Entry) (talk : Talk) (input : Seen SourceState I) (out : Seen SinkState O) (m : ℕ) (t : Cell) : Type 0 where
+  pub talked : Talked (manner core.dims) (alone (twin_by (world core policy) last m t) history) talk.stated talk.ending talk.outcomes talk.bytes input.before.left input.after.left out.before.written out.after.written
   pub other_sum : sum_of (twin_by (world core policy) last m t) m t ≡ sum_of (world core policy) m t +ℤ pos 1
 
 -- The two worlds: so it is for whatever protected cell of whatever measure, with the changes by the history behind the lines that were
 -- answered, and by whatever admissible history that goes on from it, in this run or a later one.
-pub record Hides (core : Core) (policy : Policy) (history : List Entry) (stated : ℕ) (ending : Ending) (os : List Outcome) (bytes : ℕ) (left left' written written' : Option (List ℕ)) : Type 0 where
+pub record Hides {I O : Type 0} (core : Core) (policy : Policy) (history : List Entry) (talk : Talk) (input : Seen SourceState I) (out : Seen SinkState O) : Type 0 where
   pub lines : List (List ℕ)
-  pub admissible : IsAdmissible (shown core policy) (history_behind core.dims (world core policy) history stated lines os)
-  pub hides : (last : List Entry) → IsAdmissible (shown core policy) last → Extends (history_behind core.dims (world core policy) history stated lines os) last
-      → (m : ℕ) (t : Cell) → IsIn t (protected (shown core policy) m) → IsHidden core policy history last stated ending os bytes left left' written written' m t
+  pub admissible : IsAdmissible (shown core policy) (history_behind core.dims (world core policy) history talk.stated lines talk.outcomes)
+  pub hides : (last : List Entry) → IsAdmissible (shown core policy) last → Extends (history_behind core.dims (world core policy) history talk.stated lines talk.outcomes) last
+      → (m : ℕ) (t : Cell) → IsIn t (protected (shown core policy) m) → IsHidden core policy history last talk input out m t

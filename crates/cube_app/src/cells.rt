@@ -1,14 +1,12 @@
 // `witness` and `twin`: what hides a cell, as changes or as a fact file.
 ghost use Rattle.std.specs.Prelude.{◌≡◌, ◌≢◌, ◌⊎◌, ◌≤◌, ◌+◌, ◌++◌, ℕ, List, Result, [], IsTrue, IfOk, IfErr, IsOk, Ok, codes};
 ghost use Rattle.cube_io.specs.Causes.{Rose};
+ghost use Rattle.cube_io.specs.Seen.{seen, folder_state, sink_state, store_state};
 ghost use Rattle.cube_io.specs.Told.{OthersStay};
 ghost use Rattle.cube_engine.specs.Changes.{Refuses};
-ghost use Rattle.cube_words.specs.Words.{orders_of as orders_in};
-ghost use Rattle.cube_words.specs.declared.words.Command.TheVariants as orders;
 ghost use Rattle.cube_opening.specs.Opening.{EndsUnopened, AsksAll, HasAll};
 ghost use Rattle.cube_opening.specs.Reports.{IsReport, NoRoom};
-ghost use Rattle.cube_app.specs.Cells.{CellRun, Tells, Told, HasCell, cell_text};
-ghost use Rattle.cube_app.specs.Run.{dims_name, facts_name, policy_name, journal_name, cell_name};
+ghost use Rattle.cube_app.specs.Cells.{Tells, Told, HasCell, cell_text};
 ghost use Rattle.cube_starting.specs.Starting.{EndsUnstarted, AsksStore, HasJournal};
 
 use crate::run::print;
@@ -17,7 +15,7 @@ use cube_io::{Folder, Sink, Store};
 use cube_model::{NoMemory, Text};
 use cube_opening::{Guarded, Report, Room, no_room, open_guarded, with_text};
 use cube_starting::open_engine;
-use cube_words::{Command, Setting, needed_value};
+use cube_words::CubeFiles;
 use std::alloc::Global;
 
 fn refused_text(alloc: Global, line: &Text) -> Result<Text, NoMemory>
@@ -72,26 +70,24 @@ fn told_of(alloc: Global, engine: Engine, is_twin: bool, cell: &Text) -> Result<
     }
 }
 
-// Puts the changes that hide a cell, or the fact file of the twin, by the history that the journal holds.
-fn tell_cell<F: Folder, S: Store, O: Sink>(
+/// Puts the changes that hide a cell, or the fact file of the twin, by the history that the journal holds.
+pub fn tell<F: Folder, S: Store, O: Sink>(
     alloc: Global,
     room: Room,
     is_twin: bool,
-    dims_name: &Text,
-    facts_name: &Text,
-    policy_name: &Text,
-    journal_name: &Text,
+    cube: &CubeFiles,
+    journal: &Text,
     cell: &Text,
     files: &mut F,
     store: &mut S,
     out: &mut O,
 ) -> Report
     requires { room ≡ [] }
-    ensures answers { (EndsUnopened dims_name.now facts_name.now policy_name.now (F.files files.old) (F.faults files.old) (F.faults files.new) result × (store.new ≡ store.old) × (out.new ≡ out.old))
-        ⊎ (EndsUnstarted dims_name.now facts_name.now policy_name.now (F.files files.old) (S.told store.old) (S.logs store.old 0) (S.logs store.new 0) (S.faults store.old) (S.faults store.new) result × (F.faults files.new ≡ F.faults files.old) × (out.new ≡ out.old))
-        ⊎ (Told is_twin dims_name.now facts_name.now policy_name.now cell.now (F.files files.old) (S.told store.old) (S.logs store.old 0) (S.logs store.new 0) (O.written out.old) (O.written out.new) result × (F.faults files.new ≡ F.faults files.old)) }
-    ensures asks { AsksAll dims_name.now facts_name.now policy_name.now (F.files files.old) (F.asked files.old) (F.asked files.new) (F.faults files.old) (F.faults files.new) result }
-    ensures names { (store.new ≡ store.old) ⊎ AsksStore journal_name.now (S.told store.old) (S.names store.old) (S.names store.new) result }
+    ensures answers { (EndsUnopened cube.now.dims cube.now.facts cube.now.policy (F.files files.old) (F.faults files.old) (F.faults files.new) result × (store.new ≡ store.old) × (out.new ≡ out.old))
+        ⊎ (EndsUnstarted cube.now.dims cube.now.facts cube.now.policy (F.files files.old) (S.told store.old) (S.logs store.old 0) (S.logs store.new 0) (S.faults store.old) (S.faults store.new) result × (F.faults files.new ≡ F.faults files.old) × (out.new ≡ out.old))
+        ⊎ (Told is_twin cube.now cell.now (folder_state F.files F.asked F.faults files.old) (seen (store_state S.faults S.attached S.told S.logs S.names S.calls) store.old store.new) (seen (sink_state O.written O.faults) out.old out.new) result × (F.faults files.new ≡ F.faults files.old)) }
+    ensures asks { AsksAll cube.now.dims cube.now.facts cube.now.policy (F.files files.old) (F.asked files.old) (F.asked files.new) (F.faults files.old) (F.faults files.new) result }
+    ensures names { (store.new ≡ store.old) ⊎ AsksStore journal.now (S.told store.old) (S.names store.old) (S.names store.new) result }
     ensures unkept { result.status ≡ 9 → Rose (S.faults store.old) (S.faults store.new) }
     ensures calls { IsTrue (S.told store.old) → S.calls store.new ≤ S.calls store.old + 7 }
     ensures told { S.told store.new ≡ S.told store.old }
@@ -100,56 +96,22 @@ fn tell_cell<F: Folder, S: Store, O: Sink>(
     ensures output { result.status ≡ 6 → Rose (O.faults out.old) (O.faults out.new) }
     ensures steady { result.status ≢ 5 → F.faults files.new ≡ F.faults files.old }
     ensures output_steady { result.status ≢ 6 → O.faults out.new ≡ O.faults out.old }
-    ensures complete { HasAll dims_name.now facts_name.now policy_name.now (F.files files.old) → HasJournal dims_name.now facts_name.now policy_name.now (F.files files.old) (S.told store.old) (S.logs store.old 0).state.now → HasCell is_twin dims_name.now facts_name.now policy_name.now cell.now (F.files files.old) (S.logs store.old 0).state.now
+    ensures complete { HasAll cube.now.dims cube.now.facts cube.now.policy (F.files files.old) → HasJournal cube.now.dims cube.now.facts cube.now.policy (F.files files.old) (S.told store.old) (S.logs store.old 0).state.now → HasCell is_twin cube.now cell.now (F.files files.old) (S.logs store.old 0).state.now
         → ¬ Rose (F.faults files.old) (F.faults files.new) → ¬ Rose (S.faults store.old) (S.faults store.new) → ¬ Rose (O.faults out.old) (O.faults out.new) → (result.status ≡ 0) ⊎ (result.status ≡ 7) }
     ensures words { result.status ≢ 2 }
+    ensures wire { result.status ≢ 8 }
     ensures outcomes { result.outcomes ≡ [] }
 {
-    let opened = match open_guarded(alloc, room, dims_name, facts_name, policy_name, files) {
+    let opened = match open_guarded(alloc, room, &cube.dims, &cube.facts, &cube.policy, files) {
         Ok(opened) => opened,
         Err(report) => return report,
     };
     let Guarded { core, policy } = opened.value;
     let _rules = core.dims();
-    let started = match open_engine(alloc, opened.room, core, policy, journal_name, 1, store) {
+    let started = match open_engine(alloc, opened.room, core, policy, journal, 1, store) {
         Ok(started) => started,
         Err(report) => return report,
     };
     let told = told_of(alloc, started.value, is_twin, cell);
     put_told(alloc, started.room, told, out)
-}
-
-/// Does what `witness` or `twin` ask for.
-pub fn tell<F: Folder, S: Store, O: Sink>(
-    alloc: Global,
-    room: Room,
-    command: Command,
-    is_twin: bool,
-    words: &[Text],
-    files: &mut F,
-    store: &mut S,
-    out: &mut O,
-) -> Report
-    requires room { room ≡ [] }
-    requires orders { orders_in words.now ≡ Ok command }
-    requires named { (command ≡ orders.Witness) ⊎ (command ≡ orders.Twin) }
-    ensures run { CellRun is_twin (dims_name words.now) (facts_name words.now) (policy_name words.now) (journal_name words.now) (cell_name words.now) (F.files files.old) (F.asked files.old) (F.asked files.new) (F.faults files.old) (F.faults files.new)
-        (S.told store.old) (S.names store.old) (S.names store.new) (S.calls store.old) (S.calls store.new) (S.logs store.old 0) (S.logs store.new 0) (S.faults store.old) (S.faults store.new) (O.written out.old) (O.written out.new) (O.faults out.old) (O.faults out.new) store.old store.new out.old out.new result }
-    ensures others { OthersStay (S.told store.old) 0 (S.logs store.old) (S.logs store.new) }
-    ensures unkept { result.status ≡ 9 → Rose (S.faults store.old) (S.faults store.new) }
-    ensures unreadable { result.status ≡ 5 → Rose (F.faults files.old) (F.faults files.new) }
-    ensures output { result.status ≡ 6 → Rose (O.faults out.old) (O.faults out.new) }
-    ensures steady { result.status ≢ 5 → F.faults files.new ≡ F.faults files.old }
-    ensures output_steady { result.status ≢ 6 → O.faults out.new ≡ O.faults out.old }
-    ensures words { result.status ≢ 2 }
-    ensures outcomes { result.outcomes ≡ [] }
-{
-    let dims = needed_value(words, command, Setting::Dims);
-    let facts = needed_value(words, command, Setting::Facts);
-    let policy = needed_value(words, command, Setting::Policy);
-    let journal = needed_value(words, command, Setting::Journal);
-    let cell = needed_value(words, command, Setting::Cell);
-    tell_cell(
-        alloc, room, is_twin, dims, facts, policy, journal, cell, files, store, out,
-    )
 }

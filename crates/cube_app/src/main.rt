@@ -4,12 +4,11 @@
 mod cells;
 mod making;
 mod run;
-mod serving;
 mod summary;
 #[cfg(test)]
 mod tests;
 
-use cube_edge::{FileFolder, FileStore, ReaderSource, TcpWire, WriterSink};
+use cube_edge::{FileFolder, FileStore, ReaderSource, TcpWire, WriterSink, hold_streams};
 use cube_model::{Items, Text, Texts};
 use run::run;
 use std::env::{Env, FillError};
@@ -38,11 +37,14 @@ fn words_of(rt: &HostRuntime) -> Option<Texts> {
 }
 
 fn main(rt: HostRuntime) -> ExitCode {
+    if hold_streams(&rt, &rt.stdin(), &rt.stdout(), &rt.stderr()).is_err() {
+        return ExitCode::from(5);
+    }
     let Some(words) = words_of(&rt) else {
         return ExitCode::from(7);
     };
     let mut files = FileFolder::new(&rt);
-    let Ok(mut store) = FileStore::new(rt.alloc(), &rt) else {
+    let Ok(mut store) = FileStore::new(rt.alloc(), &rt, rt.stderr()) else {
         return ExitCode::from(7);
     };
     let mut input = ReaderSource::new(rt.reader());

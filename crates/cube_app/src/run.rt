@@ -1,20 +1,19 @@
 // The top call: all that the program does.
-ghost use Rattle.std.specs.Prelude.{◌≡◌, ◌≢◌, ◌⊎◌, ◌≤◌, ◌+◌, ◌++◌, [], true, false, length, decimal, codes, Some, IfErr, IsErr, IfOk, IsTrue, Ok};
+ghost use Rattle.std.specs.Prelude.{◌≡◌, ◌≢◌, ◌⊎◌, ◌≤◌, ◌+◌, ◌++◌, [], true, length, IfOk, IsTrue};
 ghost use Rattle.cube_io.specs.Causes.{Rose};
+ghost use Rattle.cube_io.specs.Seen.{seen, folder_state, source_state, sink_state, store_state, wire_state};
 ghost use Rattle.cube_io.specs.Told.{OthersStay};
-ghost use Rattle.cube_words.specs.Words.{orders_of as orders_in, stated as stated_in, number_of as number_in, size_of as size_in};
+ghost use Rattle.cube_words.specs.Words.{orders_of as orders_in, Fits};
 ghost use Rattle.cube_opening.specs.Reports.{IsReport, NoRoom, Prints};
 ghost use Rattle.cube_opening.specs.Opening.{flat_said, Unopened, AsksOnce, EndsUnopened, AsksAll, HasAll};
-ghost use Rattle.cube_app.specs.Cells.{CellRun};
-ghost use Rattle.cube_app.specs.Making.{DemoRun};
-ghost use Rattle.cube_app.specs.Serves.{ServeRun, ReplayRun};
 ghost use Rattle.cube_starting.specs.Starting.{EndsUnstarted, AsksStore, HasJournal};
-ghost use Rattle.cube_app.specs.Run.{usage_text as usage_words, help_text, version_text, dims_name, facts_name, policy_name, journal_name, cell_name, address_name, script_name, status_of as status_in, ending_text, Answered, HasFlat, Checked, Asked};
-ghost use Rattle.cube_words.specs.declared.words.Command.TheVariants as orders;
+ghost use Rattle.cube_app.specs.Runs.{Obeyed, Runs};
+ghost use Rattle.cube_app.specs.Summary.{Checked};
+ghost use Rattle.cube_app.specs.Talks.{Answered, HasFlat, Asked};
+ghost use Rattle.cube_app.specs.Texts.{usage_text as usage_words, status_of as status_in, ending_text};
 
 use crate::cells::tell;
-use crate::making::demo_words;
-use crate::serving::{replay_words, serve_words};
+use crate::making::show;
 use crate::summary::check_text;
 use cube_engine::Engine;
 use cube_io::{Folder, Sink, Source, Store, Wire};
@@ -22,9 +21,10 @@ use cube_model::{NoMemory, Text};
 use cube_opening::{
     Guarded, Report, Room, no_room, open_flat, open_guarded, spent_room, with_text,
 };
+use cube_serving::{replay_cube, serve_cube};
 use cube_starting::open_engine;
 use cube_talk::{Carry, Ending, TalkEnd, converse_by_asks, converse_by_sums};
-use cube_words::{Command, Setting, Usage, needed_value, orders_of, stated};
+use cube_words::{CubeFiles, Orders, Usage, orders_of};
 use std::alloc::Global;
 
 const HELP: &[u8] =
@@ -70,6 +70,11 @@ pub fn print<O: Sink>(alloc: Global, room: Room, text: &[u8], out: &mut O) -> Re
     ensures output { result.status ≡ 6 → Rose (O.faults out.old) (O.faults out.new) }
     ensures steady { result.status ≢ 6 → O.faults out.new ≡ O.faults out.old }
     ensures status { (result.status ≡ 0) ⊎ (result.status ≡ 6) }
+    ensures words { result.status ≢ 2 }
+    ensures files { result.status ≢ 5 }
+    ensures wire { result.status ≢ 8 }
+    ensures store { result.status ≢ 9 }
+    ensures outcomes { result.outcomes ≡ [] }
 {
     match out.put(text) {
         Ok(()) => room.close(alloc, 0),
@@ -121,7 +126,7 @@ fn sum<F: Folder, S: Store, I: Source, O: Sink>(
 ) -> Report
     requires { room ≡ [] }
     ensures answers { (Unopened flat_said name.now (F.files files.old) (F.faults files.old) (F.faults files.new) result × (input.new ≡ input.old) × (out.new ≡ out.old))
-        ⊎ (Answered name.now (F.files files.old) (I.left input.old) (I.left input.new) (O.written out.old) (O.written out.new) result × (F.faults files.new ≡ F.faults files.old)) }
+        ⊎ (Answered name.now (folder_state F.files F.asked F.faults files.old) (seen (source_state I.left I.ended I.faults) input.old input.new) (seen (sink_state O.written O.faults) out.old out.new) result × (F.faults files.new ≡ F.faults files.old)) }
     ensures asks { AsksOnce name.now (F.asked files.old) (F.asked files.new) (F.faults files.old) (F.faults files.new) result }
     ensures ended { result.status ≡ 0 → I.ended input.new ≡ true }
     ensures unreadable { result.status ≡ 5 → (Rose (F.faults files.old) (F.faults files.new) × (I.faults input.new ≡ I.faults input.old)) ⊎ (Rose (I.faults input.old) (I.faults input.new) × (F.faults files.new ≡ F.faults files.old)) }
@@ -130,6 +135,8 @@ fn sum<F: Folder, S: Store, I: Source, O: Sink>(
     ensures output_steady { result.status ≢ 6 → O.faults out.new ≡ O.faults out.old }
     ensures complete { HasFlat name.now (F.files files.old) → result.status ≢ 10 → ¬ Rose (F.faults files.old) (F.faults files.new) → ¬ Rose (I.faults input.old) (I.faults input.new) → ¬ Rose (O.faults out.old) (O.faults out.new) → (result.status ≡ 0) ⊎ (result.status ≡ 7) }
     ensures words { result.status ≢ 2 }
+    ensures wire { result.status ≢ 8 }
+    ensures kept { result.status ≢ 9 }
     ensures outcomes { result.outcomes ≡ [] }
     ensures store { store.new ≡ store.old }
 {
@@ -148,25 +155,25 @@ fn sum<F: Folder, S: Store, I: Source, O: Sink>(
 fn check<F: Folder, O: Sink>(
     alloc: Global,
     room: Room,
-    dims_name: &Text,
-    facts_name: &Text,
-    policy_name: &Text,
+    cube: &CubeFiles,
     files: &mut F,
     out: &mut O,
 ) -> Report
     requires { room ≡ [] }
-    ensures checks { (EndsUnopened dims_name.now facts_name.now policy_name.now (F.files files.old) (F.faults files.old) (F.faults files.new) result × (out.new ≡ out.old))
-        ⊎ (Checked dims_name.now facts_name.now policy_name.now (F.files files.old) (O.written out.old) (O.written out.new) result × (F.faults files.new ≡ F.faults files.old)) }
-    ensures asks { AsksAll dims_name.now facts_name.now policy_name.now (F.files files.old) (F.asked files.old) (F.asked files.new) (F.faults files.old) (F.faults files.new) result }
+    ensures checks { (EndsUnopened cube.now.dims cube.now.facts cube.now.policy (F.files files.old) (F.faults files.old) (F.faults files.new) result × (out.new ≡ out.old))
+        ⊎ (Checked cube.now (folder_state F.files F.asked F.faults files.old) (seen (sink_state O.written O.faults) out.old out.new) result × (F.faults files.new ≡ F.faults files.old)) }
+    ensures asks { AsksAll cube.now.dims cube.now.facts cube.now.policy (F.files files.old) (F.asked files.old) (F.asked files.new) (F.faults files.old) (F.faults files.new) result }
     ensures unreadable { result.status ≡ 5 → Rose (F.faults files.old) (F.faults files.new) }
     ensures output { result.status ≡ 6 → Rose (O.faults out.old) (O.faults out.new) }
     ensures steady { result.status ≢ 5 → F.faults files.new ≡ F.faults files.old }
     ensures output_steady { result.status ≢ 6 → O.faults out.new ≡ O.faults out.old }
-    ensures complete { HasAll dims_name.now facts_name.now policy_name.now (F.files files.old) → ¬ Rose (F.faults files.old) (F.faults files.new) → ¬ Rose (O.faults out.old) (O.faults out.new) → (result.status ≡ 0) ⊎ (result.status ≡ 7) }
+    ensures complete { HasAll cube.now.dims cube.now.facts cube.now.policy (F.files files.old) → ¬ Rose (F.faults files.old) (F.faults files.new) → ¬ Rose (O.faults out.old) (O.faults out.new) → (result.status ≡ 0) ⊎ (result.status ≡ 7) }
     ensures words { result.status ≢ 2 }
+    ensures wire { result.status ≢ 8 }
+    ensures store { result.status ≢ 9 }
     ensures outcomes { result.outcomes ≡ [] }
 {
-    let opened = match open_guarded(alloc, room, dims_name, facts_name, policy_name, files) {
+    let opened = match open_guarded(alloc, room, &cube.dims, &cube.facts, &cube.policy, files) {
         Ok(opened) => opened,
         Err(report) => return report,
     };
@@ -190,10 +197,8 @@ fn report_asks(room: Room, end: TalkEnd, engine: Engine) -> Report
 fn ask<F: Folder, S: Store, I: Source, O: Sink>(
     alloc: Global,
     room: Room,
-    dims_name: &Text,
-    facts_name: &Text,
-    policy_name: &Text,
-    journal_name: &Text,
+    cube: &CubeFiles,
+    journal: &Text,
     stated: u64,
     files: &mut F,
     store: &mut S,
@@ -202,11 +207,11 @@ fn ask<F: Folder, S: Store, I: Source, O: Sink>(
 ) -> Report
     requires room { room ≡ [] }
     requires stated { 1 ≤ stated }
-    ensures answers { (EndsUnopened dims_name.now facts_name.now policy_name.now (F.files files.old) (F.faults files.old) (F.faults files.new) result × (store.new ≡ store.old) × (input.new ≡ input.old) × (out.new ≡ out.old))
-        ⊎ (EndsUnstarted dims_name.now facts_name.now policy_name.now (F.files files.old) (S.told store.old) (S.logs store.old 0) (S.logs store.new 0) (S.faults store.old) (S.faults store.new) result × (F.faults files.new ≡ F.faults files.old) × (input.new ≡ input.old) × (out.new ≡ out.old))
-        ⊎ (Asked dims_name.now facts_name.now policy_name.now stated (F.files files.old) (S.told store.old) (S.logs store.old 0) (S.logs store.new 0) (S.faults store.old) (S.faults store.new) (I.left input.old) (I.left input.new) (O.written out.old) (O.written out.new) result × (F.faults files.new ≡ F.faults files.old)) }
-    ensures asks { AsksAll dims_name.now facts_name.now policy_name.now (F.files files.old) (F.asked files.old) (F.asked files.new) (F.faults files.old) (F.faults files.new) result }
-    ensures names { (store.new ≡ store.old) ⊎ AsksStore journal_name.now (S.told store.old) (S.names store.old) (S.names store.new) result }
+    ensures answers { (EndsUnopened cube.now.dims cube.now.facts cube.now.policy (F.files files.old) (F.faults files.old) (F.faults files.new) result × (store.new ≡ store.old) × (input.new ≡ input.old) × (out.new ≡ out.old))
+        ⊎ (EndsUnstarted cube.now.dims cube.now.facts cube.now.policy (F.files files.old) (S.told store.old) (S.logs store.old 0) (S.logs store.new 0) (S.faults store.old) (S.faults store.new) result × (F.faults files.new ≡ F.faults files.old) × (input.new ≡ input.old) × (out.new ≡ out.old))
+        ⊎ (Asked cube.now stated (folder_state F.files F.asked F.faults files.old) (seen (store_state S.faults S.attached S.told S.logs S.names S.calls) store.old store.new) (seen (source_state I.left I.ended I.faults) input.old input.new) (seen (sink_state O.written O.faults) out.old out.new) result × (F.faults files.new ≡ F.faults files.old)) }
+    ensures asks { AsksAll cube.now.dims cube.now.facts cube.now.policy (F.files files.old) (F.asked files.old) (F.asked files.new) (F.faults files.old) (F.faults files.new) result }
+    ensures names { (store.new ≡ store.old) ⊎ AsksStore journal.now (S.told store.old) (S.names store.old) (S.names store.new) result }
     ensures unkept { result.status ≡ 9 → Rose (S.faults store.old) (S.faults store.new) × (result.outcomes ≡ []) }
     ensures calls { result.status ≡ 9 → IsTrue (S.told store.old) → S.calls store.new ≤ S.calls store.old + 7 }
     ensures told { S.told store.new ≡ S.told store.old }
@@ -217,25 +222,18 @@ fn ask<F: Folder, S: Store, I: Source, O: Sink>(
     ensures memory { result.status ≡ 7 → (input.new ≡ input.old) × (out.new ≡ out.old) × (result.outcomes ≡ []) }
     ensures steady { result.status ≢ 5 → (F.faults files.new ≡ F.faults files.old) × (I.faults input.new ≡ I.faults input.old) }
     ensures output_steady { result.status ≢ 6 → O.faults out.new ≡ O.faults out.old }
-    ensures complete { HasAll dims_name.now facts_name.now policy_name.now (F.files files.old) → HasJournal dims_name.now facts_name.now policy_name.now (F.files files.old) (S.told store.old) (S.logs store.old 0).state.now → result.status ≢ 10
+    ensures complete { HasAll cube.now.dims cube.now.facts cube.now.policy (F.files files.old) → HasJournal cube.now.dims cube.now.facts cube.now.policy (F.files files.old) (S.told store.old) (S.logs store.old 0).state.now → result.status ≢ 10
         → ¬ Rose (F.faults files.old) (F.faults files.new) → (result.outcomes ≡ [] → ¬ Rose (S.faults store.old) (S.faults store.new)) → ¬ Rose (I.faults input.old) (I.faults input.new) → ¬ Rose (O.faults out.old) (O.faults out.new) → (result.status ≡ 0) ⊎ (result.status ≡ 7) }
     ensures words { result.status ≢ 2 }
+    ensures wire { result.status ≢ 8 }
 {
-    let opened = match open_guarded(alloc, room, dims_name, facts_name, policy_name, files) {
+    let opened = match open_guarded(alloc, room, &cube.dims, &cube.facts, &cube.policy, files) {
         Ok(opened) => opened,
         Err(report) => return report,
     };
     let Guarded { core, policy } = opened.value;
     let _rules = core.dims();
-    let started = match open_engine(
-        alloc,
-        opened.room,
-        core,
-        policy,
-        journal_name,
-        stated,
-        store,
-    ) {
+    let started = match open_engine(alloc, opened.room, core, policy, journal, stated, store) {
         Ok(started) => started,
         Err(report) => return report,
     };
@@ -246,12 +244,11 @@ fn ask<F: Folder, S: Store, I: Source, O: Sink>(
     report_asks(started.room, end, engine)
 }
 
-// Does what a command asks for.
+// Does what is ordered.
 fn obey<F: Folder, S: Store, I: Source, O: Sink, W: Wire>(
     alloc: Global,
     room: Room,
-    command: Command,
-    words: &[Text],
+    orders: Orders,
     files: &mut F,
     store: &mut S,
     input: &mut I,
@@ -259,119 +256,82 @@ fn obey<F: Folder, S: Store, I: Source, O: Sink, W: Wire>(
     wire: &mut W,
 ) -> Report
     requires room { room ≡ [] }
-    requires orders { orders_in words.now ≡ Ok command }
+    requires fits { Fits orders }
     requires quiet { IsTrue (W.told wire.old) → W.log wire.old ≡ [] }
-    // The texts about the program go to the sink.
-    ensures help { command ≡ orders.Help → Prints help_text (O.written out.old) (O.written out.new) result }
-    ensures version { command ≡ orders.Version → Prints version_text (O.written out.old) (O.written out.new) result }
-
-    // The lines of the input are answered by the sums over the file, unless the run ended before.
-    ensures sum { command ≡ orders.Sum → (Unopened flat_said (facts_name words.now) (F.files files.old) (F.faults files.old) (F.faults files.new) result × (input.new ≡ input.old) × (out.new ≡ out.old))
-        ⊎ (Answered (facts_name words.now) (F.files files.old) (I.left input.old) (I.left input.new) (O.written out.old) (O.written out.new) result × (F.faults files.new ≡ F.faults files.old)) }
-    ensures asks { command ≡ orders.Sum → AsksOnce (facts_name words.now) (F.asked files.old) (F.asked files.new) (F.faults files.old) (F.faults files.new) result }
-    ensures ended { command ≡ orders.Sum → result.status ≡ 0 → I.ended input.new ≡ true }
-
-    // The summary of the files is put on the sink, unless the run ended before.
-    ensures check { command ≡ orders.Check → (EndsUnopened (dims_name words.now) (facts_name words.now) (policy_name words.now) (F.files files.old) (F.faults files.old) (F.faults files.new) result × (out.new ≡ out.old))
-        ⊎ (Checked (dims_name words.now) (facts_name words.now) (policy_name words.now) (F.files files.old) (O.written out.old) (O.written out.new) result × (F.faults files.new ≡ F.faults files.old)) }
-    ensures asks_all { command ≡ orders.Check → AsksAll (dims_name words.now) (facts_name words.now) (policy_name words.now) (F.files files.old) (F.asked files.old) (F.asked files.new) (F.faults files.old) (F.faults files.new) result }
-
-    // The asks of the input are answered by the cube of the files, unless the run ended before.
-    ensures ask { command ≡ orders.Ask → (EndsUnopened (dims_name words.now) (facts_name words.now) (policy_name words.now) (F.files files.old) (F.faults files.old) (F.faults files.new) result × (store.new ≡ store.old) × (input.new ≡ input.old) × (out.new ≡ out.old))
-        ⊎ (EndsUnstarted (dims_name words.now) (facts_name words.now) (policy_name words.now) (F.files files.old) (S.told store.old) (S.logs store.old 0) (S.logs store.new 0) (S.faults store.old) (S.faults store.new) result × (F.faults files.new ≡ F.faults files.old) × (input.new ≡ input.old) × (out.new ≡ out.old))
-        ⊎ (Asked (dims_name words.now) (facts_name words.now) (policy_name words.now) (stated_in words.now) (F.files files.old) (S.told store.old) (S.logs store.old 0) (S.logs store.new 0) (S.faults store.old) (S.faults store.new) (I.left input.old) (I.left input.new) (O.written out.old) (O.written out.new) result × (F.faults files.new ≡ F.faults files.old)) }
-    ensures ask_names { command ≡ orders.Ask → (store.new ≡ store.old) ⊎ AsksStore (journal_name words.now) (S.told store.old) (S.names store.old) (S.names store.new) result }
-    ensures ask_calls { command ≡ orders.Ask → result.status ≡ 9 → IsTrue (S.told store.old) → S.calls store.new ≤ S.calls store.old + 7 }
-    ensures ask_asks { command ≡ orders.Ask → AsksAll (dims_name words.now) (facts_name words.now) (policy_name words.now) (F.files files.old) (F.asked files.old) (F.asked files.new) (F.faults files.old) (F.faults files.new) result }
-    ensures ask_ended { command ≡ orders.Ask → result.status ≡ 0 → I.ended input.new ≡ true }
-    ensures ask_memory { command ≡ orders.Ask → result.status ≡ 7 → (input.new ≡ input.old) × (out.new ≡ out.old) × (result.outcomes ≡ []) }
-
-    // What hides a cell is put on the sink, as changes or as the fact file of the twin, unless the run ended before.
-    ensures witness { command ≡ orders.Witness → CellRun false (dims_name words.now) (facts_name words.now) (policy_name words.now) (journal_name words.now) (cell_name words.now) (F.files files.old) (F.asked files.old) (F.asked files.new) (F.faults files.old) (F.faults files.new)
-        (S.told store.old) (S.names store.old) (S.names store.new) (S.calls store.old) (S.calls store.new) (S.logs store.old 0) (S.logs store.new 0) (S.faults store.old) (S.faults store.new) (O.written out.old) (O.written out.new) (O.faults out.old) (O.faults out.new) store.old store.new out.old out.new result }
-    ensures twin { command ≡ orders.Twin → CellRun true (dims_name words.now) (facts_name words.now) (policy_name words.now) (journal_name words.now) (cell_name words.now) (F.files files.old) (F.asked files.old) (F.asked files.new) (F.faults files.old) (F.faults files.new)
-        (S.told store.old) (S.names store.old) (S.names store.new) (S.calls store.old) (S.calls store.new) (S.logs store.old 0) (S.logs store.new 0) (S.faults store.old) (S.faults store.new) (O.written out.old) (O.written out.new) (O.faults out.old) (O.faults out.new) store.old store.new out.old out.new result }
-
-    // The connections of the wire are served by the cube of the files, unless the run ended before.
-    ensures serve { command ≡ orders.Serve → ServeRun (dims_name words.now) (facts_name words.now) (policy_name words.now) (journal_name words.now) (address_name words.now) (stated_in words.now) (F.files files.old) (F.asked files.old) (F.asked files.new) (F.faults files.old) (F.faults files.new)
-        (S.told store.old) (S.names store.old) (S.names store.new) (S.logs store.old 0) (S.logs store.new 0) (S.faults store.old) (S.faults store.new) (W.told wire.old) (W.heard wire.old) (W.heard wire.new) (W.log wire.new) (W.faults wire.old) (W.faults wire.new) store.old store.new wire.old wire.new result }
-
-    // The script is played to the cube of the files, and the log of what was sent is put on the sink, unless the run ended before.
-    ensures replay { command ≡ orders.Replay → ReplayRun (dims_name words.now) (facts_name words.now) (policy_name words.now) (journal_name words.now) (script_name words.now) (stated_in words.now) (F.files files.old) (F.asked files.old) (F.asked files.new) (F.faults files.old) (F.faults files.new)
-        (S.told store.old) (S.names store.old) (S.names store.new) (S.logs store.old 0) (S.logs store.new 0) (S.faults store.old) (S.faults store.new) (O.written out.old) (O.written out.new) (O.faults out.old) (O.faults out.new) store.old store.new out.old out.new result }
-
-    // The summary of a made cube is put on the sink, unless the run ended before.
-    ensures demo { command ≡ orders.Demo → DemoRun (number_in words.now) (size_in words.now) (O.written out.old) (O.written out.new) out.old out.new result }
-
-    // A fault is answered only where it was counted in this call, and at most one count rises.
-    ensures unreadable { result.status ≡ 5 → (Rose (F.faults files.old) (F.faults files.new) × (I.faults input.new ≡ I.faults input.old)) ⊎ (Rose (I.faults input.old) (I.faults input.new) × (F.faults files.new ≡ F.faults files.old)) }
-    ensures output { result.status ≡ 6 → Rose (O.faults out.old) (O.faults out.new) }
-    ensures unkept { result.status ≡ 9 → Rose (S.faults store.old) (S.faults store.new) × (result.outcomes ≡ []) }
-    ensures steady { result.status ≢ 5 → (F.faults files.new ≡ F.faults files.old) × (I.faults input.new ≡ I.faults input.old) }
-    ensures output_steady { result.status ≢ 6 → O.faults out.new ≡ O.faults out.old }
-
-    // Where the file is accepted, no count rose and less was taken than is taken at most, all was done, or memory ran out.
-    ensures complete { command ≡ orders.Sum → HasFlat (facts_name words.now) (F.files files.old) → result.status ≢ 10
-        → ¬ Rose (F.faults files.old) (F.faults files.new) → ¬ Rose (I.faults input.old) (I.faults input.new) → ¬ Rose (O.faults out.old) (O.faults out.new) → (result.status ≡ 0) ⊎ (result.status ≡ 7) }
-
-    ensures check_complete { command ≡ orders.Check → HasAll (dims_name words.now) (facts_name words.now) (policy_name words.now) (F.files files.old)
-        → ¬ Rose (F.faults files.old) (F.faults files.new) → ¬ Rose (O.faults out.old) (O.faults out.new) → (result.status ≡ 0) ⊎ (result.status ≡ 7) }
-
-    ensures ask_complete { command ≡ orders.Ask → HasAll (dims_name words.now) (facts_name words.now) (policy_name words.now) (F.files files.old) → HasJournal (dims_name words.now) (facts_name words.now) (policy_name words.now) (F.files files.old) (S.told store.old) (S.logs store.old 0).state.now → result.status ≢ 10
-        → ¬ Rose (F.faults files.old) (F.faults files.new) → (result.outcomes ≡ [] → ¬ Rose (S.faults store.old) (S.faults store.new)) → ¬ Rose (I.faults input.old) (I.faults input.new) → ¬ Rose (O.faults out.old) (O.faults out.new) → (result.status ≡ 0) ⊎ (result.status ≡ 7) }
-
-    // What a command doesn't use is as at entry.
-    ensures unread { command ≢ orders.Sum → command ≢ orders.Ask → input.new ≡ input.old }
-    ensures unused { command ≢ orders.Sum → command ≢ orders.Check → command ≢ orders.Ask → command ≢ orders.Witness → command ≢ orders.Twin → command ≢ orders.Serve → command ≢ orders.Replay → files.new ≡ files.old }
-    ensures words { result.status ≢ 2 }
-    ensures store { command ≢ orders.Ask → command ≢ orders.Witness → command ≢ orders.Twin → command ≢ orders.Serve → command ≢ orders.Replay → store.new ≡ store.old }
-    ensures others { OthersStay (S.told store.old) 0 (S.logs store.old) (S.logs store.new) }
-    ensures outcomes { command ≢ orders.Ask → command ≢ orders.Serve → command ≢ orders.Replay → result.outcomes ≡ [] }
-    ensures wire { command ≢ orders.Serve → wire.new ≡ wire.old }
-    ensures unheard { result.status ≡ 8 → Rose (W.faults wire.old) (W.faults wire.new) }
-    ensures wire_steady { result.status ≢ 8 → W.faults wire.new ≡ W.faults wire.old }
+    ensures { Obeyed orders (record {
+      files = seen (folder_state F.files F.asked F.faults) files.old files.new;
+      store = seen (store_state S.faults S.attached S.told S.logs S.names S.calls) store.old store.new;
+      input = seen (source_state I.left I.ended I.faults) input.old input.new;
+      out = seen (sink_state O.written O.faults) out.old out.new;
+      wire = seen (wire_state W.faults W.send_faults W.told W.log W.heard W.plan) wire.old wire.new;
+    }) result }
 {
-    match command {
-        Command::Help => print(alloc, room, HELP, out),
-        Command::Version => print(alloc, room, VERSION, out),
-        Command::Sum => {
-            let facts = needed_value(words, command, Setting::Facts);
-            sum(alloc, room, facts, files, store, input, out)
-        }
-        Command::Check => {
-            let dims = needed_value(words, command, Setting::Dims);
-            let facts = needed_value(words, command, Setting::Facts);
-            let policy = needed_value(words, command, Setting::Policy);
-            check(alloc, room, dims, facts, policy, files, out)
-        }
-        Command::Ask => {
-            let dims = needed_value(words, command, Setting::Dims);
-            let facts = needed_value(words, command, Setting::Facts);
-            let policy = needed_value(words, command, Setting::Policy);
-            let journal = needed_value(words, command, Setting::Journal);
-            ask(
-                alloc,
-                room,
-                dims,
-                facts,
-                policy,
-                journal,
-                stated(words, command),
-                files,
-                store,
-                input,
-                out,
-            )
-        }
-        Command::Witness => tell(alloc, room, command, false, words, files, store, out),
-        Command::Twin => tell(alloc, room, command, true, words, files, store, out),
-        Command::Serve => serve_words(alloc, room, words, files, store, wire),
-        Command::Replay => replay_words(alloc, room, words, files, store, out),
-        Command::Demo => demo_words(alloc, room, words, out),
+    match orders {
+        Orders::Help => print(alloc, room, HELP, out),
+        Orders::Version => print(alloc, room, VERSION, out),
+        Orders::Sum { facts } => sum(alloc, room, &facts, files, store, input, out),
+        Orders::Check { files: cube } => check(alloc, room, &cube, files, out),
+        Orders::Ask {
+            files: cube,
+            journal,
+            stated,
+        } => ask(
+            alloc, room, &cube, &journal, stated, files, store, input, out,
+        ),
+        Orders::Witness {
+            files: cube,
+            journal,
+            cell,
+        } => tell(
+            alloc, room, false, &cube, &journal, &cell, files, store, out,
+        ),
+        Orders::Twin {
+            files: cube,
+            journal,
+            cell,
+        } => tell(alloc, room, true, &cube, &journal, &cell, files, store, out),
+        Orders::Serve {
+            files: cube,
+            journal,
+            address,
+            stated,
+        } => serve_cube(
+            alloc,
+            room,
+            &cube.dims,
+            &cube.facts,
+            &cube.policy,
+            &journal,
+            &address,
+            stated,
+            files,
+            store,
+            wire,
+        ),
+        Orders::Replay {
+            files: cube,
+            journal,
+            script,
+            stated,
+        } => replay_cube(
+            alloc,
+            room,
+            &cube.dims,
+            &cube.facts,
+            &cube.policy,
+            &journal,
+            &script,
+            stated,
+            files,
+            store,
+            out,
+        ),
+        Orders::Demo { making } => show(alloc, room, making, out),
     }
 }
 
 /// All that the program does. It takes the words of the command line and the objects outside, and answers how the run ended.
+#[tactic(auto, using(crate::proofs::Ordered::not_begun, crate::proofs::Ordered::refused_as, crate::proofs::Ordered::run_as))]
 pub fn run<F: Folder, S: Store, I: Source, O: Sink, W: Wire>(
     alloc: Global,
     words: &[Text],
@@ -382,85 +342,20 @@ pub fn run<F: Folder, S: Store, I: Source, O: Sink, W: Wire>(
     wire: &mut W,
 ) -> Report
     requires { IsTrue (W.told wire.old) → W.log wire.old ≡ [] }
-
-    // Wrong words are answered by status 2 and their text, and nothing is used.
-    ensures usage { IfErr (orders_in words.now) (λ wrong. (IsReport 2 (usage_words words.now wrong) result ⊎ NoRoom result) × (out.new ≡ out.old)) }
-    ensures usage_only { result.status ≡ 2 → IsErr (orders_in words.now) }
-
-    // The texts about the program go to the sink.
-    ensures help { orders_in words.now ≡ Ok orders.Help → Prints help_text (O.written out.old) (O.written out.new) result }
-    ensures version { orders_in words.now ≡ Ok orders.Version → Prints version_text (O.written out.old) (O.written out.new) result }
-
-    // The lines of the input are answered by the sums over the file, unless the run ended before.
-    ensures sum { orders_in words.now ≡ Ok orders.Sum → (Unopened flat_said (facts_name words.now) (F.files files.old) (F.faults files.old) (F.faults files.new) result × (input.new ≡ input.old) × (out.new ≡ out.old))
-        ⊎ (Answered (facts_name words.now) (F.files files.old) (I.left input.old) (I.left input.new) (O.written out.old) (O.written out.new) result × (F.faults files.new ≡ F.faults files.old)) }
-    ensures asks { orders_in words.now ≡ Ok orders.Sum → AsksOnce (facts_name words.now) (F.asked files.old) (F.asked files.new) (F.faults files.old) (F.faults files.new) result }
-    ensures ended { orders_in words.now ≡ Ok orders.Sum → result.status ≡ 0 → I.ended input.new ≡ true }
-
-    // The summary of the files is put on the sink, unless the run ended before.
-    ensures check { orders_in words.now ≡ Ok orders.Check → (EndsUnopened (dims_name words.now) (facts_name words.now) (policy_name words.now) (F.files files.old) (F.faults files.old) (F.faults files.new) result × (out.new ≡ out.old))
-        ⊎ (Checked (dims_name words.now) (facts_name words.now) (policy_name words.now) (F.files files.old) (O.written out.old) (O.written out.new) result × (F.faults files.new ≡ F.faults files.old)) }
-    ensures asks_all { orders_in words.now ≡ Ok orders.Check → AsksAll (dims_name words.now) (facts_name words.now) (policy_name words.now) (F.files files.old) (F.asked files.old) (F.asked files.new) (F.faults files.old) (F.faults files.new) result }
-
-    // The asks of the input are answered by the cube of the files, unless the run ended before.
-    ensures ask { orders_in words.now ≡ Ok orders.Ask → (EndsUnopened (dims_name words.now) (facts_name words.now) (policy_name words.now) (F.files files.old) (F.faults files.old) (F.faults files.new) result × (store.new ≡ store.old) × (input.new ≡ input.old) × (out.new ≡ out.old))
-        ⊎ (EndsUnstarted (dims_name words.now) (facts_name words.now) (policy_name words.now) (F.files files.old) (S.told store.old) (S.logs store.old 0) (S.logs store.new 0) (S.faults store.old) (S.faults store.new) result × (F.faults files.new ≡ F.faults files.old) × (input.new ≡ input.old) × (out.new ≡ out.old))
-        ⊎ (Asked (dims_name words.now) (facts_name words.now) (policy_name words.now) (stated_in words.now) (F.files files.old) (S.told store.old) (S.logs store.old 0) (S.logs store.new 0) (S.faults store.old) (S.faults store.new) (I.left input.old) (I.left input.new) (O.written out.old) (O.written out.new) result × (F.faults files.new ≡ F.faults files.old)) }
-    ensures ask_names { orders_in words.now ≡ Ok orders.Ask → (store.new ≡ store.old) ⊎ AsksStore (journal_name words.now) (S.told store.old) (S.names store.old) (S.names store.new) result }
-    ensures ask_calls { orders_in words.now ≡ Ok orders.Ask → result.status ≡ 9 → IsTrue (S.told store.old) → S.calls store.new ≤ S.calls store.old + 7 }
-    ensures ask_asks { orders_in words.now ≡ Ok orders.Ask → AsksAll (dims_name words.now) (facts_name words.now) (policy_name words.now) (F.files files.old) (F.asked files.old) (F.asked files.new) (F.faults files.old) (F.faults files.new) result }
-    ensures ask_ended { orders_in words.now ≡ Ok orders.Ask → result.status ≡ 0 → I.ended input.new ≡ true }
-    ensures ask_memory { orders_in words.now ≡ Ok orders.Ask → result.status ≡ 7 → (input.new ≡ input.old) × (out.new ≡ out.old) × (result.outcomes ≡ []) }
-
-    // What hides a cell is put on the sink, as changes or as the fact file of the twin, unless the run ended before.
-    ensures witness { orders_in words.now ≡ Ok orders.Witness → CellRun false (dims_name words.now) (facts_name words.now) (policy_name words.now) (journal_name words.now) (cell_name words.now) (F.files files.old) (F.asked files.old) (F.asked files.new) (F.faults files.old) (F.faults files.new)
-        (S.told store.old) (S.names store.old) (S.names store.new) (S.calls store.old) (S.calls store.new) (S.logs store.old 0) (S.logs store.new 0) (S.faults store.old) (S.faults store.new) (O.written out.old) (O.written out.new) (O.faults out.old) (O.faults out.new) store.old store.new out.old out.new result }
-    ensures twin { orders_in words.now ≡ Ok orders.Twin → CellRun true (dims_name words.now) (facts_name words.now) (policy_name words.now) (journal_name words.now) (cell_name words.now) (F.files files.old) (F.asked files.old) (F.asked files.new) (F.faults files.old) (F.faults files.new)
-        (S.told store.old) (S.names store.old) (S.names store.new) (S.calls store.old) (S.calls store.new) (S.logs store.old 0) (S.logs store.new 0) (S.faults store.old) (S.faults store.new) (O.written out.old) (O.written out.new) (O.faults out.old) (O.faults out.new) store.old store.new out.old out.new result }
-
-    // The connections of the wire are served by the cube of the files, unless the run ended before.
-    ensures serve { orders_in words.now ≡ Ok orders.Serve → ServeRun (dims_name words.now) (facts_name words.now) (policy_name words.now) (journal_name words.now) (address_name words.now) (stated_in words.now) (F.files files.old) (F.asked files.old) (F.asked files.new) (F.faults files.old) (F.faults files.new)
-        (S.told store.old) (S.names store.old) (S.names store.new) (S.logs store.old 0) (S.logs store.new 0) (S.faults store.old) (S.faults store.new) (W.told wire.old) (W.heard wire.old) (W.heard wire.new) (W.log wire.new) (W.faults wire.old) (W.faults wire.new) store.old store.new wire.old wire.new result }
-
-    // The script is played to the cube of the files, and the log of what was sent is put on the sink, unless the run ended before.
-    ensures replay { orders_in words.now ≡ Ok orders.Replay → ReplayRun (dims_name words.now) (facts_name words.now) (policy_name words.now) (journal_name words.now) (script_name words.now) (stated_in words.now) (F.files files.old) (F.asked files.old) (F.asked files.new) (F.faults files.old) (F.faults files.new)
-        (S.told store.old) (S.names store.old) (S.names store.new) (S.logs store.old 0) (S.logs store.new 0) (S.faults store.old) (S.faults store.new) (O.written out.old) (O.written out.new) (O.faults out.old) (O.faults out.new) store.old store.new out.old out.new result }
-
-    // The summary of a made cube is put on the sink, unless the run ended before.
-    ensures demo { orders_in words.now ≡ Ok orders.Demo → DemoRun (number_in words.now) (size_in words.now) (O.written out.old) (O.written out.new) out.old out.new result }
-
-    // A fault is answered only where it was counted in this call, and at most one count rises.
-    ensures unreadable { result.status ≡ 5 → (Rose (F.faults files.old) (F.faults files.new) × (I.faults input.new ≡ I.faults input.old)) ⊎ (Rose (I.faults input.old) (I.faults input.new) × (F.faults files.new ≡ F.faults files.old)) }
-    ensures output { result.status ≡ 6 → Rose (O.faults out.old) (O.faults out.new) }
-    ensures unkept { result.status ≡ 9 → Rose (S.faults store.old) (S.faults store.new) × (result.outcomes ≡ []) }
-    ensures steady { result.status ≢ 5 → (F.faults files.new ≡ F.faults files.old) × (I.faults input.new ≡ I.faults input.old) }
-    ensures output_steady { result.status ≢ 6 → O.faults out.new ≡ O.faults out.old }
-
-    // Where the file is accepted, no count rose and less was taken than is taken at most, all was done, or memory ran out.
-    ensures complete { orders_in words.now ≡ Ok orders.Sum → HasFlat (facts_name words.now) (F.files files.old) → result.status ≢ 10
-        → ¬ Rose (F.faults files.old) (F.faults files.new) → ¬ Rose (I.faults input.old) (I.faults input.new) → ¬ Rose (O.faults out.old) (O.faults out.new) → (result.status ≡ 0) ⊎ (result.status ≡ 7) }
-
-    ensures check_complete { orders_in words.now ≡ Ok orders.Check → HasAll (dims_name words.now) (facts_name words.now) (policy_name words.now) (F.files files.old)
-        → ¬ Rose (F.faults files.old) (F.faults files.new) → ¬ Rose (O.faults out.old) (O.faults out.new) → (result.status ≡ 0) ⊎ (result.status ≡ 7) }
-
-    ensures ask_complete { orders_in words.now ≡ Ok orders.Ask → HasAll (dims_name words.now) (facts_name words.now) (policy_name words.now) (F.files files.old) → HasJournal (dims_name words.now) (facts_name words.now) (policy_name words.now) (F.files files.old) (S.told store.old) (S.logs store.old 0).state.now → result.status ≢ 10
-        → ¬ Rose (F.faults files.old) (F.faults files.new) → (result.outcomes ≡ [] → ¬ Rose (S.faults store.old) (S.faults store.new)) → ¬ Rose (I.faults input.old) (I.faults input.new) → ¬ Rose (O.faults out.old) (O.faults out.new) → (result.status ≡ 0) ⊎ (result.status ≡ 7) }
-
-    // What a command doesn't use is as at entry.
-    ensures unread { orders_in words.now ≢ Ok orders.Sum → orders_in words.now ≢ Ok orders.Ask → input.new ≡ input.old }
-    ensures unused { orders_in words.now ≢ Ok orders.Sum → orders_in words.now ≢ Ok orders.Check → orders_in words.now ≢ Ok orders.Ask → orders_in words.now ≢ Ok orders.Witness → orders_in words.now ≢ Ok orders.Twin → orders_in words.now ≢ Ok orders.Serve → orders_in words.now ≢ Ok orders.Replay → files.new ≡ files.old }
-    ensures store { orders_in words.now ≢ Ok orders.Ask → orders_in words.now ≢ Ok orders.Witness → orders_in words.now ≢ Ok orders.Twin → orders_in words.now ≢ Ok orders.Serve → orders_in words.now ≢ Ok orders.Replay → store.new ≡ store.old }
-    ensures others { OthersStay (S.told store.old) 0 (S.logs store.old) (S.logs store.new) }
-    ensures wire { orders_in words.now ≢ Ok orders.Serve → wire.new ≡ wire.old }
-    ensures unheard { result.status ≡ 8 → Rose (W.faults wire.old) (W.faults wire.new) }
-    ensures wire_steady { result.status ≢ 8 → W.faults wire.new ≡ W.faults wire.old }
-    ensures outcomes { orders_in words.now ≢ Ok orders.Ask → orders_in words.now ≢ Ok orders.Serve → orders_in words.now ≢ Ok orders.Replay → result.outcomes ≡ [] }
+    ensures { Runs words.now (orders_in words.now) (record {
+      files = seen (folder_state F.files F.asked F.faults) files.old files.new;
+      store = seen (store_state S.faults S.attached S.told S.logs S.names S.calls) store.old store.new;
+      input = seen (source_state I.left I.ended I.faults) input.old input.new;
+      out = seen (sink_state O.written O.faults) out.old out.new;
+      wire = seen (wire_state W.faults W.send_faults W.told W.log W.heard W.plan) wire.old wire.new;
+    }) result }
 {
     let Ok(room) = Room::new(alloc) else {
         return no_room(alloc);
     };
-    match orders_of(words) {
-        Err(usage) => refuse_words(alloc, words, usage),
-        Ok(command) => obey(alloc, room, command, words, files, store, input, out, wire),
+    match orders_of(alloc, words) {
+        Err(_) => no_room(alloc),
+        Ok(Err(usage)) => refuse_words(alloc, words, usage),
+        Ok(Ok(orders)) => obey(alloc, room, orders, files, store, input, out, wire),
     }
 }

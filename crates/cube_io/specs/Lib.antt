@@ -4,6 +4,7 @@ pub mod Desks
 pub mod Files
 pub mod Mem
 pub mod Scrolls
+pub mod Seen
 pub mod States
 pub mod Told
 pub mod Whole

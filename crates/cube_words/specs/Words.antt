@@ -1,27 +1,32 @@
 -- The words of a command line: a command, and pairs of an option and its value in any order, each option once.
-use Rattle.std.specs.Prelude.{ℕ, ◌+◌, Bool, not, ◌^◌, ◌||◌, ◌&&◌, nat_le, nat_lt, length, List, [], ◌∷◌, ◌++◌, find, codes, unwrap_or, if◌then◌else◌, Option, Some, None, Result, Ok, Err}
+use Rattle.std.specs.Prelude.{◌≡◌, ◌≤◌, ℕ, ◌+◌, Bool, not, ◌||◌, ◌&&◌, nat_le, nat_lt, length, List, [], ◌∷◌, ◌++◌, find, codes, unwrap_or, if◌then◌else◌, Option, Some, None, Result, Ok, Err}
 use Rattle.std.specs.List.{list_any}
 use Rattle.std.specs.Str.{bytes_eq}
 use Rattle.std.specs.Str.Parse.{digits_value}
 use Rattle.cube_text.specs.Units.{is_digits}
 use Rattle.cube_words.specs.declared.words.Command.{Command}
-use Rattle.cube_words.specs.declared.words.Command.TheVariants.{Help, Version, Sum, Check, Ask, Witness, Twin, Serve, Replay, Demo}
+use Rattle.cube_words.specs.declared.words.Command.TheVariants as command
+use Rattle.cube_words.specs.declared.ordered.CubeFiles.{CubeFiles}
+use Rattle.cube_words.specs.declared.ordered.Making.{Making}
+use Rattle.cube_words.specs.declared.ordered.Orders.{Orders}
+use Rattle.cube_words.specs.declared.ordered.Orders.TheVariants as orders
+use Rattle.cube_words.specs.declared.words.TheConstants.{MAX_REQUESTS, USUAL_REQUESTS, MAX_DIGITS, OVER, MAX_SIZE}
 use Rattle.cube_words.specs.declared.words.Setting.{Setting}
 use Rattle.cube_words.specs.declared.words.Setting.TheVariants.{Dims, Facts, Policy, Journal, Cell, Address, Script, Requests, Number, Size}
 use Rattle.cube_words.specs.declared.words.Usage.{Usage}
 use Rattle.cube_words.specs.declared.words.Usage.TheVariants.{NoCommand, Wrong, Missing}
 
 abbrev pub command_word : Command → List ℕ
-command_word Help = codes "--help"
-command_word Version = codes "--version"
-command_word Sum = codes "sum"
-command_word Check = codes "check"
-command_word Ask = codes "ask"
-command_word Witness = codes "witness"
-command_word Twin = codes "twin"
-command_word Serve = codes "serve"
-command_word Replay = codes "replay"
-command_word Demo = codes "demo"
+command_word command.Help = codes "--help"
+command_word command.Version = codes "--version"
+command_word command.Sum = codes "sum"
+command_word command.Check = codes "check"
+command_word command.Ask = codes "ask"
+command_word command.Witness = codes "witness"
+command_word command.Twin = codes "twin"
+command_word command.Serve = codes "serve"
+command_word command.Replay = codes "replay"
+command_word command.Demo = codes "demo"
 
 abbrev pub option_word : Setting → List ℕ
 option_word Dims = codes "--dims"
@@ -36,33 +41,33 @@ option_word Number = codes "--number"
 option_word Size = codes "--size"
 
 abbrev pub commands : List Command
-commands = Help ∷ Version ∷ Sum ∷ Check ∷ Ask ∷ Witness ∷ Twin ∷ Serve ∷ Replay ∷ Demo ∷ []
+commands = command.Help ∷ command.Version ∷ command.Sum ∷ command.Check ∷ command.Ask ∷ command.Witness ∷ command.Twin ∷ command.Serve ∷ command.Replay ∷ command.Demo ∷ []
 
 -- the options that a command needs, in the order in which a missing one is named
 abbrev pub needed : Command → List Setting
-needed Help = []
-needed Version = []
-needed Sum = Facts ∷ []
-needed Check = Dims ∷ Facts ∷ Policy ∷ []
-needed Ask = Dims ∷ Facts ∷ Policy ∷ Journal ∷ []
-needed Witness = Dims ∷ Facts ∷ Policy ∷ Journal ∷ Cell ∷ []
-needed Twin = Dims ∷ Facts ∷ Policy ∷ Journal ∷ Cell ∷ []
-needed Serve = Dims ∷ Facts ∷ Policy ∷ Journal ∷ Address ∷ []
-needed Replay = Dims ∷ Facts ∷ Policy ∷ Journal ∷ Script ∷ []
-needed Demo = Number ∷ Size ∷ []
+needed command.Help = []
+needed command.Version = []
+needed command.Sum = Facts ∷ []
+needed command.Check = Dims ∷ Facts ∷ Policy ∷ []
+needed command.Ask = Dims ∷ Facts ∷ Policy ∷ Journal ∷ []
+needed command.Witness = Dims ∷ Facts ∷ Policy ∷ Journal ∷ Cell ∷ []
+needed command.Twin = Dims ∷ Facts ∷ Policy ∷ Journal ∷ Cell ∷ []
+needed command.Serve = Dims ∷ Facts ∷ Policy ∷ Journal ∷ Address ∷ []
+needed command.Replay = Dims ∷ Facts ∷ Policy ∷ Journal ∷ Script ∷ []
+needed command.Demo = Number ∷ Size ∷ []
 
 -- the options that it may have
 abbrev pub allowed : Command → List Setting
-allowed Help = []
-allowed Version = []
-allowed Sum = Facts ∷ []
-allowed Check = Dims ∷ Facts ∷ Policy ∷ []
-allowed Ask = Dims ∷ Facts ∷ Policy ∷ Journal ∷ Requests ∷ []
-allowed Witness = Dims ∷ Facts ∷ Policy ∷ Journal ∷ Cell ∷ []
-allowed Twin = Dims ∷ Facts ∷ Policy ∷ Journal ∷ Cell ∷ []
-allowed Serve = Dims ∷ Facts ∷ Policy ∷ Journal ∷ Address ∷ Requests ∷ []
-allowed Replay = Dims ∷ Facts ∷ Policy ∷ Journal ∷ Script ∷ Requests ∷ []
-allowed Demo = Number ∷ Size ∷ []
+allowed command.Help = []
+allowed command.Version = []
+allowed command.Sum = Facts ∷ []
+allowed command.Check = Dims ∷ Facts ∷ Policy ∷ []
+allowed command.Ask = Dims ∷ Facts ∷ Policy ∷ Journal ∷ Requests ∷ []
+allowed command.Witness = Dims ∷ Facts ∷ Policy ∷ Journal ∷ Cell ∷ []
+allowed command.Twin = Dims ∷ Facts ∷ Policy ∷ Journal ∷ Cell ∷ []
+allowed command.Serve = Dims ∷ Facts ∷ Policy ∷ Journal ∷ Address ∷ Requests ∷ []
+allowed command.Replay = Dims ∷ Facts ∷ Policy ∷ Journal ∷ Script ∷ Requests ∷ []
+allowed command.Demo = Number ∷ Size ∷ []
 
 -- the command of a word
 abbrev pub command_of : List ℕ → Option Command
@@ -82,24 +87,17 @@ options_in [] = []
 options_in (option ∷ []) = option ∷ []
 options_in (option ∷ value ∷ more) = option ∷ options_in more
 
--- the most asks that may be stated, and how many there are where none are
-abbrev pub max_requests : ℕ
-max_requests = 16777216
-
-abbrev pub usual_requests : ℕ
-usual_requests = 1000000
-
 -- decimal digits that write a number of asks
 abbrev pub is_requests : List ℕ → Bool
-is_requests text = is_digits text && nat_le 1 (digits_value 10 text) && nat_le (digits_value 10 text) max_requests
+is_requests text = is_digits text && nat_le 1 (digits_value 10 text) && nat_le (digits_value 10 text) MAX_REQUESTS
 
--- from 1 to 20 decimal digits that write a number below 2^64
+-- so few decimal digits that write a number in 64 bits
 abbrev pub is_number : List ℕ → Bool
-is_number text = nat_le (length text) 20 && is_digits text && nat_lt (digits_value 10 text) (2 ^ 64)
+is_number text = nat_le (length text) MAX_DIGITS && is_digits text && nat_lt (digits_value 10 text) OVER
 
 -- decimal digits that write a size
 abbrev pub is_size : List ℕ → Bool
-is_size text = is_digits text && nat_le 1 (digits_value 10 text) && nat_le (digits_value 10 text) 20
+is_size text = is_digits text && nat_le 1 (digits_value 10 text) && nat_le (digits_value 10 text) MAX_SIZE
 
 -- the value is none that the option may have
 abbrev pub is_wrong_value : List ℕ → List ℕ → Bool
@@ -122,23 +120,7 @@ first_wrong c before (option ∷ value ∷ more) =
 abbrev pub first_missing : Command → List (List ℕ) → Option Setting
 first_missing c words = find (λ s. not (stands_in (option_word s) (options_in words))) (needed c)
 
-abbrev pub unless_missing : Command → Option Setting → Result Command Usage
-unless_missing c None = Ok c
-unless_missing c (Some s) = Err (Missing s)
-
-abbrev pub unless_wrong : Command → List (List ℕ) → Option ℕ → Result Command Usage
-unless_wrong c words None = unless_missing c (first_missing c words)
-unless_wrong c words (Some n) = Err (Wrong n)
-
-abbrev pub with_command : List (List ℕ) → Option Command → Result Command Usage
-with_command words None = Err (Wrong 0)
-with_command words (Some c) = unless_wrong c words (first_wrong c [] words)
-
--- The command that the words give, or what is wrong with them: no word, the first wrong word by its number from 0, or
--- the first option that is missing.
-abbrev pub orders_of : List (List ℕ) → Result Command Usage
-orders_of [] = Err NoCommand
-orders_of (word ∷ words) = with_command words (command_of word)
+-- ---- the values of the options
 
 -- the value that stands behind an option
 abbrev pub value_behind : List ℕ → List (List ℕ) → Option (List ℕ)
@@ -146,22 +128,71 @@ value_behind word [] = None
 value_behind word (option ∷ []) = None
 value_behind word (option ∷ value ∷ more) = if bytes_eq option word then Some value else value_behind word more
 
--- the value of an option among the words of a command
-abbrev pub value_of : Setting → List (List ℕ) → Option (List ℕ)
-value_of s [] = None
-value_of s (command ∷ words) = value_behind (option_word s) words
+-- the value of an option among the words behind the command
+abbrev pub value_of : Setting → List (List ℕ) → List ℕ
+value_of s words = unwrap_or (value_behind (option_word s) words) []
+
+abbrev pub files_of : List (List ℕ) → CubeFiles
+files_of words = record { dims = value_of Dims words; facts = value_of Facts words; policy = value_of Policy words }
 
 -- the stated number of asks
 abbrev pub stated_by : Option (List ℕ) → ℕ
-stated_by None = usual_requests
+stated_by None = USUAL_REQUESTS
 stated_by (Some text) = digits_value 10 text
 
 abbrev pub stated : List (List ℕ) → ℕ
-stated words = stated_by (value_of Requests words)
+stated words = stated_by (value_behind (option_word Requests) words)
 
--- the number, and the size, that a cube is made of
-abbrev pub number_of : List (List ℕ) → ℕ
-number_of words = digits_value 10 (unwrap_or (value_of Number words) [])
+-- the number and the size that a cube is made of
+abbrev pub making_of : List (List ℕ) → Making
+making_of words = record { number = digits_value 10 (value_of Number words); size = digits_value 10 (value_of Size words) }
 
-abbrev pub size_of : List (List ℕ) → ℕ
-size_of words = digits_value 10 (unwrap_or (value_of Size words) [])
+-- ---- the orders
+
+-- the orders of a command by the words behind it, of which none is wrong and none is missing
+abbrev pub orders_with : Command → List (List ℕ) → Orders
+orders_with command.Help words = orders.Help
+orders_with command.Version words = orders.Version
+orders_with command.Sum words = orders.Sum (value_of Facts words)
+orders_with command.Check words = orders.Check (files_of words)
+orders_with command.Ask words = orders.Ask (files_of words) (value_of Journal words) (stated words)
+orders_with command.Witness words = orders.Witness (files_of words) (value_of Journal words) (value_of Cell words)
+orders_with command.Twin words = orders.Twin (files_of words) (value_of Journal words) (value_of Cell words)
+orders_with command.Serve words = orders.Serve (files_of words) (value_of Journal words) (value_of Address words) (stated words)
+orders_with command.Replay words = orders.Replay (files_of words) (value_of Journal words) (value_of Script words) (stated words)
+orders_with command.Demo words = orders.Demo (making_of words)
+
+abbrev pub unless_missing : Command → List (List ℕ) → Option Setting → Result Orders Usage
+unless_missing c words None = Ok (orders_with c words)
+unless_missing c words (Some s) = Err (Missing s)
+
+abbrev pub unless_wrong : Command → List (List ℕ) → Option ℕ → Result Orders Usage
+unless_wrong c words None = unless_missing c words (first_missing c words)
+unless_wrong c words (Some n) = Err (Wrong n)
+
+abbrev pub with_command : List (List ℕ) → Option Command → Result Orders Usage
+with_command words None = Err (Wrong 0)
+with_command words (Some c) = unless_wrong c words (first_wrong c [] words)
+
+-- What the words order, with the values of the options; or what is wrong with them: no word, the first wrong word by its number
+-- from 0, or the first option that is missing.
+abbrev pub orders_of : List (List ℕ) → Result Orders Usage
+orders_of [] = Err NoCommand
+orders_of (word ∷ words) = with_command words (command_of word)
+
+-- ---- what is known of orders
+
+-- none of the words behind the command is wrong, and none is missing
+abbrev pub IsRight : Command → List (List ℕ) → Type 0
+IsRight c words = (first_wrong c [] words ≡ None) × (first_missing c words ≡ None)
+
+abbrev pub IsMade : Making → Type 0
+IsMade m = (1 ≤ m.size) × (m.size ≤ MAX_SIZE)
+
+-- some ask is stated, and the size of a made cube is within its bounds
+abbrev pub Fits : Orders → Type 0
+Fits (orders.Ask files journal stated) = 1 ≤ stated
+Fits (orders.Serve files journal address stated) = 1 ≤ stated
+Fits (orders.Replay files journal script stated) = 1 ≤ stated
+Fits (orders.Demo making) = IsMade making
+Fits other = Unit {0}

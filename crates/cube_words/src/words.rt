@@ -1,15 +1,15 @@
 // The words of the command line.
-ghost use Rattle.std.specs.Prelude.{◌≡◌, ◌≤◌, not, min, length, take, drop, find, option_copied, if◌then◌else◌, [], Some, None, IfSome, IsTrue, Ok};
+ghost use Rattle.std.specs.Prelude.{◌≡◌, ◌≤◌, not, min, length, take, drop, find, option_copied, if◌then◌else◌, [], Some, None, IfSome, IfOk, IsTrue};
 ghost use Rattle.std.specs.Char.{is_ascii_digit};
 ghost use Rattle.std.specs.List.{list_all};
 ghost use Rattle.std.specs.Str.{bytes_eq};
 ghost use Rattle.std.specs.Str.Parse.{digits_value};
-ghost use Rattle.cube_model.specs.Cubes.{IsIn};
-ghost use Rattle.cube_words.specs.declared.words.Command.TheVariants as orders;
-ghost use Rattle.cube_words.specs.Words.{command_word, option_word, needed as needed_by, allowed as allowed_by, is_requests, is_number, is_size, is_wrong_value as is_wrong, stated as stated_in, number_of as number_stated, size_of as size_stated, command_of as command_in, is_option as is_option_of, stands_in, options_in, first_wrong as first_wrong_behind, orders_of as orders_in, value_behind as value_in, value_of as value_given};
+ghost use Rattle.cube_words.specs.Words.{command_word, option_word, needed as needed_by, allowed as allowed_by, is_requests, is_number, is_size, is_wrong_value as is_wrong, command_of as command_in, is_option as is_option_of, stands_in, options_in, first_wrong as first_wrong_behind, orders_of as orders_in, value_behind as value_in, Fits};
 
-use cube_model::Text;
+use crate::ordered::{Orders, orders_with};
+use cube_model::{NoMemory, Text};
 use cube_text::read_digits;
+use std::alloc::Global;
 
 /// What the program is asked to do.
 #[derive(Clone, Copy, Debug, PartialEq, Eq)]
@@ -85,14 +85,19 @@ const COMMANDS: [Command; 10] = [
     Command::Demo,
 ];
 
+// The most asks that may be stated.
 const MAX_REQUESTS: u64 = 16_777_216;
 
-const USUAL_REQUESTS: u64 = 1_000_000;
+/// How many asks there are where none are stated.
+pub const USUAL_REQUESTS: u64 = 1_000_000;
 
+// The most digits of a number that a cube is made of.
 const MAX_DIGITS: usize = 20;
 
+// The least number that is too great to make a cube of.
 const OVER: u128 = 1 << 64;
 
+// The greatest size of a made cube.
 const MAX_SIZE: u64 = 20;
 
 impl Command {
@@ -252,8 +257,8 @@ fn is_given(word: &[u8], words: &[Text]) -> bool
     }
 }
 
-// The number of asks that a text states.
-fn requests_in(text: &[u8]) -> Option<u64>
+/// The number of asks that a text states.
+pub fn requests_in(text: &[u8]) -> Option<u64>
     ensures number { result ≡ (if is_requests text.now then Some (digits_value 10 text.now) else None) }
     ensures some { IfSome result (λ number. 1 ≤ number) }
 {
@@ -275,8 +280,8 @@ fn capped_value(digits: &[u8]) -> u128
     value
 }
 
-// The number that a text states, in at most 20 digits.
-fn number_in(text: &[u8]) -> Option<u64>
+/// The number that a text states, in at most 20 digits.
+pub fn number_in(text: &[u8]) -> Option<u64>
     ensures { result ≡ (if is_number text.now then Some (digits_value 10 text.now) else None) }
 {
     if text.len() > MAX_DIGITS || read_digits(text).is_none() {
@@ -289,10 +294,10 @@ fn number_in(text: &[u8]) -> Option<u64>
     Some(value as u64)
 }
 
-// The size that a text states.
-fn size_in(text: &[u8]) -> Option<u32>
+/// The size that a text states.
+pub fn size_in(text: &[u8]) -> Option<u32>
     ensures number { result ≡ (if is_size text.now then Some (digits_value 10 text.now) else None) }
-    ensures some { IfSome result (λ size. (1 ≤ size) × (size ≤ 20)) }
+    ensures some { IfSome result (λ size. (1 ≤ size) × (size ≤ MAX_SIZE)) }
 {
     match read_digits(text) {
         Some(size) if size >= 1 && size <= MAX_SIZE => Some(size as u32),
@@ -344,26 +349,28 @@ fn first_lacking(settings: &[Setting], words: &[Text]) -> Option<Setting>
         .find(|setting| is_lacking(*setting, words))
 }
 
-/// The command that the words give, or what is wrong with them.
-pub fn orders_of(words: &[Text]) -> Result<Command, Usage>
-    ensures { result ≡ orders_in words.now }
+/// What the words order, or what is wrong with them.
+pub fn orders_of(alloc: Global, words: &[Text]) -> Result<Result<Orders, Usage>, NoMemory>
+    ensures orders { IfOk result (λ given. given ≡ orders_in words.now) }
+    ensures fits { IfOk result (λ given. IfOk given Fits) }
 {
     let [word, more @ ..] = words else {
-        return Err(Usage::NoCommand);
+        return Ok(Err(Usage::NoCommand));
     };
     let Some(command) = command_of(word.as_slice()) else {
-        return Err(Usage::Wrong(0));
+        return Ok(Err(Usage::Wrong(0)));
     };
     if let Some(number) = first_wrong(command, more, 0) {
-        return Err(Usage::Wrong(number));
+        return Ok(Err(Usage::Wrong(number)));
     }
     match first_lacking(command.needed(), more) {
-        None => Ok(command),
-        Some(setting) => Err(Usage::Missing(setting)),
+        None => Ok(Ok(orders_with(alloc, command, more)?)),
+        Some(setting) => Ok(Err(Usage::Missing(setting))),
     }
 }
 
-fn value_behind<'a>(word: &[u8], words: &'a [Text]) -> Option<&'a Text>
+/// The value behind an option among the words behind the command.
+pub fn value_behind<'a>(word: &[u8], words: &'a [Text]) -> Option<&'a Text>
     ensures { option_copied result ≡ value_in word.now words.now }
 {
     match words {
@@ -375,68 +382,5 @@ fn value_behind<'a>(word: &[u8], words: &'a [Text]) -> Option<&'a Text>
             }
         }
         _ => None,
-    }
-}
-
-/// The value of an option among the words of a command.
-pub fn value_of(words: &[Text], setting: Setting) -> Option<&Text>
-    ensures { option_copied result ≡ value_given setting words.now }
-{
-    match words {
-        [_, more @ ..] => value_behind(setting.word(), more),
-        [] => None,
-    }
-}
-
-/// The value of an option that the command needs.
-pub fn needed_value(words: &[Text], command: Command, setting: Setting) -> &Text
-    requires orders { orders_in words.now ≡ Ok command }
-    requires needed { IsIn setting (needed_by command) }
-    ensures { Some result.now ≡ value_given setting words.now }
-{
-    let _command = command;
-    match value_of(words, setting) {
-        Some(value) => value,
-        None => unreachable!(),
-    }
-}
-
-/// The stated number of asks: 1,000,000 where none is.
-pub fn stated(words: &[Text], command: Command) -> u64
-    requires { orders_in words.now ≡ Ok command }
-    ensures number { result ≡ stated_in words.now }
-    ensures some { 1 ≤ result }
-{
-    let _command = command;
-    match value_of(words, Setting::Requests) {
-        None => USUAL_REQUESTS,
-        Some(text) => match requests_in(text.as_slice()) {
-            Some(number) => number,
-            None => unreachable!(),
-        },
-    }
-}
-
-/// The number that a cube is made of.
-pub fn number_of(words: &[Text]) -> u64
-    requires { orders_in words.now ≡ Ok orders.Demo }
-    ensures { result ≡ number_stated words.now }
-{
-    match number_in(needed_value(words, Command::Demo, Setting::Number).as_slice()) {
-        Some(number) => number,
-        None => unreachable!(),
-    }
-}
-
-/// The size that a cube is made of.
-pub fn size_of(words: &[Text]) -> u32
-    requires { orders_in words.now ≡ Ok orders.Demo }
-    ensures number { result ≡ size_stated words.now }
-    ensures some { 1 ≤ result }
-    ensures few { result ≤ 20 }
-{
-    match size_in(needed_value(words, Command::Demo, Setting::Size).as_slice()) {
-        Some(size) => size,
-        None => unreachable!(),
     }
 }

@@ -17,4 +17,4 @@ returns-in-Ok-check_text-clause-checks g c = inr (
 pub returns-in-Err-clause-complete : goal.returns-in-Err-clause-complete
 returns-in-Err-clause-complete g c = λ all files out.
     let before = g.F.Folder.faults c.args.files.now in
-    inr (all_accepted c.args.dims_name.now c.args.facts_name.now c.args.policy_name.now (g.F.Folder.files c.args.files.now) before (g.F.Folder.faults c.open_guarded.new.files) c.in-Err.report c.in-Err.ensures.err all files)
+    inr (all_accepted c.args.cube.now.dims c.args.cube.now.facts c.args.cube.now.policy (g.F.Folder.files c.args.files.now) before (g.F.Folder.faults c.open_guarded.new.files) c.in-Err.report c.in-Err.ensures.err all files)

@@ -1,27 +1,194 @@
-use Rattle.std.proofs.Common.{◌≡◌, ◌⊎◌, List, [], ℕ, Option, ap, sym, subst}
-use Rattle.std.specs.Prelude.{unwrap_or}
-use Rattle.cube_opening.specs.Opening.{HasAll}
-use Rattle.cube_app.specs.Run.{facts_name, policy_name}
-use Rattle.cube_starting.specs.Starting.{AsksStore, HasJournal}
+use Rattle.std.proofs.Common.{refl, ap, inl}
+use Rattle.cube_words.specs.declared.ordered.Orders.TheVariants as orders
+use Rattle.cube_app.proofs.Ordered.{obeyed_as}
 use Rattle.cube_app.proofs.run.obey.Goals as goal
 
-pub returns-in-Ask-clause-ask_names : goal.returns-in-Ask-clause-ask_names
-returns-in-Ask-clause-ask_names g c = λ is.
-    let name = ap (λ (o : Option (List ℕ)). unwrap_or o []) c.needed_value-journal.ensures in
-    subst (λ (n : List ℕ). (c.ask.new.store ≡ c.args.store.now) ⊎ AsksStore n (g.S.Store.told c.args.store.now) (g.S.Store.names c.args.store.now) (g.S.Store.names c.ask.new.store) c.ask.result) name c.ask.ensures.names
+pub returns-in-Help : goal.returns-in-Help
+returns-in-Help g c =
+    let x = c.print.ensures in
+    obeyed_as c.args.orders orders.Help c.in-Help.is (record {
+      does = x.prints;
+      leaves = (refl, refl, refl, refl, x.outcomes);
+      causes = record {
+        unreadable = λ is. absurd (x.files is);
+        output = x.output;
+        unheard = λ is. absurd (x.wire is);
+        unkept = λ is. absurd (x.store is);
+        steady = λ no. (refl, refl);
+        output_steady = x.steady;
+        wire_steady = λ no. refl;
+      };
+      ordered = x.words;
+      others = λ told k other. refl;
+    })
 
-pub returns-in-Ask-clause-ask_complete : goal.returns-in-Ask-clause-ask_complete
-returns-in-Ask-clause-ask_complete g c = λ is all kept.
-    let dims = ap (λ (o : Option (List ℕ)). unwrap_or o []) c.needed_value-dims-in-Ask.ensures in
-    let facts = ap (λ (o : Option (List ℕ)). unwrap_or o []) c.needed_value-facts-in-Ask.ensures in
-    let policy = ap (λ (o : Option (List ℕ)). unwrap_or o []) c.needed_value-policy-in-Ask.ensures in
-    let files = g.F.Folder.files c.args.files.now in
-    let told = g.S.Store.told c.args.store.now in
-    let log = (g.S.Store.logs c.args.store.now 0).state.now in
-    let have = subst (λ (n : List ℕ). HasAll n (facts_name c.args.words.now) (policy_name c.args.words.now) files) (sym dims) all in
-    let have' = subst (λ (n : List ℕ). HasAll c.needed_value-dims-in-Ask.result.now n (policy_name c.args.words.now) files) (sym facts) have in
-    let have'' = subst (λ (n : List ℕ). HasAll c.needed_value-dims-in-Ask.result.now c.needed_value-facts-in-Ask.result.now n files) (sym policy) have' in
-    let keep = subst (λ (n : List ℕ). HasJournal n (facts_name c.args.words.now) (policy_name c.args.words.now) files told log) (sym dims) kept in
-    let keep' = subst (λ (n : List ℕ). HasJournal c.needed_value-dims-in-Ask.result.now n (policy_name c.args.words.now) files told log) (sym facts) keep in
-    let keep'' = subst (λ (n : List ℕ). HasJournal c.needed_value-dims-in-Ask.result.now c.needed_value-facts-in-Ask.result.now n files told log) (sym policy) keep' in
-    c.ask.ensures.complete have'' keep''
+pub returns-in-Version : goal.returns-in-Version
+returns-in-Version g c =
+    let x = c.print-in-Version.ensures in
+    obeyed_as c.args.orders orders.Version c.in-Version.is (record {
+      does = x.prints;
+      leaves = (refl, refl, refl, refl, x.outcomes);
+      causes = record {
+        unreadable = λ is. absurd (x.files is);
+        output = x.output;
+        unheard = λ is. absurd (x.wire is);
+        unkept = λ is. absurd (x.store is);
+        steady = λ no. (refl, refl);
+        output_steady = x.steady;
+        wire_steady = λ no. refl;
+      };
+      ordered = x.words;
+      others = λ told k other. refl;
+    })
+
+pub returns-in-Sum : goal.returns-in-Sum
+returns-in-Sum g c =
+    let x = c.sum.ensures in
+    obeyed_as c.args.orders (orders.Sum c.in-Sum.facts) c.in-Sum.is (record {
+      does = record { answers = x.answers; asks = x.asks; ended = x.ended; complete = x.complete };
+      leaves = (x.store, refl, x.outcomes);
+      causes = record {
+        unreadable = x.unreadable;
+        output = x.output;
+        unheard = λ is. absurd (x.wire is);
+        unkept = λ is. absurd (x.kept is);
+        steady = x.steady;
+        output_steady = x.output_steady;
+        wire_steady = λ no. refl;
+      };
+      ordered = x.words;
+      others = λ told k other. ap (λ s. g.S.Store.logs s k) x.store;
+    })
+
+pub returns-in-Check : goal.returns-in-Check
+returns-in-Check g c =
+    let x = c.check.ensures in
+    obeyed_as c.args.orders (orders.Check c.in-Check.cube) c.in-Check.is (record {
+      does = record { answers = x.checks; asks = x.asks; complete = x.complete };
+      leaves = (refl, refl, refl, x.outcomes);
+      causes = record {
+        unreadable = λ is. inl (x.unreadable is, refl);
+        output = x.output;
+        unheard = λ is. absurd (x.wire is);
+        unkept = λ is. absurd (x.store is);
+        steady = λ no. (x.steady no, refl);
+        output_steady = x.output_steady;
+        wire_steady = λ no. refl;
+      };
+      ordered = x.words;
+      others = λ told k other. refl;
+    })
+
+pub returns-in-Ask : goal.returns-in-Ask
+returns-in-Ask g c =
+    let x = c.ask.ensures in
+    obeyed_as c.args.orders (orders.Ask c.in-Ask.cube c.in-Ask.journal c.in-Ask.stated) c.in-Ask.is (record {
+      does = record { answers = x.answers; asks = x.asks; named = x.names; few_calls = x.calls; ended = x.ended; memory = x.memory; complete = x.complete };
+      leaves = refl;
+      causes = record {
+        unreadable = x.unreadable;
+        output = x.output;
+        unheard = λ is. absurd (x.wire is);
+        unkept = x.unkept;
+        steady = x.steady;
+        output_steady = x.output_steady;
+        wire_steady = λ no. refl;
+      };
+      ordered = x.words;
+      others = x.others;
+    })
+
+pub returns-in-Witness : goal.returns-in-Witness
+returns-in-Witness g c =
+    let x = c.tell.ensures in
+    obeyed_as c.args.orders (orders.Witness c.in-Witness.cube c.in-Witness.journal c.in-Witness.cell) c.in-Witness.is (record {
+      does = record { answers = x.answers; asks = x.asks; named = x.names; few_calls = x.calls; complete = x.complete };
+      leaves = (refl, refl, x.outcomes);
+      causes = record {
+        unreadable = λ is. inl (x.unreadable is, refl);
+        output = x.output;
+        unheard = λ is. absurd (x.wire is);
+        unkept = λ is. (x.unkept is, x.outcomes);
+        steady = λ no. (x.steady no, refl);
+        output_steady = x.output_steady;
+        wire_steady = λ no. refl;
+      };
+      ordered = x.words;
+      others = x.others;
+    })
+
+pub returns-in-Twin : goal.returns-in-Twin
+returns-in-Twin g c =
+    let x = c.tell-in-Twin.ensures in
+    obeyed_as c.args.orders (orders.Twin c.in-Twin.cube c.in-Twin.journal c.in-Twin.cell) c.in-Twin.is (record {
+      does = record { answers = x.answers; asks = x.asks; named = x.names; few_calls = x.calls; complete = x.complete };
+      leaves = (refl, refl, x.outcomes);
+      causes = record {
+        unreadable = λ is. inl (x.unreadable is, refl);
+        output = x.output;
+        unheard = λ is. absurd (x.wire is);
+        unkept = λ is. (x.unkept is, x.outcomes);
+        steady = λ no. (x.steady no, refl);
+        output_steady = x.output_steady;
+        wire_steady = λ no. refl;
+      };
+      ordered = x.words;
+      others = x.others;
+    })
+
+pub returns-in-Serve : goal.returns-in-Serve
+returns-in-Serve g c =
+    let x = c.serve_cube.ensures in
+    obeyed_as c.args.orders (orders.Serve c.in-Serve.cube c.in-Serve.journal c.in-Serve.address c.in-Serve.stated) c.in-Serve.is (record {
+      does = record { answers = x.answers; asks = x.asks; named = x.names; listened = x.heard; memory = x.memory; complete = x.complete };
+      leaves = (refl, refl);
+      causes = record {
+        unreadable = λ is. inl (x.unreadable is, refl);
+        output = λ is. absurd (x.output is);
+        unheard = x.unheard;
+        unkept = x.unkept;
+        steady = λ no. (x.steady no, refl);
+        output_steady = λ no. refl;
+        wire_steady = x.wire_steady;
+      };
+      ordered = x.words;
+      others = x.others;
+    })
+
+pub returns-in-Replay : goal.returns-in-Replay
+returns-in-Replay g c =
+    let x = c.replay_cube.ensures in
+    obeyed_as c.args.orders (orders.Replay c.in-Replay.cube c.in-Replay.journal c.in-Replay.script c.in-Replay.stated) c.in-Replay.is (record {
+      does = record { answers = x.answers; asks = x.asks; named = x.names; memory = x.memory; complete = x.complete };
+      leaves = (refl, refl);
+      causes = record {
+        unreadable = λ is. inl (x.unreadable is, refl);
+        output = x.output;
+        unheard = λ is. absurd (x.wire is);
+        unkept = x.unkept;
+        steady = λ no. (x.steady no, refl);
+        output_steady = x.output_steady;
+        wire_steady = λ no. refl;
+      };
+      ordered = x.words;
+      others = x.others;
+    })
+
+pub returns-in-Demo : goal.returns-in-Demo
+returns-in-Demo g c =
+    let x = c.show.ensures in
+    obeyed_as c.args.orders (orders.Demo c.in-Demo.making) c.in-Demo.is (record {
+      does = x.run;
+      leaves = (refl, refl, refl, refl, x.outcomes);
+      causes = record {
+        unreadable = λ is. absurd (x.files is);
+        output = x.output;
+        unheard = λ is. absurd (x.wire is);
+        unkept = λ is. absurd (x.store is);
+        steady = λ no. (refl, refl);
+        output_steady = x.output_steady;
+        wire_steady = λ no. refl;
+      };
+      ordered = x.words;
+      others = λ told k other. refl;
+    })

@@ -1,15 +1,7 @@
-use Rattle.std.proofs.Common.{◌≡◌}
-use Rattle.cube_words.specs.declared.words.Command.TheVariants as orders
+use Rattle.std.proofs.Common.{refl}
+use Rattle.cube_words.specs.Words.{orders_of}
+use Rattle.cube_app.proofs.Ordered.{not_begun}
 use Rattle.cube_app.proofs.run.run.Goals as goal
 
-pub returns-in-Ok-orders_of-clause-ask_names : goal.returns-in-Ok-orders_of-clause-ask_names
-returns-in-Ok-orders_of-clause-ask_names g c = λ is.
-    let given = c.in-Ok-orders_of.ensures in
-    let same : c.in-Ok-orders_of.command ≡ orders.Ask = cc in
-    c.obey.ensures.ask_names same
-
-pub returns-in-Ok-orders_of-clause-ask_complete : goal.returns-in-Ok-orders_of-clause-ask_complete
-returns-in-Ok-orders_of-clause-ask_complete g c = λ is.
-    let given = c.in-Ok-orders_of.ensures in
-    let same : c.in-Ok-orders_of.command ≡ orders.Ask = cc in
-    c.obey.ensures.ask_complete same
+pub returns-in-Err : goal.returns-in-Err
+returns-in-Err g c = not_begun c.args.words.now (orders_of c.args.words.now) c.no_room-in-Err.ensures (refl, refl, refl, refl, refl)

@@ -1,8 +1,8 @@
 use Rattle.std.proofs.Common.{sym, ◌∙◌}
 use Rattle.cube_words.proofs.Given.{given, not_none}
-use Rattle.cube_words.proofs.words.needed_value.Goals as goal
+use Rattle.cube_words.proofs.ordered.needed_value.Goals as goal
 
 pub unreachable-requires : goal.unreachable-requires
 unreachable-requires c =
-    let value = given c.args.words.now c.args.command c.args.setting c.requires.orders c.requires.needed in
+    let value = given c.args.command c.args.words.now c.args.setting c.requires.right c.requires.needed in
     not_none value.0 (sym value.1 ∙ sym c.in-None.ensures)

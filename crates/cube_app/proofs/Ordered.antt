@@ -1,0 +1,36 @@
+-- A run of some orders, and a run in which nothing is done.
+use Rattle.std.proofs.Common.{◌≡◌, ◌⊎◌, List, ℕ, inl, inr, sym, subst}
+use Rattle.std.specs.Prelude.{IfOk, IfErr}
+use Rattle.std.specs.declared.result.Result.{Result}
+use Rattle.std.specs.declared.result.Result.TheVariants.{Ok, Err}
+use Rattle.cube_opening.specs.Reports.{IsReport, NoRoom}
+use Rattle.cube_opening.specs.declared.report.Report.{Report}
+use Rattle.cube_words.specs.declared.ordered.Orders.{Orders}
+use Rattle.cube_words.specs.declared.words.Usage.{Usage}
+use Rattle.cube_app.specs.Runs.{Outside, Obeyed, Untouched, Runs}
+use Rattle.cube_app.specs.Texts.{usage_text}
+
+-- what was obeyed, by another name of the orders
+pub obeyed_as : {F S I O W : Type 0} {objects : Outside F S I O W} {r : Report} (o o' : Orders) → o ≡ o' → Obeyed o' objects r → Obeyed o objects r
+obeyed_as {F} {S} {I} {O} {W} {objects} {r} o o' same x = subst (λ (x : Orders). Obeyed x objects r) (sym same) x
+
+each_ok : {T E : Type 0} (r : Result T E) (P : T → Type 0) → ((x : T) → P x) → IfOk r P
+each_ok (Ok x) P f = f x
+each_ok (Err e) P f = tt
+
+each_err : {T E : Type 0} (r : Result T E) (P : E → Type 0) → ((e : E) → P e) → IfErr r P
+each_err (Ok x) P f = tt
+each_err (Err e) P f = f e
+
+-- nothing is done where there is no memory to begin
+pub not_begun : {F S I O W : Type 0} {objects : Outside F S I O W} {r : Report} (words : List (List ℕ)) (given : Result Orders Usage) → NoRoom r → Untouched objects → Runs words given objects r
+not_begun {F} {S} {I} {O} {W} {objects} {r} words given none same = record {
+  refused = each_err given (λ usage. (IsReport 2 (usage_text words usage) r ⊎ NoRoom r) × Untouched objects) (λ usage. (inr none, same));
+  obeyed = each_ok given (λ orders. Obeyed orders objects r ⊎ (NoRoom r × Untouched objects)) (λ orders. inr (none, same));
+}
+
+pub refused_as : {F S I O W : Type 0} {objects : Outside F S I O W} {r : Report} (words : List (List ℕ)) (given : Result Orders Usage) (usage : Usage) → Err usage ≡ given → IsReport 2 (usage_text words usage) r ⊎ NoRoom r → Untouched objects → Runs words given objects r
+refused_as {F} {S} {I} {O} {W} {objects} {r} words given usage is told same = subst (λ (x : Result Orders Usage). Runs words x objects r) is (record { refused = (told, same); obeyed = tt })
+
+pub run_as : {F S I O W : Type 0} {objects : Outside F S I O W} {r : Report} (words : List (List ℕ)) (given : Result Orders Usage) (orders : Orders) → Ok orders ≡ given → Obeyed orders objects r → Runs words given objects r
+run_as {F} {S} {I} {O} {W} {objects} {r} words given orders is done = subst (λ (x : Result Orders Usage). Runs words x objects r) is (record { refused = tt; obeyed = inl done })

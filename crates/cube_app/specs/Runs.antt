@@ -1,0 +1,86 @@
+-- What a run of the program does: all that is promised of the top call.
+use Rattle.std.specs.Prelude.{◌≡◌, ◌≢◌, ◌⊎◌, ℕ, true, false, List, [], Result, IfOk, IfErr}
+use Rattle.cube_io.specs.Causes.{Rose}
+use Rattle.cube_io.specs.Seen.{FolderState, SourceState, SinkState, StoreState, WireState, Seen, Unused}
+use Rattle.cube_io.specs.Told.{OthersStay}
+use Rattle.cube_opening.specs.Reports.{IsReport, NoRoom, Prints}
+use Rattle.cube_opening.specs.declared.report.Report.{Report}
+use Rattle.cube_words.specs.declared.ordered.Orders.{Orders}
+use Rattle.cube_words.specs.declared.ordered.Orders.TheVariants.{Help, Version, Sum, Check, Ask, Witness, Twin, Serve, Replay, Demo}
+use Rattle.cube_words.specs.declared.words.Usage.{Usage}
+use Rattle.cube_app.specs.Cells.{CellRun}
+use Rattle.cube_app.specs.Making.{DemoRun}
+use Rattle.cube_app.specs.Serves.{ServeRun, ReplayRun}
+use Rattle.cube_app.specs.Summary.{CheckRun}
+use Rattle.cube_app.specs.Talks.{SumRun, AskRun}
+use Rattle.cube_app.specs.Texts.{usage_text, help_text, version_text}
+
+-- The objects outside, before a run and after it.
+pub record Outside (F S I O W : Type 0) : Type 0 where
+  pub files : Seen FolderState F
+  pub store : Seen StoreState S
+  pub input : Seen SourceState I
+  pub out : Seen SinkState O
+  pub wire : Seen WireState W
+
+-- ---- what each command does
+
+-- What is done where this is ordered: texts about the program are printed, the lines of the input are answered by sums or as asks, the files
+-- are summed up, a cell is told, connections are served, a script is played, or a made cube is shown.
+abbrev pub Does : {F S I O W : Type 0} → Orders → Outside F S I O W → Report → Type 0
+Does Help objects r = Prints help_text objects.out.before.written objects.out.after.written r
+Does Version objects r = Prints version_text objects.out.before.written objects.out.after.written r
+Does (Sum facts) objects r = SumRun facts objects.files objects.input objects.out r
+Does (Check cube) objects r = CheckRun cube objects.files objects.out r
+Does (Ask cube journal stated) objects r = AskRun cube journal stated objects.files objects.store objects.input objects.out r
+Does (Witness cube journal cell) objects r = CellRun false cube journal cell objects.files objects.store objects.out r
+Does (Twin cube journal cell) objects r = CellRun true cube journal cell objects.files objects.store objects.out r
+Does (Serve cube journal address stated) objects r = ServeRun cube journal address stated objects.files objects.store objects.wire r
+Does (Replay cube journal script stated) objects r = ReplayRun cube journal script stated objects.files objects.store objects.out r
+Does (Demo making) objects r = DemoRun making objects.out r
+
+-- What it leaves as it was. Only `ask`, `serve` and `replay` report what became of asks.
+abbrev pub Leaves : {F S I O W : Type 0} → Orders → Outside F S I O W → Report → Type 0
+Leaves Help objects r = Unused objects.files × Unused objects.store × Unused objects.input × Unused objects.wire × (r.outcomes ≡ [])
+Leaves Version objects r = Unused objects.files × Unused objects.store × Unused objects.input × Unused objects.wire × (r.outcomes ≡ [])
+Leaves (Sum facts) objects r = Unused objects.store × Unused objects.wire × (r.outcomes ≡ [])
+Leaves (Check cube) objects r = Unused objects.store × Unused objects.input × Unused objects.wire × (r.outcomes ≡ [])
+Leaves (Ask cube journal stated) objects r = Unused objects.wire
+Leaves (Witness cube journal cell) objects r = Unused objects.input × Unused objects.wire × (r.outcomes ≡ [])
+Leaves (Twin cube journal cell) objects r = Unused objects.input × Unused objects.wire × (r.outcomes ≡ [])
+Leaves (Serve cube journal address stated) objects r = Unused objects.input × Unused objects.out
+Leaves (Replay cube journal script stated) objects r = Unused objects.input × Unused objects.wire
+Leaves (Demo making) objects r = Unused objects.files × Unused objects.store × Unused objects.input × Unused objects.wire × (r.outcomes ≡ [])
+
+-- ---- what every command keeps to
+
+-- A fault is answered only where it was counted in this run, and at most one count rises.
+pub record HasCauses {F S I O W : Type 0} (objects : Outside F S I O W) (r : Report) : Type 0 where
+  pub unreadable : r.status ≡ 5 → (Rose objects.files.before.faults objects.files.after.faults × (objects.input.after.faults ≡ objects.input.before.faults))
+      ⊎ (Rose objects.input.before.faults objects.input.after.faults × (objects.files.after.faults ≡ objects.files.before.faults))
+  pub output : r.status ≡ 6 → Rose objects.out.before.faults objects.out.after.faults
+  pub unheard : r.status ≡ 8 → Rose objects.wire.before.faults objects.wire.after.faults
+  pub unkept : r.status ≡ 9 → Rose objects.store.before.faults objects.store.after.faults × (r.outcomes ≡ [])
+  pub steady : r.status ≢ 5 → (objects.files.after.faults ≡ objects.files.before.faults) × (objects.input.after.faults ≡ objects.input.before.faults)
+  pub output_steady : r.status ≢ 6 → objects.out.after.faults ≡ objects.out.before.faults
+  pub wire_steady : r.status ≢ 8 → objects.wire.after.faults ≡ objects.wire.before.faults
+
+-- These orders were obeyed. Status 2 is for wrong words alone, and no log of the store but log 0 changed.
+pub record Obeyed {F S I O W : Type 0} (orders : Orders) (objects : Outside F S I O W) (r : Report) : Type 0 where
+  pub does : Does orders objects r
+  pub leaves : Leaves orders objects r
+  pub causes : HasCauses objects r
+  pub ordered : r.status ≢ 2
+  pub others : OthersStay objects.store.before.told 0 objects.store.before.logs objects.store.after.logs
+
+-- ---- the whole
+
+-- nothing was used
+abbrev pub Untouched : {F S I O W : Type 0} → Outside F S I O W → Type 0
+Untouched objects = Unused objects.files × Unused objects.store × Unused objects.input × Unused objects.out × Unused objects.wire
+
+-- The words give these orders, or this is wrong with them. Wrong words are told with status 2 and nothing else is done; what is ordered is
+-- obeyed. Where there is no memory to begin, nothing is done either.
+pub record Runs {F S I O W : Type 0} (words : List (List ℕ)) (given : Result Orders Usage) (objects : Outside F S I O W) (r : Report) : Type 0 where
+  pub refused : IfErr given (λ usage. (IsReport 2 (usage_text words usage) r ⊎ NoRoom r) × Untouched objects)
+  pub obeyed : IfOk given (λ orders. Obeyed orders objects r ⊎ (NoRoom r × Untouched objects))

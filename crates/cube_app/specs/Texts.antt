@@ -1,0 +1,37 @@
+-- The texts and the statuses of a run.
+use Rattle.std.specs.Prelude.{ℕ, List, [], ◌++◌, codes, decimal, slice_index_or}
+use Rattle.cube_words.specs.Words.{option_word}
+use Rattle.cube_words.specs.declared.words.Usage.{Usage}
+use Rattle.cube_words.specs.declared.words.Usage.TheVariants.{NoCommand, Wrong, Missing}
+use Rattle.cube_talk.specs.declared.talk.Ending.{Ending}
+use Rattle.cube_talk.specs.declared.talk.Ending.TheVariants.{Ended, InputFailed, OutputFailed, NoMemory, Spent}
+
+-- ---- wrong words, and texts about the program
+
+abbrev pub usage_text : List (List ℕ) → Usage → List ℕ
+usage_text words NoCommand = codes "usage: no command\n"
+usage_text words (Wrong number) = codes "usage: " ++ slice_index_or words number [] ++ codes "\n"
+usage_text words (Missing option) = codes "usage: missing " ++ option_word option ++ codes "\n"
+
+abbrev pub help_text : List ℕ
+help_text = codes "cube sum --facts FILE\n    answers each line of the input by a sum over the file\ncube check --dims FILE --facts FILE --policy FILE\n    says what the files hold\ncube ask --dims FILE --facts FILE --policy FILE --journal FILE [--requests N]\n    answers each line of the input as a query, or as `shape` or `witness CELL`\ncube witness --dims FILE --facts FILE --policy FILE --journal FILE --cell CELL\n    prints the changes that hide a cell\ncube twin --dims FILE --facts FILE --policy FILE --journal FILE --cell CELL\n    prints the fact file of the cube with these changes\ncube serve --dims FILE --facts FILE --policy FILE --journal FILE --address ADDRESS [--requests N]\n    answers asks over HTTP\ncube replay --dims FILE --facts FILE --policy FILE --journal FILE --script FILE [--requests N]\n    plays a script of connections and writes what was sent\ncube demo --number N --size S\n    makes a cube of 20,000 S facts and says how 200 S queries on it are judged\ncube --help\n    prints this text\ncube --version\n    prints the version\n"
+
+abbrev pub version_text : List ℕ
+version_text = codes "cube 0.1.0\n"
+
+-- ---- how a talk ended
+
+abbrev pub status_of : Ending → ℕ
+status_of Ended = 0
+status_of InputFailed = 5
+status_of OutputFailed = 6
+status_of NoMemory = 7
+status_of Spent = 10
+
+-- the text on a talk that ended so, behind so many lines and bytes
+abbrev pub ending_text : Ending → ℕ → ℕ → List ℕ
+ending_text Ended lines bytes = []
+ending_text InputFailed lines bytes = codes "input failed\n"
+ending_text OutputFailed lines bytes = codes "output failed\n"
+ending_text NoMemory lines bytes = codes "no memory\n"
+ending_text Spent lines bytes = codes "spent: " ++ decimal lines ++ codes " requests, " ++ decimal bytes ++ codes " events\n"

@@ -1,0 +1,73 @@
+-- What an object outside tells of itself, in one value, and how that stands before a run and after it.
+use Rattle.std.specs.Prelude.{◌≡◌, ℕ, Bool, List}
+use Rattle.std.specs.declared.option.Option.{Option}
+use Rattle.cube_io.specs.States.{Log}
+use Rattle.cube_io.specs.Wires.{LogEntry, Plan}
+
+-- of a folder: the files by their names, the names that were asked for, and how often it failed
+pub record FolderState : Type 0 where
+  pub files : Option (List (List ℕ × List ℕ))
+  pub asked : Option (List (List ℕ))
+  pub faults : ℕ
+
+-- of a source: the bytes that are left, whether the end was given, and how often it failed
+pub record SourceState : Type 0 where
+  pub left : Option (List ℕ)
+  pub ended : Bool
+  pub faults : ℕ
+
+-- of a sink: the bytes that were written, and how often it failed
+pub record SinkState : Type 0 where
+  pub written : Option (List ℕ)
+  pub faults : ℕ
+
+-- of a store: how often it failed, whether it was attached, whether it tells what it holds, its logs, the names that it was asked
+-- for, and a number to which each call adds at most one
+pub record StoreState : Type 0 where
+  pub faults : ℕ
+  pub attached : Bool
+  pub told : Bool
+  pub logs : ℕ → Log
+  pub names : List (List ℕ)
+  pub calls : ℕ
+
+-- of a wire: how often it failed, and a send on it, whether it tells its log, the log, the addresses that it was asked for, and what
+-- it is to play
+pub record WireState : Type 0 where
+  pub faults : ℕ
+  pub send_faults : ℕ
+  pub told : Bool
+  pub log : List LogEntry
+  pub heard : List (List ℕ)
+  pub plan : Plan
+
+-- An object before a run and after it, and what it told of itself.
+pub record Seen (State X : Type 0) : Type 0 where
+  pub before : State
+  pub after : State
+  pub old : X
+  pub new : X
+
+-- the object is as it was
+abbrev pub Unused : {State X : Type 0} → Seen State X → Type 0
+Unused object = object.new ≡ object.old
+
+-- ---- of the members of a trait
+
+abbrev pub seen : {State X : Type 0} → (X → State) → X → X → Seen State X
+seen tells old new = record { before = tells old; after = tells new; old = old; new = new }
+
+abbrev pub folder_state : {X : Type 0} → (X → Option (List (List ℕ × List ℕ))) → (X → Option (List (List ℕ))) → (X → ℕ) → X → FolderState
+folder_state files asked faults x = record { files = files x; asked = asked x; faults = faults x }
+
+abbrev pub source_state : {X : Type 0} → (X → Option (List ℕ)) → (X → Bool) → (X → ℕ) → X → SourceState
+source_state left ended faults x = record { left = left x; ended = ended x; faults = faults x }
+
+abbrev pub sink_state : {X : Type 0} → (X → Option (List ℕ)) → (X → ℕ) → X → SinkState
+sink_state written faults x = record { written = written x; faults = faults x }
+
+abbrev pub store_state : {X : Type 0} → (X → ℕ) → (X → Bool) → (X → Bool) → (X → ℕ → Log) → (X → List (List ℕ)) → (X → ℕ) → X → StoreState
+store_state faults attached told logs names calls x = record { faults = faults x; attached = attached x; told = told x; logs = logs x; names = names x; calls = calls x }
+
+abbrev pub wire_state : {X : Type 0} → (X → ℕ) → (X → ℕ) → (X → Bool) → (X → List LogEntry) → (X → List (List ℕ)) → (X → Plan) → X → WireState
+wire_state faults send_faults told log heard plan x = record { faults = faults x; send_faults = send_faults x; told = told x; log = log x; heard = heard x; plan = plan x }

@@ -1,0 +1,17 @@
+use Rattle.std.proofs.Common.{◌≡◌, true, sym, rules}
+use Rattle.std.specs.Str.Parse.{digits_value}
+use Rattle.cube_words.specs.Words.{is_size, value_of}
+use Rattle.cube_words.specs.declared.words.Command.TheVariants.{Demo}
+use Rattle.cube_words.specs.declared.words.Setting.TheVariants.{Size}
+use Rattle.cube_words.proofs.Given.{sized, not_none, same_some}
+use Rattle.cube_words.proofs.ordered.size_of.Goals as goal
+
+pub unreachable-requires : goal.unreachable-requires
+unreachable-requires c =
+    let yes : is_size (value_of Size c.args.words.now) ≡ true = sized Demo c.args.words.now c.requires (search rules) in
+    not_none _ (sym (rw (c.as_slice.ensures, c.needed_value.ensures, yes) at c.in-None.ensures.number))
+
+pub returns-clause-size : goal.returns-clause-size
+returns-clause-size c =
+    let yes : is_size (value_of Size c.args.words.now) ≡ true = sized Demo c.args.words.now c.requires (search rules) in
+    same_some c.in-Some.size (digits_value 10 (value_of Size c.args.words.now)) (rw (c.as_slice.ensures, c.needed_value.ensures, yes) at c.in-Some.ensures.number)

@@ -1,0 +1,278 @@
+// The orders that the words of a command give, once nothing is wrong with them.
+ghost use Rattle.std.specs.Prelude.{◌≡◌, ◌≤◌, IfOk, option_copied};
+ghost use Rattle.std.specs.Str.Parse.{digits_value};
+ghost use Rattle.cube_model.specs.Cubes.{IsIn};
+ghost use Rattle.cube_words.specs.declared.words.Command.TheVariants as command;
+ghost use Rattle.cube_words.specs.declared.words.Setting.TheVariants as setting;
+ghost use Rattle.cube_words.specs.declared.words.TheConstants.{MAX_SIZE};
+ghost use Rattle.cube_words.specs.Words.{option_word, needed as needed_by, value_behind as value_in, value_of, files_of as files_in, stated as stated_in, making_of as making_in, orders_with as orders_behind, IsRight, IsMade, Fits};
+
+use crate::words::{
+    Command, Setting, USUAL_REQUESTS, number_in, requests_in, size_in, value_behind,
+};
+use cube_model::{NoMemory, Text};
+use std::alloc::Global;
+
+/// The files that make a cube and its policy, by their names.
+#[derive(Debug, Drop)]
+pub struct CubeFiles {
+    /// The dimension file.
+    pub dims: Text,
+    /// The fact file.
+    pub facts: Text,
+    /// The policy file.
+    pub policy: Text,
+}
+
+/// What a cube is made of.
+#[derive(Clone, Copy, Debug, PartialEq, Eq)]
+pub struct Making {
+    /// The number that all its texts follow from.
+    pub number: u64,
+    /// Its size, from 1 to 20.
+    pub size: u32,
+}
+
+/// What the program is asked to do, with the values of its options.
+#[derive(Debug, Drop)]
+pub enum Orders {
+    /// Print how it is used.
+    Help,
+    /// Print its version.
+    Version,
+    /// Answer lines over a flat fact file.
+    Sum {
+        facts: Text,
+    },
+    /// Say what the files of a cube hold.
+    Check {
+        files: CubeFiles,
+    },
+    /// Answer lines as asks of a cube, at most as many as are stated.
+    Ask {
+        files: CubeFiles,
+        journal: Text,
+        stated: u64,
+    },
+    /// Write the changes that hide a cell.
+    Witness {
+        files: CubeFiles,
+        journal: Text,
+        cell: Text,
+    },
+    /// Write the fact file of the cube with these changes.
+    Twin {
+        files: CubeFiles,
+        journal: Text,
+        cell: Text,
+    },
+    /// Answer asks over the network, at most as many as are stated.
+    Serve {
+        files: CubeFiles,
+        journal: Text,
+        address: Text,
+        stated: u64,
+    },
+    /// Play a script of connections, and answer at most as many asks as are stated.
+    Replay {
+        files: CubeFiles,
+        journal: Text,
+        script: Text,
+        stated: u64,
+    },
+    /// Say what a made cube answers to made queries.
+    Demo {
+        making: Making,
+    },
+}
+
+fn value_given(words: &[Text], setting: Setting) -> Option<&Text>
+    ensures { option_copied result ≡ value_in (option_word setting) words.now }
+{
+    value_behind(setting.word(), words)
+}
+
+// The value of an option that the command needs.
+fn needed_value(words: &[Text], command: Command, setting: Setting) -> &Text
+    requires right { IsRight command words.now }
+    requires needed { IsIn setting (needed_by command) }
+    ensures { result.now ≡ value_of setting words.now }
+{
+    let _command = command;
+    match value_given(words, setting) {
+        Some(value) => value,
+        None => unreachable!(),
+    }
+}
+
+fn needed_text(
+    alloc: Global,
+    words: &[Text],
+    command: Command,
+    setting: Setting,
+) -> Result<Text, NoMemory>
+    requires right { IsRight command words.now }
+    requires needed { IsIn setting (needed_by command) }
+    ensures { IfOk result (λ text. text ≡ value_of setting words.now) }
+{
+    Text::from_bytes(alloc, needed_value(words, command, setting).as_slice())
+}
+
+fn files_of(alloc: Global, words: &[Text], command: Command) -> Result<CubeFiles, NoMemory>
+    requires right { IsRight command words.now }
+    requires dims { IsIn setting.Dims (needed_by command) }
+    requires facts { IsIn setting.Facts (needed_by command) }
+    requires policy { IsIn setting.Policy (needed_by command) }
+    ensures { IfOk result (λ files. files ≡ files_in words.now) }
+{
+    Ok(CubeFiles {
+        dims: needed_text(alloc, words, command, Setting::Dims)?,
+        facts: needed_text(alloc, words, command, Setting::Facts)?,
+        policy: needed_text(alloc, words, command, Setting::Policy)?,
+    })
+}
+
+// The stated number of asks.
+fn stated(words: &[Text], command: Command) -> u64
+    requires { IsRight command words.now }
+    ensures number { result ≡ stated_in words.now }
+    ensures some { 1 ≤ result }
+{
+    let _command = command;
+    match value_given(words, Setting::Requests) {
+        None => USUAL_REQUESTS,
+        Some(text) => match requests_in(text.as_slice()) {
+            Some(number) => number,
+            None => unreachable!(),
+        },
+    }
+}
+
+// The number that a cube is made of.
+fn number_of(words: &[Text]) -> u64
+    requires { IsRight command.Demo words.now }
+    ensures { result ≡ digits_value 10 (value_of setting.Number words.now) }
+{
+    match number_in(needed_value(words, Command::Demo, Setting::Number).as_slice()) {
+        Some(number) => number,
+        None => unreachable!(),
+    }
+}
+
+// The size that it is made of.
+fn size_of(words: &[Text]) -> u32
+    requires { IsRight command.Demo words.now }
+    ensures size { result ≡ digits_value 10 (value_of setting.Size words.now) }
+    ensures some { 1 ≤ result }
+    ensures few { result ≤ MAX_SIZE }
+{
+    match size_in(needed_value(words, Command::Demo, Setting::Size).as_slice()) {
+        Some(size) => size,
+        None => unreachable!(),
+    }
+}
+
+// What a cube is made of.
+fn making_of(words: &[Text]) -> Making
+    requires { IsRight command.Demo words.now }
+    ensures making { result ≡ making_in words.now }
+    ensures fits { IsMade result }
+{
+    Making {
+        number: number_of(words),
+        size: size_of(words),
+    }
+}
+
+fn ask_with(alloc: Global, words: &[Text]) -> Result<Orders, NoMemory>
+    requires { IsRight command.Ask words.now }
+    ensures orders { IfOk result (λ orders. orders ≡ orders_behind command.Ask words.now) }
+    ensures fits { IfOk result Fits }
+{
+    let command = Command::Ask;
+    Ok(Orders::Ask {
+        files: files_of(alloc, words, command)?,
+        journal: needed_text(alloc, words, command, Setting::Journal)?,
+        stated: stated(words, command),
+    })
+}
+
+fn witness_with(alloc: Global, words: &[Text]) -> Result<Orders, NoMemory>
+    requires { IsRight command.Witness words.now }
+    ensures orders { IfOk result (λ orders. orders ≡ orders_behind command.Witness words.now) }
+    ensures fits { IfOk result Fits }
+{
+    let command = Command::Witness;
+    Ok(Orders::Witness {
+        files: files_of(alloc, words, command)?,
+        journal: needed_text(alloc, words, command, Setting::Journal)?,
+        cell: needed_text(alloc, words, command, Setting::Cell)?,
+    })
+}
+
+fn twin_with(alloc: Global, words: &[Text]) -> Result<Orders, NoMemory>
+    requires { IsRight command.Twin words.now }
+    ensures orders { IfOk result (λ orders. orders ≡ orders_behind command.Twin words.now) }
+    ensures fits { IfOk result Fits }
+{
+    let command = Command::Twin;
+    Ok(Orders::Twin {
+        files: files_of(alloc, words, command)?,
+        journal: needed_text(alloc, words, command, Setting::Journal)?,
+        cell: needed_text(alloc, words, command, Setting::Cell)?,
+    })
+}
+
+fn serve_with(alloc: Global, words: &[Text]) -> Result<Orders, NoMemory>
+    requires { IsRight command.Serve words.now }
+    ensures orders { IfOk result (λ orders. orders ≡ orders_behind command.Serve words.now) }
+    ensures fits { IfOk result Fits }
+{
+    let command = Command::Serve;
+    Ok(Orders::Serve {
+        files: files_of(alloc, words, command)?,
+        journal: needed_text(alloc, words, command, Setting::Journal)?,
+        address: needed_text(alloc, words, command, Setting::Address)?,
+        stated: stated(words, command),
+    })
+}
+
+fn replay_with(alloc: Global, words: &[Text]) -> Result<Orders, NoMemory>
+    requires { IsRight command.Replay words.now }
+    ensures orders { IfOk result (λ orders. orders ≡ orders_behind command.Replay words.now) }
+    ensures fits { IfOk result Fits }
+{
+    let command = Command::Replay;
+    Ok(Orders::Replay {
+        files: files_of(alloc, words, command)?,
+        journal: needed_text(alloc, words, command, Setting::Journal)?,
+        script: needed_text(alloc, words, command, Setting::Script)?,
+        stated: stated(words, command),
+    })
+}
+
+/// The orders of a command by the words behind it, with which nothing is wrong.
+pub fn orders_with(alloc: Global, command: Command, words: &[Text]) -> Result<Orders, NoMemory>
+    requires { IsRight command words.now }
+    ensures orders { IfOk result (λ orders. orders ≡ orders_behind command words.now) }
+    ensures fits { IfOk result Fits }
+{
+    match command {
+        Command::Help => Ok(Orders::Help),
+        Command::Version => Ok(Orders::Version),
+        Command::Sum => Ok(Orders::Sum {
+            facts: needed_text(alloc, words, command, Setting::Facts)?,
+        }),
+        Command::Check => Ok(Orders::Check {
+            files: files_of(alloc, words, command)?,
+        }),
+        Command::Ask => ask_with(alloc, words),
+        Command::Witness => witness_with(alloc, words),
+        Command::Twin => twin_with(alloc, words),
+        Command::Serve => serve_with(alloc, words),
+        Command::Replay => replay_with(alloc, words),
+        Command::Demo => Ok(Orders::Demo {
+            making: making_of(words),
+        }),
+    }
+}
