@@ -1,3 +1,4 @@
 pub mod Worlds
 pub mod Lives
 pub mod Ordered
+pub mod TwinFiles

@@ -1,8 +1,8 @@
 -- Over a world with the changes for a protected cell the same talk is written.
-use Rattle.std.proofs.Common.{◌≡◌, ◌∙◌, refl, sym, ap, subst, ℕ, true, false, List, [], ◌∷◌, ◌++◌, inl, inr}
+use Rattle.std.proofs.Common.{◌≡◌, ◌∙◌, refl, sym, ap, subst, ℕ, zero, suc, true, false, List, [], ◌∷◌, ◌++◌, length, append-nil, inl, inr}
 use Rattle.std.specs.declared.option.Option.{Option}
 use Rattle.std.specs.List.{starts_with}
-use Rattle.std.specs.Prelude.{codes, nat_eq}
+use Rattle.std.specs.Prelude.{codes, nat_eq, if◌then◌else◌}
 use Rattle.std.specs.Str.{bytes_eq}
 use Rattle.std.specs.Str.Lines.{lines}
 use Rattle.cube_model.specs.declared.cell.Cell.{Cell}
@@ -22,15 +22,17 @@ use Rattle.cube_model.proofs.Filled.{cores_are_worlds}
 use Rattle.cube_model.proofs.Growth.{extends_refl, extends_trans}
 use Rattle.std.specs.Io.KnownBytes.{Appends}
 use Rattle.cube_io.specs.Content.{AppendsPrefix}
+use Rattle.cube_io.specs.Desks.{Manner}
 use Rattle.cube_engine.specs.Steps.{manner, next_in, reply_in, inner_history, inner_of}
 use Rattle.cube_engine.specs.Worlds.{first_history}
 use Rattle.cube_engine.proofs.Worlds.{room_open, other_sum, inner_grows, inner_stays}
-use Rattle.cube_talk.specs.AskLaws.{by_test, said_long, said_one, rooms_long, rooms_one}
-use Rattle.cube_talk.specs.Asks.{is_too_long, too_large, ask_of, said, rooms_behind, up_to_asks, talk, Says, Talked}
-use Rattle.cube_talk.specs.Lines.{ended_lines}
+use Rattle.cube_talk.specs.AskLaws.{by_test, said_long, said_one, rooms_long, rooms_one, rooms_append}
+use Rattle.cube_talk.specs.Asks.{is_too_long, too_large, ask_of, asks_in, said, rooms_behind, up_to_asks, talk, Talk, Says, Talked}
+use Rattle.cube_talk.specs.Lines.{ended_lines, open_line}
+use Rattle.cube_talk.proofs.Talks.{last_lines, lines_are}
 use Rattle.cube_talk.specs.Replies.{reply_text}
 use Rattle.cube_io.specs.Seen.{SourceState, SinkState, Seen}
-use Rattle.cube_app.specs.Worlds.{history_behind, twin_by, Talk, Hides}
+use Rattle.cube_engine.specs.Headline.{twin_by, Hides}
 use Rattle.cube_talk.specs.declared.talk.Ending.{Ending}
 use Rattle.cube_talk.specs.declared.talk.Ending.TheVariants.{Ended, InputFailed, OutputFailed, NoMemory, Spent}
 
@@ -120,34 +122,87 @@ said_open s w h last (line ∷ rest) (o ∷ os) m t ok adm ext within = by_test 
     ∙ ap (λ (text : List ℕ). reply_text (reply_in s (alone w h) (ask_of line) o) ++ text) more
     ∙ sym (said_one (manner s) (alone w h) line rest o os short))
 
+-- ---- the history behind the lines that were answered
+
+-- the history behind the lines up to the last of the stated asks
+abbrev history_behind : Dims → World → List Entry → ℕ → List (List ℕ) → List Outcome → List Entry
+history_behind s w h stated ls os = behind s w h (up_to_asks stated ls) os
+
+-- no outcome is left, so the rooms stay
+rooms_none : (m : Manner) (rooms : List Room) (ls : List (List ℕ)) → rooms_behind m rooms ls [] ≡ rooms
+rooms_none m rooms [] = refl
+rooms_none m rooms (line ∷ rest) = by_test (is_too_long line)
+    (λ long. rooms_long m rooms line rest [] long ∙ rooms_none m rooms rest)
+    (λ short. rw short refl)
+
+-- behind those that were answered no line has an outcome
+behind_first : (s : Dims) (w : World) (h : List Entry) (ls first more : List (List ℕ)) (os : List Outcome) → ls ≡ first ++ more → length os ≡ asks_in first → behind s w h ls os ≡ behind s w h first os
+behind_first s w h ls first more os split matched = ap first_history (
+    ap (λ (l : List (List ℕ)). rooms_behind (manner s) (alone w h) l os) split
+    ∙ ap (λ (o : List Outcome). rooms_behind (manner s) (alone w h) (first ++ more) o) (sym (append-nil os))
+    ∙ rooms_append (manner s) first more [] (alone w h) os matched
+    ∙ rooms_none (manner s) (rooms_behind (manner s) (alone w h) first os) more)
+
+-- so many asks are left behind a line
+abbrev left_behind : List ℕ → ℕ → ℕ
+left_behind line n = if is_too_long line then suc n else n
+
+up_to_split : (n : ℕ) (ls : List (List ℕ)) → (rest : List (List ℕ)) × (ls ≡ up_to_asks n ls ++ rest)
+up_to_split zero ls = (ls, refl)
+up_to_split (suc n) [] = ([], refl)
+up_to_split (suc n) (line ∷ more) = let x = up_to_split (left_behind line n) more in (x.0, ap (λ (l : List (List ℕ)). line ∷ l) x.1)
+
+stated_grows : (s : Dims) (w : World) (h : List Entry) (stated : ℕ) (ls : List (List ℕ)) (os : List Outcome) → Extends (history_behind s w h stated ls os) (behind s w h ls os)
+stated_grows s w h stated ls os =
+    let x = up_to_split stated ls in
+    subst (λ (l : List (List ℕ)). Extends (history_behind s w h stated ls os) (behind s w h l os)) (sym x.1) (behind_more s w h (up_to_asks stated ls) x.0 os)
+
+-- it goes on from the history behind all lines, and from that behind the ended ones
+all_grow : (s : Dims) (w : World) (h : List Entry) (stated : ℕ) (text : List ℕ) (first more : List (List ℕ)) (os : List Outcome) → lines text ≡ first ++ more → length os ≡ asks_in first
+    → Extends (history_behind s w h stated (lines text) os) (behind s w h first os)
+all_grow s w h stated text first more os split matched = subst (λ (k : List Entry). Extends (history_behind s w h stated (lines text) os) k) (behind_first s w h (lines text) first more os split matched) (stated_grows s w h stated (lines text) os)
+
+ended_grow : (s : Dims) (w : World) (h : List Entry) (stated : ℕ) (text : List ℕ) (first more : List (List ℕ)) (os : List Outcome) → lines text ≡ first ++ more → length os ≡ asks_in first
+    → Extends (history_behind s w h stated (ended_lines text) os) (behind s w h first os)
+ended_grow s w h stated text first more os split matched =
+    let some = behind_more s w h (ended_lines text) (last_lines (open_line text)) os in
+    let all = subst (λ (l : List (List ℕ)). Extends (behind s w h (ended_lines text) os) (behind s w h l os)) (sym (lines_are text)) some in
+    extends_trans (history_behind s w h stated (ended_lines text) os) (behind s w h (ended_lines text) os) (behind s w h first os) (stated_grows s w h stated (ended_lines text) os)
+    (subst (λ (k : List Entry). Extends (behind s w h (ended_lines text) os) k) (behind_first s w h (lines text) first more os split matched) all)
+
+-- ---- what was written
+
 talk_open : (s : Dims) (w : World) (h last : List Entry) (ls : List (List ℕ)) (os : List Outcome) (stated m : ℕ) (t : Cell) → IsWorld w → IsAdmissible w.shown last → Extends (history_behind s w h stated ls os) last → IsIn t (protected w.shown m)
     → talk (manner s) (alone (twin_by w last m t) h) ls os stated ≡ talk (manner s) (alone w h) ls os stated
 talk_open s w h last ls os stated m t ok adm ext within = said_open s w h last (up_to_asks stated ls) os m t ok adm ext within
 
--- ---- what was written of it
+says_open : (s : Dims) (w : World) (h last : List Entry) (ending : Ending) (stated : ℕ) (os : List Outcome) (text : List ℕ) (old new : Option (List ℕ)) (m : ℕ) (t : Cell) → IsWorld w → IsAdmissible w.shown last
+    → Extends (history_behind s w h stated (lines text) os) last → Extends (history_behind s w h stated (ended_lines text) os) last → IsIn t (protected w.shown m)
+    → Says ending (manner s) (alone w h) stated os text old new → Says ending (manner s) (alone (twin_by w last m t) h) stated os text old new
+says_open s w h last Ended stated os text old new m t ok adm all ended within says = (says.0, says.1, says.2, subst (Appends old new) (sym (talk_open s w h last (lines text) os stated m t ok adm all within)) says.3)
+says_open s w h last InputFailed stated os text old new m t ok adm all ended within says = (says.0, says.1, says.2, subst (Appends old new) (sym (talk_open s w h last (ended_lines text) os stated m t ok adm ended within)) says.3)
+says_open s w h last OutputFailed stated os text old new m t ok adm all ended within says = subst (AppendsPrefix old new) (sym (talk_open s w h last (lines text) os stated m t ok adm all within)) says
+says_open s w h last NoMemory stated os text old new m t ok adm all ended within says = absurd says
+says_open s w h last Spent stated os text old new m t ok adm all ended within (inl some) = inl (some.0, some.1, subst (Appends old new) (sym (talk_open s w h last (lines text) os stated m t ok adm all within)) some.2)
+says_open s w h last Spent stated os text old new m t ok adm all ended within (inr full) = inr (full.0, full.1, full.2, subst (Appends old new) (sym (talk_open s w h last (ended_lines text) os stated m t ok adm ended within)) full.3)
 
--- the lines whose talk was written, or begun
-abbrev talked_lines : Ending → (s : Dims) (w : World) (h : List Entry) (stated : ℕ) (os : List Outcome) (text : List ℕ) (old new : Option (List ℕ)) → Type 0
-talked_lines ending s w h stated os text old new = (ls : List (List ℕ)) × ((last : List Entry) (m : ℕ) (t : Cell) → IsAdmissible w.shown last → Extends (history_behind s w h stated ls os) last → IsIn t (protected w.shown m) → Says ending (manner s) (alone (twin_by w last m t) h) stated os text old new)
-
-says_open : (s : Dims) (w : World) (h : List Entry) (ending : Ending) (stated : ℕ) (os : List Outcome) (text : List ℕ) (old new : Option (List ℕ)) → IsWorld w → Says ending (manner s) (alone w h) stated os text old new → talked_lines ending s w h stated os text old new
-says_open s w h Ended stated os text old new ok says = (lines text, λ last m t adm ext within. (says.0, says.1, says.2, subst (Appends old new) (sym (talk_open s w h last (lines text) os stated m t ok adm ext within)) says.3))
-says_open s w h InputFailed stated os text old new ok says = (ended_lines text, λ last m t adm ext within. (says.0, says.1, says.2, subst (Appends old new) (sym (talk_open s w h last (ended_lines text) os stated m t ok adm ext within)) says.3))
-says_open s w h OutputFailed stated os text old new ok says = (lines text, λ last m t adm ext within. subst (AppendsPrefix old new) (sym (talk_open s w h last (lines text) os stated m t ok adm ext within)) says)
-says_open s w h NoMemory stated os text old new ok says = absurd says
-says_open s w h Spent stated os text old new ok (inl all) = (lines text, λ last m t adm ext within. inl (all.0, all.1, subst (Appends old new) (sym (talk_open s w h last (lines text) os stated m t ok adm ext within)) all.2))
-says_open s w h Spent stated os text old new ok (inr full) = (ended_lines text, λ last m t adm ext within. inr (full.0, full.1, full.2, subst (Appends old new) (sym (talk_open s w h last (ended_lines text) os stated m t ok adm ext within)) full.3))
-
-pub hidden : {I O : Type 0} (core : Core) (policy : Policy) (h : List Entry) (talk : Talk) (input : Seen SourceState I) (out : Seen SinkState O) → IsCore core → IsPolicy core.dims policy → IsAdmissible (shown core policy) h
-    → Talked (manner core.dims) (alone (world core policy) h) talk.stated talk.ending talk.outcomes talk.bytes input.before.left input.after.left out.before.written out.after.written → Hides core policy h talk input out
-hidden core policy h talk input out is_core is_policy adm talked =
-    let ok : IsWorld (world core policy) = cores_are_worlds core policy is_core is_policy.methods in
-    let said = says_open core.dims (world core policy) h talk.ending talk.stated talk.outcomes talked.text out.before.written out.after.written ok talked.says in
+pub hides : {I O : Type 0} (core : Core) (policy : Policy) (h : List Entry) (talk : Talk) (input : Seen SourceState I) (out : Seen SinkState O) → IsCore core → IsPolicy core.dims policy → IsAdmissible (shown core policy) h
+    → (talked : Talked (manner core.dims) (alone (world core policy) h) talk input out)
+    → Hides core policy (first_history (rooms_behind (manner core.dims) (alone (world core policy) h) talked.first talk.outcomes)) (λ w. Says talk.ending (manner core.dims) (alone w h) talk.stated talk.outcomes talked.text out.before.written out.after.written)
+hides core policy h talk input out is_core is_policy adm talked =
+    let s = core.dims in
+    let w = world core policy in
+    let os = talk.outcomes in
+    let ok : IsWorld w = cores_are_worlds core policy is_core is_policy.methods in
+    let last = behind s w h talked.first os in
     record {
-      lines = said.0;
-      admissible = behind_stays core.dims (world core policy) h (up_to_asks talk.stated said.0) talk.outcomes adm;
-      hides = λ last good ext m t within. record {
-        talked = record { text = talked.text; taken = talked.taken; counted = talked.counted; first = talked.first; more = talked.more; split = talked.split; matched = talked.matched; says = said.1 last m t good ext within };
-        other_sum = other_sum (world core policy) last m t ok good within;
-      };
+      here = talked.says;
+      admissible = behind_stays s w h talked.first os adm;
+      hides = λ later good ext m t within.
+          let all = extends_trans (history_behind s w h talk.stated (lines talked.text) os) last later (all_grow s w h talk.stated talked.text talked.first talked.more os talked.split talked.matched) ext in
+          let ended = extends_trans (history_behind s w h talk.stated (ended_lines talked.text) os) last later (ended_grow s w h talk.stated talked.text talked.first talked.more os talked.split talked.matched) ext in
+          record {
+            same = says_open s w h later talk.ending talk.stated os talked.text out.before.written out.after.written m t ok good all ended within talked.says;
+            other_sum = other_sum w later m t ok good within;
+          };
     }

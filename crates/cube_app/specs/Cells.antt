@@ -1,22 +1,20 @@
 -- All that `witness` and `twin` do with a cell.
-use Rattle.std.specs.Prelude.{◌≡◌, ◌⊎◌, ◌≤◌, ◌+◌, ℕ, Bool, true, false, IsTrue, IfSome, IsOk, List, ◌++◌, codes}
-use Rattle.std.specs.declared.option.Option.{Option}
+use Rattle.std.specs.Prelude.{◌≡◌, ◌⊎◌, ◌≤◌, ◌+◌, ℕ, Bool, true, false, IsTrue, IsOk, List, ◌++◌, codes}
 use Rattle.std.specs.declared.result.Result.{Result}
 use Rattle.std.specs.declared.result.Result.TheVariants.{Ok, Err}
 use Rattle.cube_model.specs.declared.entry.Entry.{Entry}
 use Rattle.cube_model.specs.declared.policy.Policy.{Policy}
 use Rattle.cube_model.specs.Cores.{Core, shown}
-use Rattle.cube_io.specs.States.{Gained}
-use Rattle.cube_journal.specs.Keeping.{IsInRecovery}
-use Rattle.cube_engine.specs.Changes.{changes_for, text_of, twin_for}
-use Rattle.cube_engine.specs.Kept.{history_of, IsExact}
 use Rattle.cube_io.specs.Causes.{Rose}
 use Rattle.cube_io.specs.Seen.{FolderState, SinkState, StoreState, Seen, Unused}
-use Rattle.cube_opening.specs.Opening.{MakesAll}
+use Rattle.cube_engine.specs.Changes.{changes_for, text_of, twin_for}
+use Rattle.cube_engine.specs.Kept.{history_of, IsExact}
+use Rattle.cube_opening.specs.Opening.{IsSteady, EndsUnopened, Make, AsksAll, HasAll}
 use Rattle.cube_opening.specs.Reports.{IsReport, NoRoom, Prints}
+use Rattle.cube_opening.specs.declared.cube_files.CubeFiles.{CubeFiles}
 use Rattle.cube_opening.specs.declared.report.Report.{Report}
-use Rattle.cube_words.specs.declared.ordered.CubeFiles.{CubeFiles}
-use Rattle.cube_app.specs.Ends.{IsSteady, EndsAtFiles, EndsAtJournal, Make, AsksFiles, AsksJournal, HasFiles, HasLog}
+use Rattle.cube_starting.specs.Starting.{EndsUnstarted, Recovers, HasJournal}
+use Rattle.cube_app.specs.Ends.{AsksJournal}
 
 -- the fact file of the twin, or the changes in words; or the status and the line that say why there is none
 abbrev pub cell_text : Bool → Core → Policy → List Entry → List ℕ → Result (List ℕ) (ℕ × List ℕ)
@@ -24,9 +22,9 @@ cell_text true core policy h cell = twin_for core policy h cell
 cell_text false core policy h cell = text_of core.dims (shown core policy) (changes_for core.dims (shown core policy) h cell)
 
 -- The text was put on the sink, or the cell is refused with the line and nothing is put. Memory may run out before.
-abbrev pub Tells : Result (List ℕ) (ℕ × List ℕ) → Option (List ℕ) → Option (List ℕ) → Report → Type 0
-Tells (Ok text) written written' r = Prints text written written' r ⊎ (IsReport 7 (codes "no memory\n") r × (written' ≡ written))
-Tells (Err why) written written' r = (IsReport 3 (codes "cell: " ++ why.1) r ⊎ IsReport 7 (codes "no memory\n") r ⊎ NoRoom r) × (written' ≡ written)
+abbrev pub Tells : {O : Type 0} → Result (List ℕ) (ℕ × List ℕ) → Seen SinkState O → Report → Type 0
+Tells (Ok text) out r = Prints text out r ⊎ (IsReport 7 (codes "no memory\n") r × (out.after.written ≡ out.before.written))
+Tells (Err why) out r = (IsReport 3 (codes "cell: " ++ why.1) r ⊎ IsReport 7 (codes "no memory\n") r ⊎ NoRoom r) × (out.after.written ≡ out.before.written)
 
 -- The text was told over the core that the files make, under their policy, by the history that the journal recovers, which stays: every
 -- crash leaves it, and at each moment the log is as at entry, or every crash leaves what recovers the same.
@@ -36,23 +34,23 @@ pub record Told {S O : Type 0} (is_twin : Bool) (cube : CubeFiles) (cell : List 
   pub history : List Entry
   pub files_make : Make cube files core policy
   pub recovered : IsTrue store.before.told → history_of core policy (store.before.logs 0).state.now ≡ Ok history
-  pub tells : Tells (cell_text is_twin core policy history cell) out.before.written out.after.written r
-  pub passed : IsTrue store.before.told → Gained (IsInRecovery (history_of core policy) (store.before.logs 0).state) (store.before.logs 0) (store.after.logs 0)
+  pub tells : Tells (cell_text is_twin core policy history cell) out r
+  pub passed : Recovers core policy store
   pub exact : IsTrue store.before.told → IsExact core policy history (store.after.logs 0).state
 
 -- the cell is accepted over each core and history that the files and the log make
-abbrev pub HasCell : Bool → CubeFiles → List ℕ → Option (List (List ℕ × List ℕ)) → List ℕ → Type 0
-HasCell is_twin cube cell files log =
-    (core : Core) (policy : Policy) (h : List Entry) → IfSome files (MakesAll cube.dims cube.facts cube.policy core policy) → history_of core policy log ≡ Ok h → IsOk (cell_text is_twin core policy h cell)
+abbrev pub HasCell : Bool → CubeFiles → List ℕ → FolderState → StoreState → Type 0
+HasCell is_twin cube cell files store =
+    (core : Core) (policy : Policy) (h : List Entry) → Make cube files core policy → history_of core policy (store.logs 0).state.now ≡ Ok h → IsOk (cell_text is_twin core policy h cell)
 
 -- All that `witness` and `twin` do with these files, this journal and this cell. Where the cell is not told, nothing is put. Where the files,
 -- the journal and the cell are accepted and no count rose, all was done, or memory ran out.
 pub record CellRun {F S O : Type 0} (is_twin : Bool) (cube : CubeFiles) (journal cell : List ℕ) (files : Seen FolderState F) (store : Seen StoreState S) (out : Seen SinkState O) (r : Report) : Type 0 where
-  pub answers : (EndsAtFiles cube files r × Unused store × Unused out)
-      ⊎ (EndsAtJournal cube files store r × IsSteady files × Unused out)
+  pub answers : (EndsUnopened cube files r × Unused store × Unused out)
+      ⊎ (EndsUnstarted cube files.before store r × IsSteady files × Unused out)
       ⊎ (Told is_twin cube cell files.before store out r × IsSteady files)
-  pub asks : AsksFiles cube files r
+  pub asks : AsksAll cube files r
   pub named : AsksJournal journal store r
   pub few_calls : IsTrue store.before.told → store.after.calls ≤ store.before.calls + 7
-  pub complete : HasFiles cube files.before → HasLog cube files.before store.before → HasCell is_twin cube cell files.before.files (store.before.logs 0).state.now
+  pub complete : HasAll cube files.before → HasJournal cube files.before store.before → HasCell is_twin cube cell files.before store.before
       → ¬ Rose files.before.faults files.after.faults → ¬ Rose store.before.faults store.after.faults → ¬ Rose out.before.faults out.after.faults → (r.status ≡ 0) ⊎ (r.status ≡ 7)

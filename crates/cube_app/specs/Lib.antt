@@ -6,4 +6,4 @@ pub mod Serves
 pub mod Summary
 pub mod Talks
 pub mod Texts
-pub mod Worlds
+pub mod TwinFiles

@@ -28,8 +28,8 @@ pub record Outside (F S I O W : Type 0) : Type 0 where
 -- What is done where this is ordered: texts about the program are printed, the lines of the input are answered by sums or as asks, the files
 -- are summed up, a cell is told, connections are served, a script is played, or a made cube is shown.
 abbrev pub Does : {F S I O W : Type 0} → Orders → Outside F S I O W → Report → Type 0
-Does Help objects r = Prints help_text objects.out.before.written objects.out.after.written r
-Does Version objects r = Prints version_text objects.out.before.written objects.out.after.written r
+Does Help objects r = Prints help_text objects.out r
+Does Version objects r = Prints version_text objects.out r
 Does (Sum facts) objects r = SumRun facts objects.files objects.input objects.out r
 Does (Check cube) objects r = CheckRun cube objects.files objects.out r
 Does (Ask cube journal stated) objects r = AskRun cube journal stated objects.files objects.store objects.input objects.out r
@@ -71,7 +71,7 @@ pub record Obeyed {F S I O W : Type 0} (orders : Orders) (objects : Outside F S 
   pub leaves : Leaves orders objects r
   pub causes : HasCauses objects r
   pub ordered : r.status ≢ 2
-  pub others : OthersStay objects.store.before.told 0 objects.store.before.logs objects.store.after.logs
+  pub others : OthersStay 0 objects.store.before objects.store.after
 
 -- ---- the whole
 

@@ -1,6 +1,5 @@
 -- All that `check` does.
 use Rattle.std.specs.Prelude.{◌≡◌, ◌⊎◌, ℕ, List, ◌++◌, length, sum, codes, decimal, if◌then◌else◌}
-use Rattle.std.specs.declared.option.Option.{Option}
 use Rattle.std.specs.List.{sum_by}
 use Rattle.cube_model.specs.declared.policy.Policy.{Policy}
 use Rattle.cube_model.specs.Cores.{Core, shown}
@@ -11,10 +10,10 @@ use Rattle.cube_core.specs.Full.{is_full}
 use Rattle.cube_engine.specs.Kept.{digest_for}
 use Rattle.cube_io.specs.Causes.{Rose}
 use Rattle.cube_io.specs.Seen.{FolderState, SinkState, Seen, Unused}
+use Rattle.cube_opening.specs.Opening.{IsSteady, EndsUnopened, Make, AsksAll, HasAll}
 use Rattle.cube_opening.specs.Reports.{IsReport, Prints}
+use Rattle.cube_opening.specs.declared.cube_files.CubeFiles.{CubeFiles}
 use Rattle.cube_opening.specs.declared.report.Report.{Report}
-use Rattle.cube_words.specs.declared.ordered.CubeFiles.{CubeFiles}
-use Rattle.cube_app.specs.Ends.{IsSteady, EndsAtFiles, Make, AsksFiles, HasFiles}
 
 -- a word and its number
 abbrev pub count_line : List ℕ → ℕ → List ℕ
@@ -45,19 +44,19 @@ check_text core policy = core_text core ++ count_line (codes "protected") (prote
 -- ---- the run
 
 -- the summary was printed, unless memory ran out
-abbrev pub Summarizes : Core → Policy → Option (List ℕ) → Option (List ℕ) → Report → Type 0
-Summarizes core policy written written' r = Prints (check_text core policy) written written' r ⊎ (IsReport 7 (codes "no memory\n") r × (written' ≡ written))
+abbrev pub Summarizes : {O : Type 0} → Core → Policy → Seen SinkState O → Report → Type 0
+Summarizes core policy out r = Prints (check_text core policy) out r ⊎ (IsReport 7 (codes "no memory\n") r × (out.after.written ≡ out.before.written))
 
 -- the summary of the core and the policy that the files make was printed
 pub record Checked {O : Type 0} (cube : CubeFiles) (files : FolderState) (out : Seen SinkState O) (r : Report) : Type 0 where
   pub core : Core
   pub policy : Policy
   pub files_make : Make cube files core policy
-  pub printed : Summarizes core policy out.before.written out.after.written r
+  pub printed : Summarizes core policy out r
 
 -- All that `check` does with these files: it ends at a file, or it prints the summary. Where the files are accepted and no count rose, all
 -- was done, or memory ran out.
 pub record CheckRun {F O : Type 0} (cube : CubeFiles) (files : Seen FolderState F) (out : Seen SinkState O) (r : Report) : Type 0 where
-  pub answers : (EndsAtFiles cube files r × Unused out) ⊎ (Checked cube files.before out r × IsSteady files)
-  pub asks : AsksFiles cube files r
-  pub complete : HasFiles cube files.before → ¬ Rose files.before.faults files.after.faults → ¬ Rose out.before.faults out.after.faults → (r.status ≡ 0) ⊎ (r.status ≡ 7)
+  pub answers : (EndsUnopened cube files r × Unused out) ⊎ (Checked cube files.before out r × IsSteady files)
+  pub asks : AsksAll cube files r
+  pub complete : HasAll cube files.before → ¬ Rose files.before.faults files.after.faults → ¬ Rose out.before.faults out.after.faults → (r.status ≡ 0) ⊎ (r.status ≡ 7)

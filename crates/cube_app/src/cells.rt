@@ -1,10 +1,10 @@
 // `witness` and `twin`: what hides a cell, as changes or as a fact file.
 ghost use Rattle.std.specs.Prelude.{◌≡◌, ◌≢◌, ◌⊎◌, ◌≤◌, ◌+◌, ◌++◌, ℕ, List, Result, [], IsTrue, IfOk, IfErr, IsOk, Ok, codes};
 ghost use Rattle.cube_io.specs.Causes.{Rose};
-ghost use Rattle.cube_io.specs.Seen.{seen, folder_state, sink_state, store_state};
+ghost use Rattle.cube_io.specs.Seen.{seen};
 ghost use Rattle.cube_io.specs.Told.{OthersStay};
 ghost use Rattle.cube_engine.specs.Changes.{Refuses};
-ghost use Rattle.cube_opening.specs.Opening.{EndsUnopened, AsksAll, HasAll};
+ghost use Rattle.cube_opening.specs.Opening.{EndsUnopened, AsksAll, HasAll, IsSteady};
 ghost use Rattle.cube_opening.specs.Reports.{IsReport, NoRoom};
 ghost use Rattle.cube_app.specs.Cells.{Tells, Told, HasCell, cell_text};
 ghost use Rattle.cube_starting.specs.Starting.{EndsUnstarted, AsksStore, HasJournal};
@@ -13,9 +13,8 @@ use crate::run::print;
 use cube_engine::{Engine, NoChanges};
 use cube_io::{Folder, Sink, Store};
 use cube_model::{NoMemory, Text};
-use cube_opening::{Guarded, Report, Room, no_room, open_guarded, with_text};
+use cube_opening::{CubeFiles, Guarded, Report, Room, no_room, open_guarded, with_text};
 use cube_starting::open_engine;
-use cube_words::CubeFiles;
 use std::alloc::Global;
 
 fn refused_text(alloc: Global, line: &Text) -> Result<Text, NoMemory>
@@ -44,10 +43,10 @@ fn put_told<O: Sink>(
     out: &mut O,
 ) -> Report
     requires { room ≡ [] }
-    ensures tells { (said : Result (List ℕ) (ℕ × List ℕ)) → IfOk told (λ text. said ≡ Ok text) → IfErr told (λ why. Refuses why said) → Tells said (O.written out.old) (O.written out.new) result }
+    ensures tells { (said : Result (List ℕ) (ℕ × List ℕ)) → IfOk told (λ text. said ≡ Ok text) → IfErr told (λ why. Refuses why said) → Tells said (seen O.state out.old out.new) result }
     ensures accepted { (said : Result (List ℕ) (ℕ × List ℕ)) → IfErr told (λ why. Refuses why said) → IsOk said → result.status ≢ 3 }
-    ensures output { result.status ≡ 6 → Rose (O.faults out.old) (O.faults out.new) }
-    ensures output_steady { result.status ≢ 6 → O.faults out.new ≡ O.faults out.old }
+    ensures output { result.status ≡ 6 → Rose (O.state out.old).faults (O.state out.new).faults }
+    ensures output_steady { result.status ≢ 6 → (O.state out.new).faults ≡ (O.state out.old).faults }
     ensures status { (result.status ≡ 0) ⊎ (result.status ≡ 3) ⊎ (result.status ≡ 6) ⊎ (result.status ≡ 7) }
     ensures outcomes { result.outcomes ≡ [] }
 {
@@ -83,26 +82,25 @@ pub fn tell<F: Folder, S: Store, O: Sink>(
     out: &mut O,
 ) -> Report
     requires { room ≡ [] }
-    ensures answers { (EndsUnopened cube.now.dims cube.now.facts cube.now.policy (F.files files.old) (F.faults files.old) (F.faults files.new) result × (store.new ≡ store.old) × (out.new ≡ out.old))
-        ⊎ (EndsUnstarted cube.now.dims cube.now.facts cube.now.policy (F.files files.old) (S.told store.old) (S.logs store.old 0) (S.logs store.new 0) (S.faults store.old) (S.faults store.new) result × (F.faults files.new ≡ F.faults files.old) × (out.new ≡ out.old))
-        ⊎ (Told is_twin cube.now cell.now (folder_state F.files F.asked F.faults files.old) (seen (store_state S.faults S.attached S.told S.logs S.names S.calls) store.old store.new) (seen (sink_state O.written O.faults) out.old out.new) result × (F.faults files.new ≡ F.faults files.old)) }
-    ensures asks { AsksAll cube.now.dims cube.now.facts cube.now.policy (F.files files.old) (F.asked files.old) (F.asked files.new) (F.faults files.old) (F.faults files.new) result }
-    ensures names { (store.new ≡ store.old) ⊎ AsksStore journal.now (S.told store.old) (S.names store.old) (S.names store.new) result }
-    ensures unkept { result.status ≡ 9 → Rose (S.faults store.old) (S.faults store.new) }
-    ensures calls { IsTrue (S.told store.old) → S.calls store.new ≤ S.calls store.old + 7 }
-    ensures told { S.told store.new ≡ S.told store.old }
-    ensures others { OthersStay (S.told store.old) 0 (S.logs store.old) (S.logs store.new) }
-    ensures unreadable { result.status ≡ 5 → Rose (F.faults files.old) (F.faults files.new) }
-    ensures output { result.status ≡ 6 → Rose (O.faults out.old) (O.faults out.new) }
-    ensures steady { result.status ≢ 5 → F.faults files.new ≡ F.faults files.old }
-    ensures output_steady { result.status ≢ 6 → O.faults out.new ≡ O.faults out.old }
-    ensures complete { HasAll cube.now.dims cube.now.facts cube.now.policy (F.files files.old) → HasJournal cube.now.dims cube.now.facts cube.now.policy (F.files files.old) (S.told store.old) (S.logs store.old 0).state.now → HasCell is_twin cube.now cell.now (F.files files.old) (S.logs store.old 0).state.now
-        → ¬ Rose (F.faults files.old) (F.faults files.new) → ¬ Rose (S.faults store.old) (S.faults store.new) → ¬ Rose (O.faults out.old) (O.faults out.new) → (result.status ≡ 0) ⊎ (result.status ≡ 7) }
+    ensures answers { (EndsUnopened cube.now (seen F.state files.old files.new) result × (store.new ≡ store.old) × (out.new ≡ out.old))
+        ⊎ (EndsUnstarted cube.now (F.state files.old) (seen S.state store.old store.new) result × IsSteady (seen F.state files.old files.new) × (out.new ≡ out.old))
+        ⊎ (Told is_twin cube.now cell.now (F.state files.old) (seen S.state store.old store.new) (seen O.state out.old out.new) result × IsSteady (seen F.state files.old files.new)) }
+    ensures asks { AsksAll cube.now (seen F.state files.old files.new) result }
+    ensures names { (store.new ≡ store.old) ⊎ AsksStore journal.now (seen S.state store.old store.new) result }
+    ensures unkept { result.status ≡ 9 → Rose (S.state store.old).faults (S.state store.new).faults }
+    ensures calls { IsTrue (S.state store.old).told → (S.state store.new).calls ≤ (S.state store.old).calls + 7 }
+    ensures others { OthersStay 0 (S.state store.old) (S.state store.new) }
+    ensures unreadable { result.status ≡ 5 → Rose (F.state files.old).faults (F.state files.new).faults }
+    ensures output { result.status ≡ 6 → Rose (O.state out.old).faults (O.state out.new).faults }
+    ensures steady { result.status ≢ 5 → IsSteady (seen F.state files.old files.new) }
+    ensures output_steady { result.status ≢ 6 → (O.state out.new).faults ≡ (O.state out.old).faults }
+    ensures complete { HasAll cube.now (F.state files.old) → HasJournal cube.now (F.state files.old) (S.state store.old) → HasCell is_twin cube.now cell.now (F.state files.old) (S.state store.old)
+        → ¬ Rose (F.state files.old).faults (F.state files.new).faults → ¬ Rose (S.state store.old).faults (S.state store.new).faults → ¬ Rose (O.state out.old).faults (O.state out.new).faults → (result.status ≡ 0) ⊎ (result.status ≡ 7) }
     ensures words { result.status ≢ 2 }
     ensures wire { result.status ≢ 8 }
     ensures outcomes { result.outcomes ≡ [] }
 {
-    let opened = match open_guarded(alloc, room, &cube.dims, &cube.facts, &cube.policy, files) {
+    let opened = match open_guarded(alloc, room, cube, files) {
         Ok(opened) => opened,
         Err(report) => return report,
     };

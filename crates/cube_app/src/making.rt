@@ -1,7 +1,7 @@
 // `demo`: what a made cube answers.
 ghost use Rattle.std.specs.Prelude.{◌≡◌, ◌≢◌, []};
 ghost use Rattle.cube_io.specs.Causes.{Rose};
-ghost use Rattle.cube_io.specs.Seen.{seen, sink_state};
+ghost use Rattle.cube_io.specs.Seen.{seen};
 ghost use Rattle.cube_words.specs.Words.{IsMade};
 ghost use Rattle.cube_app.specs.Making.{DemoRun};
 
@@ -15,9 +15,9 @@ use std::alloc::Global;
 pub fn show<O: Sink>(alloc: Global, room: Room, making: Making, out: &mut O) -> Report
     requires room { room ≡ [] }
     requires fits { IsMade making }
-    ensures run { DemoRun making (seen (sink_state O.written O.faults) out.old out.new) result }
-    ensures output { result.status ≡ 6 → Rose (O.faults out.old) (O.faults out.new) }
-    ensures output_steady { result.status ≢ 6 → O.faults out.new ≡ O.faults out.old }
+    ensures run { DemoRun making (seen O.state out.old out.new) result }
+    ensures output { result.status ≡ 6 → Rose (O.state out.old).faults (O.state out.new).faults }
+    ensures output_steady { result.status ≢ 6 → (O.state out.new).faults ≡ (O.state out.old).faults }
     ensures files { result.status ≢ 5 }
     ensures wire { result.status ≢ 8 }
     ensures store { result.status ≢ 9 }

@@ -1,15 +1,17 @@
 // The top call: all that the program does.
 ghost use Rattle.std.specs.Prelude.{◌≡◌, ◌≢◌, ◌⊎◌, ◌≤◌, ◌+◌, ◌++◌, [], true, length, IfOk, IsTrue};
 ghost use Rattle.cube_io.specs.Causes.{Rose};
-ghost use Rattle.cube_io.specs.Seen.{seen, folder_state, source_state, sink_state, store_state, wire_state};
+ghost use Rattle.cube_io.specs.Seen.{seen};
 ghost use Rattle.cube_io.specs.Told.{OthersStay};
 ghost use Rattle.cube_words.specs.Words.{orders_of as orders_in, Fits};
 ghost use Rattle.cube_opening.specs.Reports.{IsReport, NoRoom, Prints};
-ghost use Rattle.cube_opening.specs.Opening.{flat_said, Unopened, AsksOnce, EndsUnopened, AsksAll, HasAll};
+ghost use Rattle.cube_opening.specs.Opening.{flat_said, Unopened, AsksOnce, EndsUnopened, AsksAll, HasAll, IsSteady};
 ghost use Rattle.cube_starting.specs.Starting.{EndsUnstarted, AsksStore, HasJournal};
 ghost use Rattle.cube_app.specs.Runs.{Obeyed, Runs};
 ghost use Rattle.cube_app.specs.Summary.{Checked};
-ghost use Rattle.cube_app.specs.Talks.{Answered, HasFlat, Asked};
+ghost use Rattle.cube_app.specs.Talks.{Answered, HasFlat, Asked, Reports};
+ghost use Rattle.cube_talk.specs.Asks.{Talk};
+ghost use Rattle.cube_app.specs.TwinFiles.{TwinFilesMakeTwins, TalksAreTheSame};
 ghost use Rattle.cube_app.specs.Texts.{usage_text as usage_words, status_of as status_in, ending_text};
 
 use crate::cells::tell;
@@ -19,12 +21,12 @@ use cube_engine::Engine;
 use cube_io::{Folder, Sink, Source, Store, Wire};
 use cube_model::{NoMemory, Text};
 use cube_opening::{
-    Guarded, Report, Room, no_room, open_flat, open_guarded, spent_room, with_text,
+    CubeFiles, Guarded, Report, Room, no_room, open_flat, open_guarded, spent_room, with_text,
 };
 use cube_serving::{replay_cube, serve_cube};
 use cube_starting::open_engine;
 use cube_talk::{Carry, Ending, TalkEnd, converse_by_asks, converse_by_sums};
-use cube_words::{CubeFiles, Orders, Usage, orders_of};
+use cube_words::{Orders, Usage, orders_of};
 use std::alloc::Global;
 
 const HELP: &[u8] =
@@ -66,9 +68,9 @@ fn refuse_words(alloc: Global, words: &[Text], usage: Usage) -> Report
 /// Puts a text.
 pub fn print<O: Sink>(alloc: Global, room: Room, text: &[u8], out: &mut O) -> Report
     requires { room ≡ [] }
-    ensures prints { Prints text.now (O.written out.old) (O.written out.new) result }
-    ensures output { result.status ≡ 6 → Rose (O.faults out.old) (O.faults out.new) }
-    ensures steady { result.status ≢ 6 → O.faults out.new ≡ O.faults out.old }
+    ensures prints { Prints text.now (seen O.state out.old out.new) result }
+    ensures output { result.status ≡ 6 → Rose (O.state out.old).faults (O.state out.new).faults }
+    ensures steady { result.status ≢ 6 → (O.state out.new).faults ≡ (O.state out.old).faults }
     ensures status { (result.status ≡ 0) ⊎ (result.status ≡ 6) }
     ensures words { result.status ≢ 2 }
     ensures files { result.status ≢ 5 }
@@ -125,15 +127,15 @@ fn sum<F: Folder, S: Store, I: Source, O: Sink>(
     out: &mut O,
 ) -> Report
     requires { room ≡ [] }
-    ensures answers { (Unopened flat_said name.now (F.files files.old) (F.faults files.old) (F.faults files.new) result × (input.new ≡ input.old) × (out.new ≡ out.old))
-        ⊎ (Answered name.now (folder_state F.files F.asked F.faults files.old) (seen (source_state I.left I.ended I.faults) input.old input.new) (seen (sink_state O.written O.faults) out.old out.new) result × (F.faults files.new ≡ F.faults files.old)) }
-    ensures asks { AsksOnce name.now (F.asked files.old) (F.asked files.new) (F.faults files.old) (F.faults files.new) result }
-    ensures ended { result.status ≡ 0 → I.ended input.new ≡ true }
-    ensures unreadable { result.status ≡ 5 → (Rose (F.faults files.old) (F.faults files.new) × (I.faults input.new ≡ I.faults input.old)) ⊎ (Rose (I.faults input.old) (I.faults input.new) × (F.faults files.new ≡ F.faults files.old)) }
-    ensures output { result.status ≡ 6 → Rose (O.faults out.old) (O.faults out.new) }
-    ensures steady { result.status ≢ 5 → (F.faults files.new ≡ F.faults files.old) × (I.faults input.new ≡ I.faults input.old) }
-    ensures output_steady { result.status ≢ 6 → O.faults out.new ≡ O.faults out.old }
-    ensures complete { HasFlat name.now (F.files files.old) → result.status ≢ 10 → ¬ Rose (F.faults files.old) (F.faults files.new) → ¬ Rose (I.faults input.old) (I.faults input.new) → ¬ Rose (O.faults out.old) (O.faults out.new) → (result.status ≡ 0) ⊎ (result.status ≡ 7) }
+    ensures answers { (Unopened flat_said name.now (seen F.state files.old files.new) result × (input.new ≡ input.old) × (out.new ≡ out.old))
+        ⊎ (Answered name.now (F.state files.old) (seen I.state input.old input.new) (seen O.state out.old out.new) result × IsSteady (seen F.state files.old files.new)) }
+    ensures asks { AsksOnce name.now (seen F.state files.old files.new) result }
+    ensures ended { result.status ≡ 0 → (I.state input.new).ended ≡ true }
+    ensures unreadable { result.status ≡ 5 → (Rose (F.state files.old).faults (F.state files.new).faults × ((I.state input.new).faults ≡ (I.state input.old).faults)) ⊎ (Rose (I.state input.old).faults (I.state input.new).faults × IsSteady (seen F.state files.old files.new)) }
+    ensures output { result.status ≡ 6 → Rose (O.state out.old).faults (O.state out.new).faults }
+    ensures steady { result.status ≢ 5 → ((F.state files.new).faults ≡ (F.state files.old).faults) × ((I.state input.new).faults ≡ (I.state input.old).faults) }
+    ensures output_steady { result.status ≢ 6 → (O.state out.new).faults ≡ (O.state out.old).faults }
+    ensures complete { HasFlat name.now (F.state files.old) → result.status ≢ 10 → ¬ Rose (F.state files.old).faults (F.state files.new).faults → ¬ Rose (I.state input.old).faults (I.state input.new).faults → ¬ Rose (O.state out.old).faults (O.state out.new).faults → (result.status ≡ 0) ⊎ (result.status ≡ 7) }
     ensures words { result.status ≢ 2 }
     ensures wire { result.status ≢ 8 }
     ensures kept { result.status ≢ 9 }
@@ -160,20 +162,20 @@ fn check<F: Folder, O: Sink>(
     out: &mut O,
 ) -> Report
     requires { room ≡ [] }
-    ensures checks { (EndsUnopened cube.now.dims cube.now.facts cube.now.policy (F.files files.old) (F.faults files.old) (F.faults files.new) result × (out.new ≡ out.old))
-        ⊎ (Checked cube.now (folder_state F.files F.asked F.faults files.old) (seen (sink_state O.written O.faults) out.old out.new) result × (F.faults files.new ≡ F.faults files.old)) }
-    ensures asks { AsksAll cube.now.dims cube.now.facts cube.now.policy (F.files files.old) (F.asked files.old) (F.asked files.new) (F.faults files.old) (F.faults files.new) result }
-    ensures unreadable { result.status ≡ 5 → Rose (F.faults files.old) (F.faults files.new) }
-    ensures output { result.status ≡ 6 → Rose (O.faults out.old) (O.faults out.new) }
-    ensures steady { result.status ≢ 5 → F.faults files.new ≡ F.faults files.old }
-    ensures output_steady { result.status ≢ 6 → O.faults out.new ≡ O.faults out.old }
-    ensures complete { HasAll cube.now.dims cube.now.facts cube.now.policy (F.files files.old) → ¬ Rose (F.faults files.old) (F.faults files.new) → ¬ Rose (O.faults out.old) (O.faults out.new) → (result.status ≡ 0) ⊎ (result.status ≡ 7) }
+    ensures checks { (EndsUnopened cube.now (seen F.state files.old files.new) result × (out.new ≡ out.old))
+        ⊎ (Checked cube.now (F.state files.old) (seen O.state out.old out.new) result × IsSteady (seen F.state files.old files.new)) }
+    ensures asks { AsksAll cube.now (seen F.state files.old files.new) result }
+    ensures unreadable { result.status ≡ 5 → Rose (F.state files.old).faults (F.state files.new).faults }
+    ensures output { result.status ≡ 6 → Rose (O.state out.old).faults (O.state out.new).faults }
+    ensures steady { result.status ≢ 5 → IsSteady (seen F.state files.old files.new) }
+    ensures output_steady { result.status ≢ 6 → (O.state out.new).faults ≡ (O.state out.old).faults }
+    ensures complete { HasAll cube.now (F.state files.old) → ¬ Rose (F.state files.old).faults (F.state files.new).faults → ¬ Rose (O.state out.old).faults (O.state out.new).faults → (result.status ≡ 0) ⊎ (result.status ≡ 7) }
     ensures words { result.status ≢ 2 }
     ensures wire { result.status ≢ 8 }
     ensures store { result.status ≢ 9 }
     ensures outcomes { result.outcomes ≡ [] }
 {
-    let opened = match open_guarded(alloc, room, &cube.dims, &cube.facts, &cube.policy, files) {
+    let opened = match open_guarded(alloc, room, cube, files) {
         Ok(opened) => opened,
         Err(report) => return report,
     };
@@ -207,27 +209,26 @@ fn ask<F: Folder, S: Store, I: Source, O: Sink>(
 ) -> Report
     requires room { room ≡ [] }
     requires stated { 1 ≤ stated }
-    ensures answers { (EndsUnopened cube.now.dims cube.now.facts cube.now.policy (F.files files.old) (F.faults files.old) (F.faults files.new) result × (store.new ≡ store.old) × (input.new ≡ input.old) × (out.new ≡ out.old))
-        ⊎ (EndsUnstarted cube.now.dims cube.now.facts cube.now.policy (F.files files.old) (S.told store.old) (S.logs store.old 0) (S.logs store.new 0) (S.faults store.old) (S.faults store.new) result × (F.faults files.new ≡ F.faults files.old) × (input.new ≡ input.old) × (out.new ≡ out.old))
-        ⊎ (Asked cube.now stated (folder_state F.files F.asked F.faults files.old) (seen (store_state S.faults S.attached S.told S.logs S.names S.calls) store.old store.new) (seen (source_state I.left I.ended I.faults) input.old input.new) (seen (sink_state O.written O.faults) out.old out.new) result × (F.faults files.new ≡ F.faults files.old)) }
-    ensures asks { AsksAll cube.now.dims cube.now.facts cube.now.policy (F.files files.old) (F.asked files.old) (F.asked files.new) (F.faults files.old) (F.faults files.new) result }
-    ensures names { (store.new ≡ store.old) ⊎ AsksStore journal.now (S.told store.old) (S.names store.old) (S.names store.new) result }
-    ensures unkept { result.status ≡ 9 → Rose (S.faults store.old) (S.faults store.new) × (result.outcomes ≡ []) }
-    ensures calls { result.status ≡ 9 → IsTrue (S.told store.old) → S.calls store.new ≤ S.calls store.old + 7 }
-    ensures told { S.told store.new ≡ S.told store.old }
-    ensures others { OthersStay (S.told store.old) 0 (S.logs store.old) (S.logs store.new) }
-    ensures ended { result.status ≡ 0 → I.ended input.new ≡ true }
-    ensures unreadable { result.status ≡ 5 → (Rose (F.faults files.old) (F.faults files.new) × (I.faults input.new ≡ I.faults input.old)) ⊎ (Rose (I.faults input.old) (I.faults input.new) × (F.faults files.new ≡ F.faults files.old)) }
-    ensures output { result.status ≡ 6 → Rose (O.faults out.old) (O.faults out.new) }
+    ensures answers { (EndsUnopened cube.now (seen F.state files.old files.new) result × (store.new ≡ store.old) × (input.new ≡ input.old) × (out.new ≡ out.old))
+        ⊎ (EndsUnstarted cube.now (F.state files.old) (seen S.state store.old store.new) result × IsSteady (seen F.state files.old files.new) × (input.new ≡ input.old) × (out.new ≡ out.old))
+        ⊎ ((talk : Talk) × (talk.stated ≡ stated) × Reports talk result × Asked cube.now (F.state files.old) (seen S.state store.old store.new) talk (seen I.state input.old input.new) (seen O.state out.old out.new) × IsSteady (seen F.state files.old files.new)) }
+    ensures asks { AsksAll cube.now (seen F.state files.old files.new) result }
+    ensures names { (store.new ≡ store.old) ⊎ AsksStore journal.now (seen S.state store.old store.new) result }
+    ensures unkept { result.status ≡ 9 → Rose (S.state store.old).faults (S.state store.new).faults × (result.outcomes ≡ []) }
+    ensures calls { result.status ≡ 9 → IsTrue (S.state store.old).told → (S.state store.new).calls ≤ (S.state store.old).calls + 7 }
+    ensures others { OthersStay 0 (S.state store.old) (S.state store.new) }
+    ensures ended { result.status ≡ 0 → (I.state input.new).ended ≡ true }
+    ensures unreadable { result.status ≡ 5 → (Rose (F.state files.old).faults (F.state files.new).faults × ((I.state input.new).faults ≡ (I.state input.old).faults)) ⊎ (Rose (I.state input.old).faults (I.state input.new).faults × IsSteady (seen F.state files.old files.new)) }
+    ensures output { result.status ≡ 6 → Rose (O.state out.old).faults (O.state out.new).faults }
     ensures memory { result.status ≡ 7 → (input.new ≡ input.old) × (out.new ≡ out.old) × (result.outcomes ≡ []) }
-    ensures steady { result.status ≢ 5 → (F.faults files.new ≡ F.faults files.old) × (I.faults input.new ≡ I.faults input.old) }
-    ensures output_steady { result.status ≢ 6 → O.faults out.new ≡ O.faults out.old }
-    ensures complete { HasAll cube.now.dims cube.now.facts cube.now.policy (F.files files.old) → HasJournal cube.now.dims cube.now.facts cube.now.policy (F.files files.old) (S.told store.old) (S.logs store.old 0).state.now → result.status ≢ 10
-        → ¬ Rose (F.faults files.old) (F.faults files.new) → (result.outcomes ≡ [] → ¬ Rose (S.faults store.old) (S.faults store.new)) → ¬ Rose (I.faults input.old) (I.faults input.new) → ¬ Rose (O.faults out.old) (O.faults out.new) → (result.status ≡ 0) ⊎ (result.status ≡ 7) }
+    ensures steady { result.status ≢ 5 → ((F.state files.new).faults ≡ (F.state files.old).faults) × ((I.state input.new).faults ≡ (I.state input.old).faults) }
+    ensures output_steady { result.status ≢ 6 → (O.state out.new).faults ≡ (O.state out.old).faults }
+    ensures complete { HasAll cube.now (F.state files.old) → HasJournal cube.now (F.state files.old) (S.state store.old) → result.status ≢ 10
+        → ¬ Rose (F.state files.old).faults (F.state files.new).faults → (result.outcomes ≡ [] → ¬ Rose (S.state store.old).faults (S.state store.new).faults) → ¬ Rose (I.state input.old).faults (I.state input.new).faults → ¬ Rose (O.state out.old).faults (O.state out.new).faults → (result.status ≡ 0) ⊎ (result.status ≡ 7) }
     ensures words { result.status ≢ 2 }
     ensures wire { result.status ≢ 8 }
 {
-    let opened = match open_guarded(alloc, room, &cube.dims, &cube.facts, &cube.policy, files) {
+    let opened = match open_guarded(alloc, room, cube, files) {
         Ok(opened) => opened,
         Err(report) => return report,
     };
@@ -257,13 +258,13 @@ fn obey<F: Folder, S: Store, I: Source, O: Sink, W: Wire>(
 ) -> Report
     requires room { room ≡ [] }
     requires fits { Fits orders }
-    requires quiet { IsTrue (W.told wire.old) → W.log wire.old ≡ [] }
+    requires quiet { IsTrue (W.state wire.old).told → (W.state wire.old).log ≡ [] }
     ensures { Obeyed orders (record {
-      files = seen (folder_state F.files F.asked F.faults) files.old files.new;
-      store = seen (store_state S.faults S.attached S.told S.logs S.names S.calls) store.old store.new;
-      input = seen (source_state I.left I.ended I.faults) input.old input.new;
-      out = seen (sink_state O.written O.faults) out.old out.new;
-      wire = seen (wire_state W.faults W.send_faults W.told W.log W.heard W.plan) wire.old wire.new;
+      files = seen F.state files.old files.new;
+      store = seen S.state store.old store.new;
+      input = seen I.state input.old input.new;
+      out = seen O.state out.old out.new;
+      wire = seen W.state wire.old wire.new;
     }) result }
 {
     match orders {
@@ -296,17 +297,7 @@ fn obey<F: Folder, S: Store, I: Source, O: Sink, W: Wire>(
             address,
             stated,
         } => serve_cube(
-            alloc,
-            room,
-            &cube.dims,
-            &cube.facts,
-            &cube.policy,
-            &journal,
-            &address,
-            stated,
-            files,
-            store,
-            wire,
+            alloc, room, &cube, &journal, &address, stated, files, store, wire,
         ),
         Orders::Replay {
             files: cube,
@@ -314,24 +305,14 @@ fn obey<F: Folder, S: Store, I: Source, O: Sink, W: Wire>(
             script,
             stated,
         } => replay_cube(
-            alloc,
-            room,
-            &cube.dims,
-            &cube.facts,
-            &cube.policy,
-            &journal,
-            &script,
-            stated,
-            files,
-            store,
-            out,
+            alloc, room, &cube, &journal, &script, stated, files, store, out,
         ),
         Orders::Demo { making } => show(alloc, room, making, out),
     }
 }
 
 /// All that the program does. It takes the words of the command line and the objects outside, and answers how the run ended.
-#[tactic(auto, using(crate::proofs::Ordered::not_begun, crate::proofs::Ordered::refused_as, crate::proofs::Ordered::run_as))]
+#[tactic(auto, using(crate::proofs::Ordered::not_begun, crate::proofs::Ordered::refused_as, crate::proofs::Ordered::run_as, crate::proofs::TwinFiles::twin_files_make_twins, crate::proofs::TwinFiles::talks_are_the_same))]
 pub fn run<F: Folder, S: Store, I: Source, O: Sink, W: Wire>(
     alloc: Global,
     words: &[Text],
@@ -341,14 +322,19 @@ pub fn run<F: Folder, S: Store, I: Source, O: Sink, W: Wire>(
     out: &mut O,
     wire: &mut W,
 ) -> Report
-    requires { IsTrue (W.told wire.old) → W.log wire.old ≡ [] }
-    ensures { Runs words.now (orders_in words.now) (record {
-      files = seen (folder_state F.files F.asked F.faults) files.old files.new;
-      store = seen (store_state S.faults S.attached S.told S.logs S.names S.calls) store.old store.new;
-      input = seen (source_state I.left I.ended I.faults) input.old input.new;
-      out = seen (sink_state O.written O.faults) out.old out.new;
-      wire = seen (wire_state W.faults W.send_faults W.told W.log W.heard W.plan) wire.old wire.new;
+    requires { IsTrue (W.state wire.old).told → (W.state wire.old).log ≡ [] }
+    ensures run { Runs words.now (orders_in words.now) (record {
+      files = seen F.state files.old files.new;
+      store = seen S.state store.old store.new;
+      input = seen I.state input.old input.new;
+      out = seen O.state out.old out.new;
+      wire = seen W.state wire.old wire.new;
     }) result }
+
+    // Files that are the same but for the fact file, which is that of the twin, make the cube with the changes; and what is written of
+    // a talk is determined by the cube.
+    ensures twins { TwinFilesMakeTwins }
+    ensures same { TalksAreTheSame }
 {
     let Ok(room) = Room::new(alloc) else {
         return no_room(alloc);

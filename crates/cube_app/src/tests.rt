@@ -88,7 +88,7 @@ fn ran_on<S: Store, W: Wire>(
     store: &mut S,
     wire: &mut W,
 ) -> Result<Got, Fail>
-    requires { IsTrue (W.told wire.old) → W.log wire.old ≡ [] }
+    requires { IsTrue (W.state wire.old).told → (W.state wire.old).log ≡ [] }
 {
     let words = texts(alloc, words)?;
     let mut named = Vec::new(alloc);

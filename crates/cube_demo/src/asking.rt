@@ -10,7 +10,7 @@ use std::alloc::Global;
 
 /// A store that keeps nothing, under some name.
 fn null_store(alloc: Global) -> Result<NullStore, NoMemory>
-    ensures { IfOk result (λ store. IsTrue (⟦<NullStore as Store>⟧.attached store)) }
+    ensures { IfOk result (λ store. IsTrue (⟦<NullStore as Store>⟧.state store).attached) }
 {
     let name = Text::from_bytes(alloc, b"demo")?;
     let mut store = NullStore::new();

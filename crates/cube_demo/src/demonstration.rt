@@ -37,10 +37,10 @@ fn summary_of(alloc: Global, number: u64, size: u32) -> Result<Text, DemoFault>
 pub fn demo<S: Sink>(alloc: Global, number: u64, size: u32, out: &mut S) -> Result<(), DemoFault>
     requires some { 1 ≤ size }
     requires few { size ≤ 20 }
-    ensures prints { OnOk result (Prints number size (S.written out.old) (S.written out.new)) }
-    ensures fault { IfErr result (EndsShort number size (S.written out.old) (S.written out.new)) }
-    ensures output { result ≡ Err fault.OutputFailed → Rose (S.faults out.old) (S.faults out.new) }
-    ensures steady { result ≢ Err fault.OutputFailed → S.faults out.new ≡ S.faults out.old }
+    ensures prints { OnOk result (Prints number size (S.state out.old).written (S.state out.new).written) }
+    ensures fault { IfErr result (EndsShort number size (S.state out.old).written (S.state out.new).written) }
+    ensures output { result ≡ Err fault.OutputFailed → Rose (S.state out.old).faults (S.state out.new).faults }
+    ensures steady { result ≢ Err fault.OutputFailed → (S.state out.new).faults ≡ (S.state out.old).faults }
     ensures nothing { IfErr result (λ e. e ≢ fault.OutputFailed → out.new ≡ out.old) }
 {
     let text = summary_of(alloc, number, size)?;

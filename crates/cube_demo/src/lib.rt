@@ -10,8 +10,6 @@ mod judging;
 mod reading;
 mod summary;
 mod sums;
-#[cfg(test)]
-mod tests;
 mod worked;
 
 pub use demonstration::demo;

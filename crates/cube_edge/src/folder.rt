@@ -2,9 +2,9 @@
 ghost use Rattle.std.specs.Prelude.{◌≡◌, ◌<◌, ◌≤◌, None, length, IfOk, IfSome, Err};
 ghost use Rattle.std.specs.Io.KnownBytes.{Consumes, IsAtEnd};
 ghost use Rattle.cube_io.specs.Files.{max_file};
-ghost use Rattle.cube_io.specs.declared.folder.FileFault.TheVariants as faults;
+ghost use Rattle.cube_io.specs.declared.faults.ReadFault.TheVariants as faults;
 
-use cube_io::{FileFault, Folder, MAX_FILE};
+use cube_io::{Folder, MAX_FILE, ReadFault};
 use cube_model::Text;
 use std::alloc::Global;
 use std::io::Read;
@@ -32,7 +32,7 @@ pub(crate) fn read_rest<R: Read>(
     file: &mut R,
     alloc: Global,
     most: usize,
-) -> Result<Text, FileFault>
+) -> Result<Text, ReadFault>
     requires { 65536 ≤ most }
     ensures short { IfOk result (λ text. length text ≤ most) }
     ensures bytes { IfOk result (λ text. Consumes (R.remaining file.old) (R.remaining file.new) text × IsAtEnd (R.remaining file.new)) }
@@ -43,44 +43,40 @@ pub(crate) fn read_rest<R: Read>(
     'pieces: for _ in 0..u64::MAX {
         let count = match file.read(&mut buf) {
             Ok(count) => count,
-            Err(_) => return Err(FileFault::Failed),
+            Err(_) => return Err(ReadFault::Failed),
         };
         if count == 0 {
             return Ok(text);
         }
         if text.len() > most - count {
-            return Err(FileFault::TooLong);
+            return Err(ReadFault::TooLong);
         }
         text.extend(&buf[..count])?;
     }
-    Err(FileFault::Failed)
+    Err(ReadFault::Failed)
 }
 
-fn read_whole<R: Files>(rt: &R, alloc: Global, name: &str) -> Result<Text, FileFault>
+fn read_whole<R: Files>(rt: &R, alloc: Global, name: &str) -> Result<Text, ReadFault>
     ensures short { IfOk result (λ text. length text ≤ max_file) }
 {
     match fs::open(rt, name) {
         Ok(mut file) => read_rest(&mut file, alloc, MAX_FILE),
-        Err(_) => Err(FileFault::Failed),
+        Err(_) => Err(ReadFault::Failed),
     }
 }
 
 impl<R: Files> Folder for FileFolder<'_, R> {
-    ghost files = { λ _. None };
+    ghost state = { λ s. record { files = None; asked = None; faults = s.faults } };
 
-    ghost asked = { λ _. None };
-
-    ghost faults = { λ s. s.faults };
-
-    fn read_file(&mut self, alloc: Global, name: &Text) -> Result<Text, FileFault> {
+    fn read_file(&mut self, alloc: Global, name: &Text) -> Result<Text, ReadFault> {
         let read = match str::from_utf8(name.as_slice()) {
             Ok(path) => read_whole(self.rt, alloc, path),
-            Err(_) => Err(FileFault::Failed),
+            Err(_) => Err(ReadFault::Failed),
         };
         match read {
-            Err(FileFault::Failed) => {
+            Err(ReadFault::Failed) => {
                 self.faults = self.faults.saturating_add(1);
-                Err(FileFault::Failed)
+                Err(ReadFault::Failed)
             }
             other => other,
         }

@@ -9,8 +9,6 @@ mod sink;
 mod source;
 mod store;
 mod streams;
-#[cfg(test)]
-mod tests;
 mod wire;
 
 pub use folder::FileFolder;

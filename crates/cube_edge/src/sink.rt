@@ -17,7 +17,7 @@ pub struct WriterSink<W: Write + Drop> {
 impl<W: Write + Drop> WriterSink<W> {
     /// A sink onto the writer.
     pub fn new(inner: W) -> Self
-        ensures { ⟦<WriterSink<W> as Sink>⟧.written result ≡ W.contents inner }
+        ensures { (⟦<WriterSink<W> as Sink>⟧.state result).written ≡ W.contents inner }
     {
         WriterSink { inner, faults: 0 }
     }
@@ -60,9 +60,7 @@ pub(crate) fn write_whole<W: Write>(out: &mut W, piece: &[u8]) -> Result<(), Fai
 }
 
 impl<W: Write + Drop> Sink for WriterSink<W> {
-    ghost written = { λ s. W.contents s.inner };
-
-    ghost faults = { λ s. s.faults };
+    ghost state = { λ s. record { written = W.contents s.inner; faults = s.faults } };
 
     fn put(&mut self, piece: &[u8]) -> Result<(), Failed> {
         if piece.is_empty() {

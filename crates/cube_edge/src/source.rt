@@ -17,8 +17,8 @@ pub struct ReaderSource<R: Read + Drop> {
 impl<R: Read + Drop> ReaderSource<R> {
     /// A source of what the reader gives from here on.
     pub fn new(inner: R) -> Self
-        ensures left { ⟦<ReaderSource<R> as Source>⟧.left result ≡ R.remaining inner }
-        ensures fresh { ⟦<ReaderSource<R> as Source>⟧.ended result ≡ false }
+        ensures left { (⟦<ReaderSource<R> as Source>⟧.state result).left ≡ R.remaining inner }
+        ensures fresh { (⟦<ReaderSource<R> as Source>⟧.state result).ended ≡ false }
     {
         ReaderSource {
             inner,
@@ -29,11 +29,7 @@ impl<R: Read + Drop> ReaderSource<R> {
 }
 
 impl<R: Read + Drop> Source for ReaderSource<R> {
-    ghost left = { λ s. R.remaining s.inner };
-
-    ghost ended = { λ s. s.ended };
-
-    ghost faults = { λ s. s.faults };
+    ghost state = { λ s. record { left = R.remaining s.inner; ended = s.ended; faults = s.faults } };
 
     fn read(&mut self, buf: &mut [u8]) -> Result<usize, Failed> {
         if self.ended {

@@ -1,12 +1,12 @@
 // Logs in files of the machine.
-ghost use Rattle.std.specs.Prelude.{◌≡◌, ◌≤◌, ◌^◌, [], false, length, IfOk};
+ghost use Rattle.std.specs.Prelude.{◌≡◌, ◌≤◌, ◌^◌, false, length, IfOk};
 ghost use Rattle.std.proofs.Common.{rules};
 ghost use Rattle.cube_io.specs.Causes.{HasCause};
-ghost use Rattle.cube_io.specs.States.{settled};
+ghost use Rattle.cube_io.specs.Told.{silent_store};
 
 use crate::folder::read_rest;
 use crate::sink::write_whole;
-use cube_io::{Failed, FileFault, Store, StoreFault};
+use cube_io::{Failed, ReadFault, Store};
 use cube_model::{NoMemory, Text};
 use std::alloc::Global;
 use std::collections::BTreeMap;
@@ -134,18 +134,13 @@ fn open_log<R: Files<File = File> + AllocGlobal>(rt: &R, path: &str) -> Result<L
 }
 
 /// All bytes of a file.
-fn read_log<F: io::Read + Seek>(file: &mut F, alloc: Global) -> Result<Text, StoreFault>
+fn read_log<F: io::Read + Seek>(file: &mut F, alloc: Global) -> Result<Text, ReadFault>
     ensures { IfOk result (λ text. length text ≤ 2 ^ 28) }
 {
     if file.seek(SeekFrom::Start(0)).is_err() {
-        return Err(StoreFault::Failed);
+        return Err(ReadFault::Failed);
     }
-    match read_rest(file, alloc, MAX_LOG) {
-        Ok(text) => Ok(text),
-        Err(FileFault::Failed) => Err(StoreFault::Failed),
-        Err(FileFault::TooLong) => Err(StoreFault::TooLong),
-        Err(FileFault::NoMemory) => Err(StoreFault::NoMemory),
-    }
+    read_rest(file, alloc, MAX_LOG)
 }
 
 impl LogFile {
@@ -252,15 +247,15 @@ impl<R: Files<File = File> + AllocGlobal, N: Write + Drop> LogFiles<'_, R, N> {
         }
     }
 
-    fn read_all(&mut self, alloc: Global, log: u32) -> Result<Text, StoreFault>
+    fn read_all(&mut self, alloc: Global, log: u32) -> Result<Text, ReadFault>
         ensures { IfOk result (λ text. length text ≤ 2 ^ 28) }
     {
         if self.look(log).is_err() {
-            return Err(StoreFault::Failed);
+            return Err(ReadFault::Failed);
         }
         match self.files.get_mut(&log) {
             Some(file) => read_log(&mut file.file, alloc),
-            None => Err(StoreFault::Failed),
+            None => Err(ReadFault::Failed),
         }
     }
 
@@ -311,9 +306,9 @@ pub struct FileStore<'a, R: Files<File = File> + AllocGlobal, N: Write + Drop> {
 impl<'a, R: Files<File = File> + AllocGlobal, N: Write + Drop> FileStore<'a, R, N> {
     /// A store of the machine's files, with room for a path.
     pub fn new(alloc: Global, rt: &'a R, notes: N) -> Result<Self, NoMemory>
-        ensures attached { IfOk result (λ store. ⟦<FileStore<'a, R, N> as Store>⟧.attached store ≡ false) }
-        ensures told { IfOk result (λ store. ⟦<FileStore<'a, R, N> as Store>⟧.told store ≡ false) }
-        ensures faults { IfOk result (λ store. ⟦<FileStore<'a, R, N> as Store>⟧.faults store ≡ 0) }
+        ensures attached { IfOk result (λ store. (⟦<FileStore<'a, R, N> as Store>⟧.state store).attached ≡ false) }
+        ensures told { IfOk result (λ store. (⟦<FileStore<'a, R, N> as Store>⟧.state store).told ≡ false) }
+        ensures faults { IfOk result (λ store. (⟦<FileStore<'a, R, N> as Store>⟧.state store).faults ≡ 0) }
     {
         Ok(FileStore {
             files: LogFiles {
@@ -341,17 +336,7 @@ fn counted(faults: &mut u64, done: Result<(), Failed>) -> Result<(), Failed>
 }
 
 impl<R: Files<File = File> + AllocGlobal, N: Write + Drop> Store for FileStore<'_, R, N> {
-    ghost faults = { λ s. s.faults };
-
-    ghost attached = { λ s. s.attached };
-
-    ghost told = { λ s. false };
-
-    ghost logs = { λ s k. record { state = settled []; trail = [] } };
-
-    ghost names = { λ s. [] };
-
-    ghost calls = { λ s. 0 };
+    ghost state = { λ s. silent_store s.faults s.attached };
 
     ghost whole = { λ s k told. Prim.search rules };
 
@@ -363,11 +348,11 @@ impl<R: Files<File = File> + AllocGlobal, N: Write + Drop> Store for FileStore<'
         counted(&mut self.faults, done)
     }
 
-    fn read_all(&mut self, alloc: Global, log: u32) -> Result<Text, StoreFault> {
+    fn read_all(&mut self, alloc: Global, log: u32) -> Result<Text, ReadFault> {
         match self.files.read_all(alloc, log) {
-            Err(StoreFault::Failed) => {
+            Err(ReadFault::Failed) => {
                 self.faults = self.faults.saturating_add(1);
-                Err(StoreFault::Failed)
+                Err(ReadFault::Failed)
             }
             other => other,
         }

@@ -1,6 +1,7 @@
 // The connections of the machine.
-ghost use Rattle.std.specs.Prelude.{◌≡◌, [], false, length};
-ghost use Rattle.cube_io.specs.Wires.{FitsBuffer, no_plan};
+ghost use Rattle.std.specs.Prelude.{◌≡◌, length};
+ghost use Rattle.cube_io.specs.Told.{silent_wire};
+ghost use Rattle.cube_io.specs.Wires.{FitsBuffer};
 
 use cube_io::{Event, Failed, Wire};
 use cube_model::Text;
@@ -86,17 +87,7 @@ fn read_piece<T: Read>(stream: &mut T, buf: &mut [u8]) -> Event
 }
 
 impl<R: Net, N: Write> Wire for TcpWire<'_, R, N> {
-    ghost faults = { λ w. w.faults };
-
-    ghost send_faults = { λ w. w.send_faults };
-
-    ghost told = { λ w. false };
-
-    ghost log = { λ w. [] };
-
-    ghost heard = { λ w. [] };
-
-    ghost plan = { λ _. no_plan };
+    ghost state = { λ w. silent_wire w.faults w.send_faults };
 
     fn listen(&mut self, address: &Text) -> Result<(), Failed> {
         match bind(self.rt, address) {

@@ -22,6 +22,7 @@ use Rattle.cube_model.specs.Policies.{IsPolicy}
 use Rattle.cube_model.specs.Protection.{method, is_lattice, is_parity}
 use Rattle.cube_model.specs.Verdicts.{verdict, judged, judged_what, taken, taken_by}
 use Rattle.cube_io.specs.Desks.{ForeignStay}
+use Rattle.cube_io.specs.Seen.{StoreState}
 use Rattle.cube_io.specs.States.{State, Log, Gained, IsImage, settled}
 use Rattle.cube_io.specs.Told.{OthersStay}
 use Rattle.cube_io.proofs.Trails.{gained_map}
@@ -296,9 +297,9 @@ nowhere : State
 nowhere = record { now = []; safe = []; tails = [] }
 
 -- a log of which nothing is said is another one
-pub log_others : (c : Core) (p : Policy) (told : Bool) (own : ℕ) (old new : ℕ → Log) → OthersStay told own old new → ForeignStay told (λ rooms log s. (log ≡ own) × IsWithin c p (first_history rooms) s) old new
+pub log_others : (c : Core) (p : Policy) (own : ℕ) (old new : StoreState) → OthersStay own old new → ForeignStay (λ rooms log s. (log ≡ own) × IsWithin c p (first_history rooms) s) old new
 unfolding nowhere
-log_others c p told own old new stay tells log foreign = stay tells log (λ is. foreign [] nowhere (is, λ b image. absurd image.is_tail))
+log_others c p own old new stay tells log foreign = stay tells log (λ is. foreign [] nowhere (is, λ b image. absurd image.is_tail))
 
 pub log_crash : (c : Core) (p : Policy) (h k : List Entry) (old new : ℕ → Log) (own log : ℕ) → log ≡ own → Gained (IsWithin c p h) (old own) (new own) → Gained (λ s. ((log ≡ own) × IsWithin c p h s) ⊎ ((log ≡ own) × IsWithin c p k s)) (old log) (new log)
 log_crash c p h k old new own log is gained =

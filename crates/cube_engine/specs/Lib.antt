@@ -5,6 +5,7 @@ pub mod Engines
 pub mod Examples
 pub mod Steps
 pub mod Worlds
+pub mod Headline
 pub mod Kept
 pub mod Opening
 pub mod Prepared

@@ -6,7 +6,7 @@ ghost use Rattle.cube_model.specs.Policies.{IsPolicy};
 ghost use Rattle.cube_admit.specs.States.{StandsFor};
 ghost use Rattle.cube_io.specs.Causes.{HasCause};
 ghost use Rattle.cube_io.specs.States.{Gained};
-ghost use Rattle.cube_io.specs.Told.{OthersStay};
+ghost use Rattle.cube_io.specs.Told.{Works, OthersStay};
 ghost use Rattle.cube_journal.specs.Keeping.{IsInRecovery};
 ghost use Rattle.cube_engine.specs.Books.{IsWaiting, entry_waiting, with_waiting};
 ghost use Rattle.cube_engine.specs.Changes.{Refuses, changes_for, text_of, twin_for};
@@ -59,19 +59,16 @@ impl Book {
         store: &mut S,
         log: u32,
     ) -> Result<Book, EngineFault>
-        requires attached { IsTrue (S.attached store.old) }
+        requires attached { IsTrue (S.state store.old).attached }
         requires policy { IsPolicy core.dims policy }
-        ensures cause { StartCause (S.faults store.old) (S.faults store.new) result }
-        ensures told { S.told store.new ≡ S.told store.old }
-        ensures names { IsTrue (S.told store.old) → S.names store.new ≡ S.names store.old }
-        ensures stays { IsTrue (S.attached store.new) }
-        ensures others { OthersStay (S.told store.old) log (S.logs store.old) (S.logs store.new) }
-        ensures calls { IsTrue (S.told store.old) → S.calls store.new ≤ S.calls store.old + 6 }
-        ensures history { IsTrue (S.told store.old) → IfOk result (λ book. history_of core policy (S.logs store.old log).state.now ≡ Ok book.history) }
-        ensures fault { IsTrue (S.told store.old) → IfErr result (IsStartFault (history_of core policy (S.logs store.old log).state.now) (S.logs store.old log).state.now) }
-        ensures kept { IsTrue (S.told store.old) → IfOk result (λ book. IsKept core policy book.history book.journal (S.logs store.new log).state) }
-        ensures exact { IsTrue (S.told store.old) → IfOk result (λ book. IsExact core policy book.history (S.logs store.new log).state) }
-        ensures crash { IsTrue (S.told store.old) → Gained (IsInRecovery (history_of core policy) (S.logs store.old log).state) (S.logs store.old log) (S.logs store.new log) }
+        ensures cause { StartCause (S.state store.old).faults (S.state store.new).faults result }
+        ensures works { Works (S.state store.old) (S.state store.new) 6 }
+        ensures others { OthersStay log (S.state store.old) (S.state store.new) }
+        ensures history { IsTrue (S.state store.old).told → IfOk result (λ book. history_of core policy ((S.state store.old).logs log).state.now ≡ Ok book.history) }
+        ensures fault { IsTrue (S.state store.old).told → IfErr result (IsStartFault (history_of core policy ((S.state store.old).logs log).state.now) ((S.state store.old).logs log).state.now) }
+        ensures kept { IsTrue (S.state store.old).told → IfOk result (λ book. IsKept core policy book.history book.journal ((S.state store.new).logs log).state) }
+        ensures exact { IsTrue (S.state store.old).told → IfOk result (λ book. IsExact core policy book.history ((S.state store.new).logs log).state) }
+        ensures crash { IsTrue (S.state store.old).told → Gained (IsInRecovery (history_of core policy) ((S.state store.old).logs log).state) ((S.state store.old).logs log) ((S.state store.new).logs log) }
         ensures log { IfOk result (λ book. book.journal.log ≡ log) }
         ensures core { IfOk result (λ book. book.core ≡ core) }
         ensures policy { IfOk result (λ book. book.policy ≡ policy) }
@@ -183,24 +180,21 @@ impl Book {
 
     // Keeps the line of the request that waits, and only then lets it enter the history. After a failure it waits no longer.
     pub(crate) fn keep<S: Store>(&mut self, store: &mut S, line: &Line) -> Result<(), Failed>
-        requires attached { IsTrue (S.attached store.old) }
-        requires kept { IsTrue (S.told store.old) → IsKept self.old.core self.old.policy self.old.history self.old.journal (S.logs store.old self.old.journal.log).state }
+        requires attached { IsTrue (S.state store.old).attached }
+        requires kept { IsTrue (S.state store.old).told → IsKept self.old.core self.old.policy self.old.history self.old.journal ((S.state store.old).logs self.old.journal.log).state }
         requires waits { IsWaiting self.old line.now }
-        ensures cause { HasCause (S.faults store.old) (S.faults store.new) result }
-        ensures told { S.told store.new ≡ S.told store.old }
-        ensures names { IsTrue (S.told store.old) → S.names store.new ≡ S.names store.old }
-        ensures stays { IsTrue (S.attached store.new) }
-        ensures others { OthersStay (S.told store.old) self.old.journal.log (S.logs store.old) (S.logs store.new) }
-        ensures calls { IsTrue (S.told store.old) → S.calls store.new ≤ S.calls store.old + (if self.old.journal.failed then 4 else 2) }
+        ensures cause { HasCause (S.state store.old).faults (S.state store.new).faults result }
+        ensures works { Works (S.state store.old) (S.state store.new) (if self.old.journal.failed then 4 else 2) }
+        ensures others { OthersStay self.old.journal.log (S.state store.old) (S.state store.new) }
         ensures ok { OnOk result (self.new.history ≡ self.old.history ++ entry_waiting self.old) }
         ensures err { OnErr result (self.new.history ≡ self.old.history) }
         ensures core { self.new.core ≡ self.old.core }
         ensures policy { self.new.policy ≡ self.old.policy }
         ensures log { self.new.journal.log ≡ self.old.journal.log }
         ensures none { self.new.waiting ≡ None }
-        ensures kept { IsTrue (S.told store.old) → IsKept self.old.core self.old.policy self.new.history self.new.journal (S.logs store.new self.old.journal.log).state }
-        ensures exact { IsTrue (S.told store.old) → OnOk result (IsExact self.old.core self.old.policy self.new.history (S.logs store.new self.old.journal.log).state) }
-        ensures crash { IsTrue (S.told store.old) → Gained (IsWithin self.old.core self.old.policy self.old.history) (S.logs store.old self.old.journal.log) (S.logs store.new self.old.journal.log) }
+        ensures kept { IsTrue (S.state store.old).told → IsKept self.old.core self.old.policy self.new.history self.new.journal ((S.state store.new).logs self.old.journal.log).state }
+        ensures exact { IsTrue (S.state store.old).told → OnOk result (IsExact self.old.core self.old.policy self.new.history ((S.state store.new).logs self.old.journal.log).state) }
+        ensures crash { IsTrue (S.state store.old).told → Gained (IsWithin self.old.core self.old.policy self.old.history) ((S.state store.old).logs self.old.journal.log) ((S.state store.new).logs self.old.journal.log) }
     {
         let _rules = self.holding.core();
         let _short = line.as_slice();

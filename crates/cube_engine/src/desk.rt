@@ -22,7 +22,7 @@ impl<S: Store> Desk<S> for Engine {
 
     ghost room = { λ e. e.left };
 
-    ghost fits = { λ e store. IsTrue (S.attached store) × (IsTrue (S.told store) → IsKept e.core e.policy e.history e.journal (S.logs store e.journal.log).state) };
+    ghost fits = { λ e store. IsTrue (S.state store).attached × (IsTrue (S.state store).told → IsKept e.core e.policy e.history e.journal ((S.state store).logs e.journal.log).state) };
 
     // Its log is the one of its journal; of another it says nothing.
     ghost exact = { λ e rooms log state. (log ≡ e.journal.log) × IsExact e.core e.policy (first_history rooms) state };

@@ -7,7 +7,7 @@ ghost use Rattle.cube_model.specs.Policies.{IsPolicy};
 ghost use Rattle.cube_admit.specs.States.{StandsFor};
 ghost use Rattle.cube_io.specs.Desks.{Answered};
 ghost use Rattle.cube_io.specs.States.{Gained};
-ghost use Rattle.cube_io.specs.Told.{OthersStay};
+ghost use Rattle.cube_io.specs.Told.{Works, OthersStay};
 ghost use Rattle.cube_journal.specs.Keeping.{IsInRecovery};
 ghost use Rattle.cube_engine.specs.Books.{book_rooms, with_waiting};
 ghost use Rattle.cube_engine.specs.Changes.{Refuses, changes_for, text_of, twin_for};
@@ -91,8 +91,8 @@ fn settle<S: Store>(
     ask: &Ask,
     prepared: Prepared,
 ) -> (Reply, Outcome)
-    requires attached { IsTrue (S.attached store.old) }
-    requires kept { IsTrue (S.told store.old) → IsKept book.old.core book.old.policy book.old.history book.old.journal (S.logs store.old book.old.journal.log).state }
+    requires attached { IsTrue (S.state store.old).attached }
+    requires kept { IsTrue (S.state store.old).told → IsKept book.old.core book.old.policy book.old.history book.old.journal ((S.state store.old).logs book.old.journal.log).state }
     requires comes { AskComes book.old.core.dims (world book.old.core book.old.policy) book.old.history ask.now book.old.waiting prepared }
     ensures reply { result.0 ≡ reply_in book.old.core.dims (book_rooms book.old) ask.now result.1 }
     ensures rooms { book_rooms book.new ≡ next_in book.old.core.dims (book_rooms book.old) ask.now result.1 }
@@ -100,16 +100,13 @@ fn settle<S: Store>(
     ensures policy { book.new.policy ≡ book.old.policy }
     ensures log { book.new.journal.log ≡ book.old.journal.log }
     ensures none { book.new.waiting ≡ None }
-    ensures cause { SettleCause result.1 (next_in book.old.core.dims (book_rooms book.old) ask.now outcome.Given ≢ book_rooms book.old) (S.faults store.old) (S.faults store.new) }
+    ensures cause { SettleCause result.1 (next_in book.old.core.dims (book_rooms book.old) ask.now outcome.Given ≢ book_rooms book.old) (S.state store.old).faults (S.state store.new).faults }
     ensures untouched { next_in book.old.core.dims (book_rooms book.old) ask.now outcome.Given ≡ book_rooms book.old → (store.new ≡ store.old) × (book.new.journal ≡ book.old.journal) }
-    ensures told { S.told store.new ≡ S.told store.old }
-    ensures names { IsTrue (S.told store.old) → S.names store.new ≡ S.names store.old }
-    ensures stays { IsTrue (S.attached store.new) }
-    ensures others { OthersStay (S.told store.old) book.old.journal.log (S.logs store.old) (S.logs store.new) }
-    ensures calls { IsTrue (S.told store.old) → S.calls store.new ≤ S.calls store.old + 4 }
-    ensures kept { IsTrue (S.told store.old) → IsKept book.old.core book.old.policy book.new.history book.new.journal (S.logs store.new book.old.journal.log).state }
-    ensures exact { IsTrue (S.told store.old) → result.1 ≢ outcome.JournalFault → IsExact book.old.core book.old.policy book.old.history (S.logs store.old book.old.journal.log).state → IsExact book.old.core book.old.policy book.new.history (S.logs store.new book.old.journal.log).state }
-    ensures crash { IsTrue (S.told store.old) → Gained (IsWithin book.old.core book.old.policy book.old.history) (S.logs store.old book.old.journal.log) (S.logs store.new book.old.journal.log) }
+    ensures works { Works (S.state store.old) (S.state store.new) 4 }
+    ensures others { OthersStay book.old.journal.log (S.state store.old) (S.state store.new) }
+    ensures kept { IsTrue (S.state store.old).told → IsKept book.old.core book.old.policy book.new.history book.new.journal ((S.state store.new).logs book.old.journal.log).state }
+    ensures exact { IsTrue (S.state store.old).told → result.1 ≢ outcome.JournalFault → IsExact book.old.core book.old.policy book.old.history ((S.state store.old).logs book.old.journal.log).state → IsExact book.old.core book.old.policy book.new.history ((S.state store.new).logs book.old.journal.log).state }
+    ensures crash { IsTrue (S.state store.old).told → Gained (IsWithin book.old.core book.old.policy book.old.history) ((S.state store.old).logs book.old.journal.log) ((S.state store.new).logs book.old.journal.log) }
 {
     let _ask = ask;
     match prepared {
@@ -149,25 +146,22 @@ impl Engine {
         log: u32,
         room: u64,
     ) -> Result<Engine, EngineFault>
-        requires attached { IsTrue (S.attached store.old) }
+        requires attached { IsTrue (S.state store.old).attached }
         requires policy { IsPolicy core.dims policy }
-        ensures cause { StartCause (S.faults store.old) (S.faults store.new) result }
-        ensures told { S.told store.new ≡ S.told store.old }
-        ensures names { IsTrue (S.told store.old) → S.names store.new ≡ S.names store.old }
-        ensures stays { IsTrue (S.attached store.new) }
-        ensures others { OthersStay (S.told store.old) log (S.logs store.old) (S.logs store.new) }
-        ensures calls { IsTrue (S.told store.old) → S.calls store.new ≤ S.calls store.old + 6 }
+        ensures cause { StartCause (S.state store.old).faults (S.state store.new).faults result }
+        ensures works { Works (S.state store.old) (S.state store.new) 6 }
+        ensures others { OthersStay log (S.state store.old) (S.state store.new) }
 
         // The history is that of the bytes, and each fault comes by them.
-        ensures history { IsTrue (S.told store.old) → IfOk result (λ engine. history_of core policy (S.logs store.old log).state.now ≡ Ok engine.history) }
-        ensures fault { IsTrue (S.told store.old) → IfErr result (IsStartFault (history_of core policy (S.logs store.old log).state.now) (S.logs store.old log).state.now) }
+        ensures history { IsTrue (S.state store.old).told → IfOk result (λ engine. history_of core policy ((S.state store.old).logs log).state.now ≡ Ok engine.history) }
+        ensures fault { IsTrue (S.state store.old).told → IfErr result (IsStartFault (history_of core policy ((S.state store.old).logs log).state.now) ((S.state store.old).logs log).state.now) }
 
         // The engine belongs to the log as it stands, of which every crash leaves just the history.
-        ensures kept { IsTrue (S.told store.old) → IfOk result (λ engine. IsKept core policy engine.history engine.journal (S.logs store.new log).state) }
-        ensures exact { IsTrue (S.told store.old) → IfOk result (λ engine. IsExact core policy engine.history (S.logs store.new log).state) }
+        ensures kept { IsTrue (S.state store.old).told → IfOk result (λ engine. IsKept core policy engine.history engine.journal ((S.state store.new).logs log).state) }
+        ensures exact { IsTrue (S.state store.old).told → IfOk result (λ engine. IsExact core policy engine.history ((S.state store.new).logs log).state) }
 
         // At each moment of the call the log is as at entry, or each image recovers what the log recovered at entry.
-        ensures crash { IsTrue (S.told store.old) → Gained (IsInRecovery (history_of core policy) (S.logs store.old log).state) (S.logs store.old log) (S.logs store.new log) }
+        ensures crash { IsTrue (S.state store.old).told → Gained (IsInRecovery (history_of core policy) ((S.state store.old).logs log).state) ((S.state store.old).logs log) ((S.state store.new).logs log) }
         ensures engine { IfOk result (λ engine. engine ≡ record { core = core; policy = policy; history = engine.history; journal = engine.journal; outcomes = []; left = room }) }
         ensures log { IfOk result (λ engine. engine.journal.log ≡ log) }
     {
@@ -244,19 +238,16 @@ impl Engine {
         steps: &mut Steps<L>,
     ) -> Reply
         requires left { 1 ≤ self.old.left }
-        requires attached { IsTrue (S.attached store.old) }
-        requires kept { IsTrue (S.told store.old) → IsKept self.old.core self.old.policy self.old.history self.old.journal (S.logs store.old self.old.journal.log).state }
-        ensures answered { Answered (manner self.old.core.dims) ask.now (rooms_of self.old) (rooms_of self.new) self.old.outcomes self.new.outcomes (S.faults store.old) (S.faults store.new) result }
+        requires attached { IsTrue (S.state store.old).attached }
+        requires kept { IsTrue (S.state store.old).told → IsKept self.old.core self.old.policy self.old.history self.old.journal ((S.state store.old).logs self.old.journal.log).state }
+        ensures answered { Answered (manner self.old.core.dims) ask.now (rooms_of self.old) (rooms_of self.new) self.old.outcomes self.new.outcomes (S.state store.old).faults (S.state store.new).faults result }
         ensures two_worlds { Opens self.old self.new ask.now result }
         ensures core { self.new.core ≡ self.old.core }
         ensures policy { self.new.policy ≡ self.old.policy }
         ensures left { self.new.left + 1 ≡ self.old.left }
         ensures log { self.new.journal.log ≡ self.old.journal.log }
-        ensures told { S.told store.new ≡ S.told store.old }
-        ensures names { IsTrue (S.told store.old) → S.names store.new ≡ S.names store.old }
-        ensures stays { IsTrue (S.attached store.new) }
-        ensures others { OthersStay (S.told store.old) self.old.journal.log (S.logs store.old) (S.logs store.new) }
-        ensures calls { IsTrue (S.told store.old) → S.calls store.new ≤ S.calls store.old + 4 }
+        ensures works { Works (S.state store.old) (S.state store.new) 4 }
+        ensures others { OthersStay self.old.journal.log (S.state store.old) (S.state store.new) }
 
         // A request on a lattice measure that adds nothing to the history is answered from the source cuboid.
         ensures few_reads { AskReadsFew self.old.core.dims (shown self.old.core self.old.policy) self.old.history (inner_of ask.now) steps.old steps.new }
@@ -266,10 +257,10 @@ impl Engine {
 
         // The engine belongs to the log as it stands. Where no keep failed, every crash leaves just the history behind it; at
         // each moment of the call the history before it, alone or with one more request.
-        ensures kept { IsTrue (S.told store.old) → IsKept self.old.core self.old.policy self.new.history self.new.journal (S.logs store.new self.old.journal.log).state }
-        ensures exact { IsTrue (S.told store.old) → self.new.outcomes ≢ self.old.outcomes ++ outcome.JournalFault ∷ [] → IsExact self.old.core self.old.policy self.old.history (S.logs store.old self.old.journal.log).state → IsExact self.old.core self.old.policy self.new.history (S.logs store.new self.old.journal.log).state }
-        ensures within { IsTrue (S.told store.old) → IsWithin self.old.core self.old.policy self.new.history (S.logs store.new self.old.journal.log).state }
-        ensures crash { IsTrue (S.told store.old) → Gained (IsWithin self.old.core self.old.policy self.old.history) (S.logs store.old self.old.journal.log) (S.logs store.new self.old.journal.log) }
+        ensures kept { IsTrue (S.state store.old).told → IsKept self.old.core self.old.policy self.new.history self.new.journal ((S.state store.new).logs self.old.journal.log).state }
+        ensures exact { IsTrue (S.state store.old).told → self.new.outcomes ≢ self.old.outcomes ++ outcome.JournalFault ∷ [] → IsExact self.old.core self.old.policy self.old.history ((S.state store.old).logs self.old.journal.log).state → IsExact self.old.core self.old.policy self.new.history ((S.state store.new).logs self.old.journal.log).state }
+        ensures within { IsTrue (S.state store.old).told → IsWithin self.old.core self.old.policy self.new.history ((S.state store.new).logs self.old.journal.log).state }
+        ensures crash { IsTrue (S.state store.old).told → Gained (IsWithin self.old.core self.old.policy self.old.history) ((S.state store.old).logs self.old.journal.log) ((S.state store.new).logs self.old.journal.log) }
     {
         let prepared = prepare(alloc, &mut self.book, ask, steps);
         let (reply, outcome) = settle(&mut self.book, store, ask, prepared);
@@ -290,22 +281,20 @@ impl Engine {
         requires parts { blank.parts ≡ L.parts }
         requires some { 0 < L.parts }
         requires left { 1 ≤ self.old.left }
-        requires attached { IsTrue (S.attached store.old) }
-        requires kept { IsTrue (S.told store.old) → IsKept self.old.core self.old.policy self.old.history self.old.journal (S.logs store.old self.old.journal.log).state }
-        ensures answered { Answered (manner self.old.core.dims) ask.now (rooms_of self.old) (rooms_of self.new) self.old.outcomes self.new.outcomes (S.faults store.old) (S.faults store.new) result }
+        requires attached { IsTrue (S.state store.old).attached }
+        requires kept { IsTrue (S.state store.old).told → IsKept self.old.core self.old.policy self.old.history self.old.journal ((S.state store.old).logs self.old.journal.log).state }
+        ensures answered { Answered (manner self.old.core.dims) ask.now (rooms_of self.old) (rooms_of self.new) self.old.outcomes self.new.outcomes (S.state store.old).faults (S.state store.new).faults result }
         ensures core { self.new.core ≡ self.old.core }
         ensures policy { self.new.policy ≡ self.old.policy }
         ensures left { self.new.left + 1 ≡ self.old.left }
         ensures log { self.new.journal.log ≡ self.old.journal.log }
-        ensures told { S.told store.new ≡ S.told store.old }
-        ensures names { IsTrue (S.told store.old) → S.names store.new ≡ S.names store.old }
-        ensures stays { IsTrue (S.attached store.new) }
-        ensures others { OthersStay (S.told store.old) self.old.journal.log (S.logs store.old) (S.logs store.new) }
+        ensures works { Works (S.state store.old) (S.state store.new) 4 }
+        ensures others { OthersStay self.old.journal.log (S.state store.old) (S.state store.new) }
         ensures untouched { next_in self.old.core.dims (rooms_of self.old) ask.now outcome.Given ≡ rooms_of self.old → store.new ≡ store.old }
-        ensures kept { IsTrue (S.told store.old) → IsKept self.old.core self.old.policy self.new.history self.new.journal (S.logs store.new self.old.journal.log).state }
-        ensures exact { IsTrue (S.told store.old) → self.new.outcomes ≢ self.old.outcomes ++ outcome.JournalFault ∷ [] → IsExact self.old.core self.old.policy self.old.history (S.logs store.old self.old.journal.log).state → IsExact self.old.core self.old.policy self.new.history (S.logs store.new self.old.journal.log).state }
-        ensures within { IsTrue (S.told store.old) → IsWithin self.old.core self.old.policy self.new.history (S.logs store.new self.old.journal.log).state }
-        ensures crash { IsTrue (S.told store.old) → Gained (IsWithin self.old.core self.old.policy self.old.history) (S.logs store.old self.old.journal.log) (S.logs store.new self.old.journal.log) }
+        ensures kept { IsTrue (S.state store.old).told → IsKept self.old.core self.old.policy self.new.history self.new.journal ((S.state store.new).logs self.old.journal.log).state }
+        ensures exact { IsTrue (S.state store.old).told → self.new.outcomes ≢ self.old.outcomes ++ outcome.JournalFault ∷ [] → IsExact self.old.core self.old.policy self.old.history ((S.state store.old).logs self.old.journal.log).state → IsExact self.old.core self.old.policy self.new.history ((S.state store.new).logs self.old.journal.log).state }
+        ensures within { IsTrue (S.state store.old).told → IsWithin self.old.core self.old.policy self.new.history ((S.state store.new).logs self.old.journal.log).state }
+        ensures crash { IsTrue (S.state store.old).told → Gained (IsWithin self.old.core self.old.policy self.old.history) ((S.state store.old).logs self.old.journal.log) ((S.state store.new).logs self.old.journal.log) }
     {
         let mut steps = Steps::<L>::new(blank);
         self.answer_counted(alloc, store, ask, &mut steps)

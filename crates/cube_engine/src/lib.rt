@@ -9,8 +9,6 @@ mod holding;
 mod opening;
 mod prepared;
 mod rolling;
-#[cfg(test)]
-mod tests;
 mod turns;
 mod witness;
 mod worked;

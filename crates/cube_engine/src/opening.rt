@@ -7,7 +7,7 @@ ghost use Rattle.cube_model.specs.Logs.Left.{Leaves};
 ghost use Rattle.cube_model.specs.Policies.{IsPolicy};
 ghost use Rattle.cube_admit.specs.States.{StandsFor};
 ghost use Rattle.cube_io.specs.States.{Gained};
-ghost use Rattle.cube_io.specs.Told.{OthersStay};
+ghost use Rattle.cube_io.specs.Told.{Works, OthersStay};
 ghost use Rattle.cube_journal.specs.Keeping.{IsInRecovery};
 ghost use Rattle.cube_journal.specs.Sound.{IsSound};
 ghost use Rattle.cube_engine.specs.declared.fault.EngineFault.TheVariants as fault;
@@ -72,19 +72,16 @@ pub(crate) fn open_log<S: Store>(
     store: &mut S,
     log: u32,
 ) -> Result<(Journal, State), EngineFault>
-    requires attached { IsTrue (S.attached store.old) }
+    requires attached { IsTrue (S.state store.old).attached }
     requires policy { IsPolicy core.now.dims policy.now }
-    ensures cause { StartCause (S.faults store.old) (S.faults store.new) result }
-    ensures told { S.told store.new ≡ S.told store.old }
-    ensures names { IsTrue (S.told store.old) → S.names store.new ≡ S.names store.old }
-    ensures stays { IsTrue (S.attached store.new) }
-    ensures others { OthersStay (S.told store.old) log (S.logs store.old) (S.logs store.new) }
-    ensures calls { IsTrue (S.told store.old) → S.calls store.new ≤ S.calls store.old + 6 }
-    ensures history { IsTrue (S.told store.old) → IfOk result (λ opened. history_of core.now policy.now (S.logs store.old log).state.now ≡ Ok opened.1.history) }
-    ensures fault { IsTrue (S.told store.old) → IfErr result (IsStartFault (history_of core.now policy.now (S.logs store.old log).state.now) (S.logs store.old log).state.now) }
-    ensures kept { IsTrue (S.told store.old) → IfOk result (λ opened. IsKept core.now policy.now opened.1.history opened.0 (S.logs store.new log).state) }
-    ensures exact { IsTrue (S.told store.old) → IfOk result (λ opened. IsExact core.now policy.now opened.1.history (S.logs store.new log).state) }
-    ensures crash { IsTrue (S.told store.old) → Gained (IsInRecovery (history_of core.now policy.now) (S.logs store.old log).state) (S.logs store.old log) (S.logs store.new log) }
+    ensures cause { StartCause (S.state store.old).faults (S.state store.new).faults result }
+    ensures works { Works (S.state store.old) (S.state store.new) 6 }
+    ensures others { OthersStay log (S.state store.old) (S.state store.new) }
+    ensures history { IsTrue (S.state store.old).told → IfOk result (λ opened. history_of core.now policy.now ((S.state store.old).logs log).state.now ≡ Ok opened.1.history) }
+    ensures fault { IsTrue (S.state store.old).told → IfErr result (IsStartFault (history_of core.now policy.now ((S.state store.old).logs log).state.now) ((S.state store.old).logs log).state.now) }
+    ensures kept { IsTrue (S.state store.old).told → IfOk result (λ opened. IsKept core.now policy.now opened.1.history opened.0 ((S.state store.new).logs log).state) }
+    ensures exact { IsTrue (S.state store.old).told → IfOk result (λ opened. IsExact core.now policy.now opened.1.history ((S.state store.new).logs log).state) }
+    ensures crash { IsTrue (S.state store.old).told → Gained (IsInRecovery (history_of core.now policy.now) ((S.state store.old).logs log).state) ((S.state store.old).logs log) ((S.state store.new).logs log) }
     ensures log { IfOk result (λ opened. opened.0.log ≡ log) }
     ensures within { IfOk result (λ opened. opened.0.kept ≤ 2 ^ 28) }
     ensures none { IfOk result (λ opened. opened.1.pending ≡ None) }

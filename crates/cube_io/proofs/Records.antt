@@ -1,6 +1,6 @@
 -- What one call more in the record makes of the logs.
 use Rattle.std.proofs.Common.{◌≡◌, ◌≢◌, inl, inr, ℕ, ◌+◌, ◌<◌, ◌==◌, Bool, true, false, List, [], ◌∷◌, ◌++◌, length, take, drop, refl, sym, ◌∙◌, ap, subst, arith, take-append-drop, get_or, map, ◌≤◌, length-append, if◌then◌else◌, Result, Ok, Err, OnOk, OnErr, IsErr}
-use Rattle.std.specs.Bool.{⊤}
+use Rattle.std.specs.Bool.{⊤, IsTrue}
 use Rattle.std.proofs.lemmas.Bool.Decides.{nat_tests}
 use Rattle.std.proofs.lemmas.List.{append-nil, take_more, map-append, drop_at, take_all, take-append-le, drop-append-le, length-drop}
 use Rattle.cube_io.proofs.Trails.{each_append, each_map}
@@ -15,9 +15,9 @@ use Rattle.cube_io.specs.declared.record.Full.{Full}
 use Rattle.cube_io.specs.declared.faults.Failed.{Failed}
 use Rattle.cube_io.specs.States as states
 use Rattle.cube_io.specs.States.{Log, State, Passed, Appended, Synced, settled, appended, shortened, shortened_if, half_cut, grown, joined}
-use Rattle.cube_io.specs.Mem.{Deed, deed, part, IsWithin, log_after, fresh, stepped, moved, moved_if, now_after, names_in, HasTried, IsCutChange}
+use Rattle.cube_io.specs.Mem.{Deed, deed, part, IsWithin, log_after, fresh, stepped, moved, moved_if, now_after, names_in, store_of, HasTried, IsCutChange}
 use Rattle.cube_io.specs.Mem.Deed.{Did, Wrote}
-use Rattle.cube_io.specs.Told.{AsksFor}
+use Rattle.cube_io.specs.Told.{AsksFor, Works}
 
 -- one call more
 pub after_push : (k : ℕ) (l : Log) (calls : List Deed) (call : Deed) → log_after k l (calls ++ call ∷ []) ≡ stepped k (log_after k l calls) call
@@ -172,9 +172,18 @@ names_append (Wrote Names name ∷ xs) ys = ap (λ (l : List (List ℕ)). name �
 names_append (Wrote (End log) piece ∷ xs) ys = names_append xs ys
 
 -- a call that asks for no name
-pub names_stay : (old new : List Deed) (d : Deed) → names_in (d ∷ []) ≡ [] → HasTried old new d → names_in new ≡ names_in old
+names_stay : (old new : List Deed) (d : Deed) → names_in (d ∷ []) ≡ [] → HasTried old new d → names_in new ≡ names_in old
 names_stay old new d none (inl same) = ap names_in same
 names_stay old new d none (inr more) = ap names_in more ∙ names_append old (d ∷ []) ∙ ap (λ (l : List (List ℕ)). names_in old ++ l) none ∙ append-nil (names_in old)
+
+one_more : (old new : List Deed) (d : Deed) → HasTried old new d → length new ≤ length old + 1
+one_more old new d (inl same) = rw same (omega arith)
+one_more old new d (inr more) = rw (more, length-append) (omega arith)
+
+-- a call that asks for no name, on a store that is attached
+pub works_by : (faults faults' : ℕ) (attached : Bool) (contents : List (List ℕ)) (old new : List Deed) (d : Deed) → IsTrue attached → names_in (d ∷ []) ≡ [] → HasTried old new d
+    → Works (store_of faults attached contents old) (store_of faults' attached contents new) 1
+works_by faults faults' attached contents old new d is none did = record { told = refl; attached = is; names = λ told. names_stay old new d none did; calls = λ told. one_more old new d did }
 
 pub name_more : (old new : List Deed) (name : List ℕ) → new ≡ old ++ Wrote Names name ∷ [] → names_in new ≡ names_in old ++ name ∷ []
 name_more old new name more = ap names_in more ∙ names_append old (Wrote Names name ∷ [])

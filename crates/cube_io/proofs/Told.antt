@@ -1,9 +1,11 @@
--- Bytes that are told, taken and written one part behind another.
-use Rattle.std.proofs.Common.{◌≡◌, ◌<◌, ℕ, List, [], ◌++◌, length, take, drop, None, Some, refl, sym, ap, ◌∙◌, append_assoc, append-nil, length-append, take-append-drop, arith}
-use Rattle.std.specs.Prelude.{IfSome}
+-- What is told of one call behind another: bytes that are taken and written, work on a store, calls on a wire.
+use Rattle.std.proofs.Common.{◌≡◌, ◌<◌, ℕ, List, [], ◌++◌, length, take, drop, ◌+◌, ◌≤◌, None, Some, refl, sym, subst, ap, ◌∙◌, append_assoc, append-nil, length-append, take-append-drop, arith}
+use Rattle.std.specs.Prelude.{IfSome, IsTrue}
 use Rattle.std.specs.declared.option.Option.{Option}
 use Rattle.std.specs.Io.KnownBytes.{Appends, Consumes, Keeps}
 use Rattle.cube_io.specs.Content.{AppendsPrefix}
+use Rattle.cube_io.specs.Seen.{StoreState, WireState}
+use Rattle.cube_io.specs.Told.{Works, SameLogs, OthersStay, PlaysOn}
 
 pub consumes_then : (l m n : Option (List ℕ)) (a b : List ℕ) → Consumes l m a → Consumes m n b → Consumes l n (a ++ b)
 consumes_then None m n a b h k = tt
@@ -83,3 +85,31 @@ pub longer_there : (l m : Option (List ℕ)) (said : List ℕ) (most : ℕ) → 
 longer_there None m said most h long = tt
 longer_there (Some xs) None said most h long = absurd h
 longer_there (Some xs) (Some ys) said most h long = rw (h, length-append) (omega (arith, long))
+
+-- ---- one call behind another
+
+pub works_none : (s : StoreState) → IsTrue s.attached → Works s s 0
+works_none s is = record { told = refl; attached = is; names = λ told. refl; calls = λ told. omega arith }
+
+pub works_then : (a b c : StoreState) (m n most : ℕ) → Works a b m → Works b c n → m + n ≤ most → Works a c most
+works_then a b c m n most f g few = record {
+  told = g.told ∙ f.told;
+  attached = g.attached;
+  names = λ told. g.names (subst IsTrue (sym f.told) told) ∙ f.names told;
+  calls = λ told. omega (arith, g.calls (subst IsTrue (sym f.told) told), f.calls told, few);
+}
+
+pub works_few : (a b : StoreState) (m most : ℕ) → Works a b m → m ≤ most → Works a b most
+works_few a b m most f few = record { told = f.told; attached = f.attached; names = f.names; calls = λ told. omega (arith, f.calls told, few) }
+
+pub others_same : (log : ℕ) (a b : StoreState) → SameLogs a b → OthersStay log a b
+others_same log a b same = λ told k other. same told k
+
+pub others_then : (log : ℕ) (a b c : StoreState) (m : ℕ) → Works a b m → OthersStay log a b → OthersStay log b c → OthersStay log a c
+others_then log a b c m f first second = λ told k other. second (subst IsTrue (sym f.told) told) k other ∙ first told k other
+
+pub plays_none : (s : WireState) → PlaysOn s s
+plays_none s = record { told = refl; plan = refl; heard = λ told. refl }
+
+pub plays_then : (a b c : WireState) → PlaysOn a b → PlaysOn b c → PlaysOn a c
+plays_then a b c f g = record { told = g.told ∙ f.told; plan = g.plan ∙ f.plan; heard = λ told. g.heard (subst IsTrue (sym f.told) told) ∙ f.heard told }

@@ -1,5 +1,7 @@
 -- Counts of faults, which never fall, and what a call that fails says of them.
-use Rattle.std.specs.Prelude.{◌≡◌, ℕ, ◌+◌, ◌-◌, ◌^◌, ◌≤◌, min, Result, OnOk, OnErr}
+use Rattle.std.specs.Prelude.{◌≡◌, ℕ, ◌+◌, ◌-◌, ◌^◌, ◌≤◌, min, List, Ok, Err, Result, OnOk, OnErr}
+use Rattle.cube_io.specs.declared.faults.ReadFault.{ReadFault}
+use Rattle.cube_io.specs.declared.faults.ReadFault.TheVariants.{Failed, TooLong, NoMemory}
 
 -- the count rose between these two; one that stands at the end of its type is taken as risen
 abbrev pub Rose : ℕ → ℕ → Type 0
@@ -10,3 +12,10 @@ pub record HasCause {T E : Type 0} (before now : ℕ) (result : Result T E) : Ty
   pub later : before ≤ now
   pub steady : OnOk result (now ≡ before)
   pub failed : OnErr result (Rose before now)
+
+-- a read of a file or of a log: `Failed` comes only with a counted fault, and nothing else counts one
+abbrev pub ReadCause : ℕ → ℕ → Result (List ℕ) ReadFault → Type 0
+ReadCause before now (Ok text) = now ≡ before
+ReadCause before now (Err TooLong) = now ≡ before
+ReadCause before now (Err NoMemory) = now ≡ before
+ReadCause before now (Err Failed) = (before ≤ now) × Rose before now

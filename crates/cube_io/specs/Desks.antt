@@ -1,5 +1,5 @@
 -- Desks: what a server answers for, and what it does with an ask.
-use Rattle.std.specs.Prelude.{◌≡◌, ◌≢◌, ℕ, ◌≤◌, Bool, IsTrue, List, [], ◌∷◌, ◌++◌}
+use Rattle.std.specs.Prelude.{◌≡◌, ◌≢◌, ℕ, ◌≤◌, IsTrue, List, [], ◌∷◌, ◌++◌}
 use Rattle.cube_model.specs.declared.ask.Ask.{Ask}
 use Rattle.cube_model.specs.declared.outcome.Outcome.{Outcome}
 use Rattle.cube_model.specs.declared.outcome.Outcome.TheVariants.{Given, JournalFault, NoMemory}
@@ -8,7 +8,8 @@ use Rattle.cube_model.specs.declared.reply.Reply.{Reply}
 use Rattle.cube_model.specs.declared.reply.Reply.TheVariants.{Fixed}
 use Rattle.cube_model.specs.Rooms.{Room}
 use Rattle.cube_io.specs.Causes.{Rose}
-use Rattle.cube_io.specs.States.{State, Log}
+use Rattle.cube_io.specs.Seen.{StoreState}
+use Rattle.cube_io.specs.States.{State}
 
 -- what is replied to an ask over some rooms, and the rooms behind it, by what became of it
 pub record Manner : Type 0 where
@@ -36,5 +37,5 @@ abbrev pub IsForeign : (List Room → ℕ → State → Type 0) → ℕ → Type
 IsForeign holds log = (rooms : List Room) (state : State) → ¬ holds rooms log state
 
 -- no log changed that keeps no room's history
-abbrev pub ForeignStay : Bool → (List Room → ℕ → State → Type 0) → (ℕ → Log) → (ℕ → Log) → Type 0
-ForeignStay told holds old new = IsTrue told → (log : ℕ) → IsForeign holds log → new log ≡ old log
+abbrev pub ForeignStay : (List Room → ℕ → State → Type 0) → StoreState → StoreState → Type 0
+ForeignStay holds old new = IsTrue old.told → (log : ℕ) → IsForeign holds log → new.logs log ≡ old.logs log

@@ -9,4 +9,3 @@ pub mod States
 pub mod Told
 pub mod Whole
 pub mod Wires
-pub mod Reads

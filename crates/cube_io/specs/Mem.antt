@@ -1,11 +1,12 @@
 -- What a store in memory remembers of its calls, and the logs that this record leaves.
-use Rattle.std.specs.Prelude.{◌≡◌, ◌⊎◌, ⊤, ℕ, ◌==◌, ◌+◌, ◌≤◌, Bool, List, [], ◌∷◌, ◌++◌, take, drop, if◌then◌else◌, slice_index_or}
+use Rattle.std.specs.Prelude.{◌≡◌, ◌⊎◌, ⊤, ℕ, ◌==◌, ◌+◌, ◌≤◌, Bool, true, List, [], length, ◌∷◌, ◌++◌, take, drop, if◌then◌else◌, slice_index_or}
 use Rattle.cube_io.specs.declared.record.Change.{Change}
 use Rattle.cube_io.specs.declared.record.Change.TheVariants.{Nothing, Cut, HalfCut, Sync}
 use Rattle.cube_io.specs.declared.record.Target.{Target}
 use Rattle.cube_io.specs.declared.record.Target.TheVariants.{Names, End}
 use Rattle.cube_io.specs.declared.record.Call.{Call}
 use Rattle.cube_io.specs.declared.record.Call.TheVariants as call
+use Rattle.cube_io.specs.Seen.{StoreState}
 use Rattle.cube_io.specs.States.{Log, State, settled, appended, shortened, half_cut}
 
 -- what a call did: a change, or bytes that were written
@@ -63,6 +64,10 @@ names_in [] = []
 names_in (Did change ∷ ds) = names_in ds
 names_in (Wrote Names name ∷ ds) = name ∷ names_in ds
 names_in (Wrote (End log) piece ∷ ds) = names_in ds
+
+-- what a store tells that began with these contents and remembers these calls
+abbrev pub store_of : ℕ → Bool → List (List ℕ) → List Deed → StoreState
+store_of faults attached contents deeds = record { faults = faults; attached = attached; told = true; logs = λ k. log_after k (begun contents k) deeds; names = names_in deeds; calls = length deeds }
 
 -- how far a failed cut may have gone
 abbrev pub IsCutChange : ℕ → ℕ → Change → Type 0

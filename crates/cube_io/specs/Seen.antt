@@ -52,22 +52,7 @@ pub record Seen (State X : Type 0) : Type 0 where
 abbrev pub Unused : {State X : Type 0} → Seen State X → Type 0
 Unused object = object.new ≡ object.old
 
--- ---- of the members of a trait
+-- ---- as a call sees it, of what an object tells
 
 abbrev pub seen : {State X : Type 0} → (X → State) → X → X → Seen State X
 seen tells old new = record { before = tells old; after = tells new; old = old; new = new }
-
-abbrev pub folder_state : {X : Type 0} → (X → Option (List (List ℕ × List ℕ))) → (X → Option (List (List ℕ))) → (X → ℕ) → X → FolderState
-folder_state files asked faults x = record { files = files x; asked = asked x; faults = faults x }
-
-abbrev pub source_state : {X : Type 0} → (X → Option (List ℕ)) → (X → Bool) → (X → ℕ) → X → SourceState
-source_state left ended faults x = record { left = left x; ended = ended x; faults = faults x }
-
-abbrev pub sink_state : {X : Type 0} → (X → Option (List ℕ)) → (X → ℕ) → X → SinkState
-sink_state written faults x = record { written = written x; faults = faults x }
-
-abbrev pub store_state : {X : Type 0} → (X → ℕ) → (X → Bool) → (X → Bool) → (X → ℕ → Log) → (X → List (List ℕ)) → (X → ℕ) → X → StoreState
-store_state faults attached told logs names calls x = record { faults = faults x; attached = attached x; told = told x; logs = logs x; names = names x; calls = calls x }
-
-abbrev pub wire_state : {X : Type 0} → (X → ℕ) → (X → ℕ) → (X → Bool) → (X → List LogEntry) → (X → List (List ℕ)) → (X → Plan) → X → WireState
-wire_state faults send_faults told log heard plan x = record { faults = faults x; send_faults = send_faults x; told = told x; log = log x; heard = heard x; plan = plan x }

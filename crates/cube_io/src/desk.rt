@@ -40,27 +40,27 @@ pub trait Desk<S: Store> {
     fn answer(&mut self, alloc: Global, store: &mut S, ask: &Ask) -> Reply
         requires fits { fits self.old store.old }
         requires room { 1 ≤ room self.old }
-        ensures answered { Answered (manner self.old) ask.now (rooms self.old) (rooms self.new) (outcomes self.old) (outcomes self.new) (S.faults store.old) (S.faults store.new) result }
+        ensures answered { Answered (manner self.old) ask.now (rooms self.old) (rooms self.new) (outcomes self.old) (outcomes self.new) (S.state store.old).faults (S.state store.new).faults result }
         ensures manner { manner self.new ≡ manner self.old }
         ensures room { room self.new + 1 ≡ room self.old }
         ensures fits { fits self.new store.new }
-        ensures told { S.told store.new ≡ S.told store.old }
-        ensures names { IsTrue (S.told store.old) → S.names store.new ≡ S.names store.old }
+        ensures told { (S.state store.new).told ≡ (S.state store.old).told }
+        ensures names { IsTrue (S.state store.old).told → (S.state store.new).names ≡ (S.state store.old).names }
 
         // An ask that adds to no history leaves the store alone.
         ensures untouched { (manner self.old).next (rooms self.old) ask.now outcome.Given ≡ rooms self.old → store.new ≡ store.old }
 
         // No log is written but those that keep the rooms' histories.
-        ensures others { ForeignStay (S.told store.old) (within self.old) (S.logs store.old) (S.logs store.new) }
+        ensures others { ForeignStay (within self.old) (S.state store.old) (S.state store.new) }
 
         // What a crash leaves at each state that is passed, and at the end.
         ensures exact_stays { (rooms : List Room) (log : ℕ) (state : State) → exact self.new rooms log state ↔ exact self.old rooms log state }
         ensures within_stays { (rooms : List Room) (log : ℕ) (state : State) → within self.new rooms log state ↔ within self.old rooms log state }
-        ensures passed { IsTrue (S.told store.old) → (log : ℕ) → within self.old (rooms self.old) log (S.logs store.old log).state
-            → Gained (λ state. within self.old (rooms self.old) log state ⊎ within self.old (rooms self.new) log state) (S.logs store.old log) (S.logs store.new log) }
-        ensures within { IsTrue (S.told store.old) → (log : ℕ) → within self.old (rooms self.old) log (S.logs store.old log).state → within self.new (rooms self.new) log (S.logs store.new log).state }
-        ensures exact { outcomes self.new ≢ outcomes self.old ++ outcome.JournalFault ∷ [] → IsTrue (S.told store.old) → (log : ℕ) → exact self.old (rooms self.old) log (S.logs store.old log).state
-            → exact self.new (rooms self.new) log (S.logs store.new log).state };
+        ensures passed { IsTrue (S.state store.old).told → (log : ℕ) → within self.old (rooms self.old) log ((S.state store.old).logs log).state
+            → Gained (λ state. within self.old (rooms self.old) log state ⊎ within self.old (rooms self.new) log state) ((S.state store.old).logs log) ((S.state store.new).logs log) }
+        ensures within { IsTrue (S.state store.old).told → (log : ℕ) → within self.old (rooms self.old) log ((S.state store.old).logs log).state → within self.new (rooms self.new) log ((S.state store.new).logs log).state }
+        ensures exact { outcomes self.new ≢ outcomes self.old ++ outcome.JournalFault ∷ [] → IsTrue (S.state store.old).told → (log : ℕ) → exact self.old (rooms self.old) log ((S.state store.old).logs log).state
+            → exact self.new (rooms self.new) log ((S.state store.new).logs log).state };
 
     /// Replies to an ask that found no memory before it reached the desk. It takes none.
     fn miss(&mut self) -> Reply

@@ -15,13 +15,11 @@ mod sink;
 mod source;
 mod stop;
 mod store;
-#[cfg(test)]
-mod tests;
 mod wire;
 
 pub use desk::Desk;
-pub use faults::Failed;
-pub use folder::{FileFault, Folder, MAX_FILE, MemFolder};
+pub use faults::{Failed, ReadFault};
+pub use folder::{Folder, MAX_FILE, MemFolder};
 pub use mem_store::{Failing, MemStore, Reach};
 pub use mem_wire::{FailingSend, MemWire, Play};
 pub use null::{NullSink, NullStore, NullWire};
@@ -30,5 +28,5 @@ pub use scroll::{Note, Scroll};
 pub use sink::{MemSink, Sink};
 pub use source::{MemSource, Source};
 pub use stop::StopStore;
-pub use store::{Store, StoreFault};
+pub use store::Store;
 pub use wire::{Event, Wire};

@@ -1,12 +1,12 @@
 // A store in memory that keeps a record of its calls, and fails where it is told to.
 ghost use Rattle.std.specs.Prelude.{◌≡◌, ◌++◌, [], ◌∷◌, length, take, true, slice_index_or, IsErr, IfOk, OnOk, OnErr};
 ghost use Rattle.cube_io.specs.Causes.{HasCause};
-ghost use Rattle.cube_io.specs.Mem.{log_after, begun, names_in, HasTried, IsCutChange};
+ghost use Rattle.cube_io.specs.Mem.{store_of, begun, names_in, HasTried, IsCutChange};
 ghost use Rattle.cube_io.specs.Mem.Deed.{Did, Wrote};
 ghost use Rattle.cube_io.specs.Whole.{whole_after};
 
 use crate::record::{Change, Record, Target};
-use crate::{Failed, Store, StoreFault};
+use crate::{Failed, ReadFault, Store};
 use cube_model::{NoMemory, Text};
 use std::alloc::Global;
 
@@ -48,11 +48,11 @@ impl MemStore {
         calls: usize,
         bytes: usize,
     ) -> Result<MemStore, NoMemory>
-        ensures told { IfOk result (λ store. ⟦<MemStore as Store>⟧.told store ≡ true) }
-        ensures logs { IfOk result (λ store. (k : _) → ⟦<MemStore as Store>⟧.logs store k ≡ begun contents.items k) }
-        ensures names { IfOk result (λ store. ⟦<MemStore as Store>⟧.names store ≡ []) }
-        ensures calls { IfOk result (λ store. ⟦<MemStore as Store>⟧.calls store ≡ 0) }
-        ensures faults { IfOk result (λ store. ⟦<MemStore as Store>⟧.faults store ≡ 0) }
+        ensures told { IfOk result (λ store. (⟦<MemStore as Store>⟧.state store).told ≡ true) }
+        ensures logs { IfOk result (λ store. (k : _) → (⟦<MemStore as Store>⟧.state store).logs k ≡ begun contents.items k) }
+        ensures names { IfOk result (λ store. (⟦<MemStore as Store>⟧.state store).names ≡ []) }
+        ensures calls { IfOk result (λ store. (⟦<MemStore as Store>⟧.state store).calls ≡ 0) }
+        ensures faults { IfOk result (λ store. (⟦<MemStore as Store>⟧.state store).faults ≡ 0) }
     {
         Ok(MemStore {
             begun: contents,
@@ -67,8 +67,8 @@ impl MemStore {
 impl MemStore {
     /// What it remembers of its calls. The states that its logs have passed follow from that.
     pub fn record(&self) -> &Record
-        ensures names { ⟦<MemStore as Store>⟧.names self.now ≡ names_in result.now }
-        ensures calls { ⟦<MemStore as Store>⟧.calls self.now ≡ length result.now }
+        ensures names { (⟦<MemStore as Store>⟧.state self.now).names ≡ names_in result.now }
+        ensures calls { (⟦<MemStore as Store>⟧.state self.now).calls ≡ length result.now }
     {
         &self.record
     }
@@ -181,17 +181,7 @@ fn first_bytes(begun: &[Text], log: u32) -> &[u8]
 }
 
 impl Store for MemStore {
-    ghost faults = { λ s. s.faults };
-
-    ghost attached = { λ s. s.attached };
-
-    ghost told = { λ s. true };
-
-    ghost logs = { λ s k. log_after k (begun s.begun.items k) s.record };
-
-    ghost names = { λ s. names_in s.record };
-
-    ghost calls = { λ s. length s.record };
+    ghost state = { λ s. store_of s.faults s.attached s.begun.items s.record };
 
     ghost whole = { λ s k told. whole_after k s.begun.items s.record };
 
@@ -214,17 +204,17 @@ impl Store for MemStore {
         }
     }
 
-    fn read_all(&mut self, alloc: Global, log: u32) -> Result<Text, StoreFault> {
+    fn read_all(&mut self, alloc: Global, log: u32) -> Result<Text, ReadFault> {
         match reach_of(&self.failing, self.record.len()) {
             None => {}
             Some(_) => {
                 let _ = refuse(&mut self.record, &mut self.faults, Change::Nothing);
-                return Err(StoreFault::Failed);
+                return Err(ReadFault::Failed);
             }
         }
         match perform(&mut self.record, &mut self.faults, Change::Nothing) {
             Ok(()) => {}
-            Err(_) => return Err(StoreFault::Failed),
+            Err(_) => return Err(ReadFault::Failed),
         }
         match self
             .record
@@ -232,11 +222,11 @@ impl Store for MemStore {
         {
             Ok(text) => {
                 if text.len() > 1 << 28 {
-                    return Err(StoreFault::TooLong);
+                    return Err(ReadFault::TooLong);
                 }
                 Ok(text)
             }
-            Err(_) => Err(StoreFault::NoMemory),
+            Err(_) => Err(ReadFault::NoMemory),
         }
     }
 

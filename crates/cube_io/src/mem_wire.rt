@@ -62,11 +62,11 @@ impl MemWire {
         entries: usize,
         bytes: usize,
     ) -> Result<MemWire, NoMemory>
-        ensures told { IfOk result (λ wire. ⟦<MemWire as Wire>⟧.told wire ≡ true) }
-        ensures log { IfOk result (λ wire. ⟦<MemWire as Wire>⟧.log wire ≡ []) }
-        ensures heard { IfOk result (λ wire. ⟦<MemWire as Wire>⟧.heard wire ≡ []) }
-        ensures faults { IfOk result (λ wire. ⟦<MemWire as Wire>⟧.faults wire ≡ 0) }
-        ensures send_faults { IfOk result (λ wire. ⟦<MemWire as Wire>⟧.send_faults wire ≡ 0) }
+        ensures told { IfOk result (λ wire. (⟦<MemWire as Wire>⟧.state wire).told ≡ true) }
+        ensures log { IfOk result (λ wire. (⟦<MemWire as Wire>⟧.state wire).log ≡ []) }
+        ensures heard { IfOk result (λ wire. (⟦<MemWire as Wire>⟧.state wire).heard ≡ []) }
+        ensures faults { IfOk result (λ wire. (⟦<MemWire as Wire>⟧.state wire).faults ≡ 0) }
+        ensures send_faults { IfOk result (λ wire. (⟦<MemWire as Wire>⟧.state wire).send_faults ≡ 0) }
     {
         Ok(MemWire {
             plays,
@@ -135,17 +135,7 @@ fn play_next(book: &mut Book, play: Option<&Play>, buf: &mut [u8]) -> Result<Eve
 }
 
 impl Wire for MemWire {
-    ghost faults = { λ w. w.faults };
-
-    ghost send_faults = { λ w. w.send_faults };
-
-    ghost told = { λ w. true };
-
-    ghost log = { λ w. w.book.scroll.log };
-
-    ghost heard = { λ w. names_in w.heard };
-
-    ghost plan = { λ _. no_plan };
+    ghost state = { λ w. record { faults = w.faults; send_faults = w.send_faults; told = true; log = w.book.scroll.log; heard = names_in w.heard; plan = no_plan } };
 
     fn listen(&mut self, address: &Text) -> Result<(), Failed> {
         match self.heard.write(Target::Names, address.as_slice()) {

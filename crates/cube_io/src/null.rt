@@ -1,10 +1,9 @@
 // Objects that keep nothing, tell nothing and never fail.
-ghost use Rattle.std.specs.Prelude.{[], false, None};
+ghost use Rattle.std.specs.Prelude.{None};
 ghost use Rattle.std.proofs.Common.{rules};
-ghost use Rattle.cube_io.specs.States.{settled};
-ghost use Rattle.cube_io.specs.Wires.{no_plan};
+ghost use Rattle.cube_io.specs.Told.{silent_store, silent_wire};
 
-use crate::{Event, Failed, Sink, Store, StoreFault, Wire};
+use crate::{Event, Failed, ReadFault, Sink, Store, Wire};
 use cube_model::Text;
 use std::alloc::Global;
 
@@ -13,9 +12,7 @@ use std::alloc::Global;
 pub struct NullSink;
 
 impl Sink for NullSink {
-    ghost written = { λ _. None };
-
-    ghost faults = { λ _. 0 };
+    ghost state = { λ _. record { written = None; faults = 0 } };
 
     fn put(&mut self, _piece: &[u8]) -> Result<(), Failed> {
         Ok(())
@@ -35,17 +32,7 @@ impl NullStore {
 }
 
 impl Store for NullStore {
-    ghost faults = { λ s. 0 };
-
-    ghost attached = { λ s. s.attached };
-
-    ghost told = { λ s. false };
-
-    ghost logs = { λ s k. record { state = settled []; trail = [] } };
-
-    ghost names = { λ s. [] };
-
-    ghost calls = { λ s. 0 };
+    ghost state = { λ s. silent_store 0 s.attached };
 
     ghost whole = { λ s k told. Prim.search rules };
 
@@ -54,7 +41,7 @@ impl Store for NullStore {
         Ok(())
     }
 
-    fn read_all(&mut self, alloc: Global, _log: u32) -> Result<Text, StoreFault> {
+    fn read_all(&mut self, alloc: Global, _log: u32) -> Result<Text, ReadFault> {
         Ok(Text::new(alloc))
     }
 
@@ -76,17 +63,7 @@ impl Store for NullStore {
 pub struct NullWire;
 
 impl Wire for NullWire {
-    ghost faults = { λ _. 0 };
-
-    ghost send_faults = { λ _. 0 };
-
-    ghost told = { λ _. false };
-
-    ghost log = { λ _. [] };
-
-    ghost heard = { λ _. [] };
-
-    ghost plan = { λ _. no_plan };
+    ghost state = { λ _. silent_wire 0 0 };
 
     fn listen(&mut self, _address: &Text) -> Result<(), Failed> {
         Ok(())

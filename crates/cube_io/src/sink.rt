@@ -1,8 +1,8 @@
 // Sinks of bytes.
 ghost use Rattle.std.specs.Prelude.{◌≡◌, ◌≤◌, ℕ, List, [], length, Some, None, IsOk, IfOk};
-ghost use Rattle.std.specs.declared.option.Option.{Option};
 ghost use Rattle.cube_io.specs.Causes.{HasCause};
 ghost use Rattle.cube_io.specs.Content.{PutAppends};
+ghost use Rattle.cube_io.specs.Seen.{SinkState};
 
 use crate::Failed;
 use cube_model::NoMemory;
@@ -10,17 +10,14 @@ use std::alloc::Global;
 
 /// A sink of bytes.
 pub trait Sink {
-    /// The bytes that were written, where the sink tells them.
-    ghost written: { Self → Option (List ℕ) };
-
-    /// How often the sink has failed.
-    ghost faults: { Self → ℕ };
+    /// The bytes that were written, where it tells them, and how often it has failed.
+    ghost state: { Self → SinkState };
 
     /// Writes the piece at the end, or fails after a prefix of it. An empty piece never fails.
     fn put(&mut self, piece: &[u8]) -> Result<(), Failed>
-        ensures bytes { PutAppends (written self.old) (written self.new) result piece.now }
+        ensures bytes { PutAppends (state self.old).written (state self.new).written result piece.now }
         ensures empty { piece.now ≡ [] → IsOk result }
-        ensures cause { HasCause (faults self.old) (faults self.new) result };
+        ensures cause { HasCause (state self.old).faults (state self.new).faults result };
 }
 
 /// A sink into memory of fixed room. It fails at the puts with these numbers, counted from 0, and where the room is
@@ -37,8 +34,8 @@ pub struct MemSink {
 impl MemSink {
     /// An empty sink, with room for so many bytes.
     pub fn with_room(alloc: Global, room: usize, failing: Vec<u64>) -> Result<Self, NoMemory>
-        ensures written { IfOk result (λ sink. ⟦<MemSink as Sink>⟧.written sink ≡ Some []) }
-        ensures faults { IfOk result (λ sink. ⟦<MemSink as Sink>⟧.faults sink ≡ 0) }
+        ensures written { IfOk result (λ sink. (⟦<MemSink as Sink>⟧.state sink).written ≡ Some []) }
+        ensures faults { IfOk result (λ sink. (⟦<MemSink as Sink>⟧.state sink).faults ≡ 0) }
     {
         Ok(MemSink {
             bytes: Vec::with_capacity(alloc, room)?,
@@ -51,16 +48,14 @@ impl MemSink {
 
     /// The bytes that were written.
     pub fn bytes(&self) -> &[u8]
-        ensures { ⟦<MemSink as Sink>⟧.written self.now ≡ Some result.now }
+        ensures { (⟦<MemSink as Sink>⟧.state self.now).written ≡ Some result.now }
     {
         self.bytes.as_slice()
     }
 }
 
 impl Sink for MemSink {
-    ghost written = { λ s. Some s.bytes.items };
-
-    ghost faults = { λ s. s.faults };
+    ghost state = { λ s. record { written = Some s.bytes.items; faults = s.faults } };
 
     fn put(&mut self, piece: &[u8]) -> Result<(), Failed> {
         if piece.is_empty() {

@@ -2,31 +2,25 @@
 ghost use Rattle.std.specs.Prelude.{◌≡◌, ◌↔◌, ◌⊎◌, ◌<◌, ◌≤◌, ℕ, Bool, true, false, List, length, take, drop, Some, Ok, [], ◌++◌};
 ghost use Rattle.std.specs.Io.{ReadsAtMost};
 ghost use Rattle.std.specs.Io.KnownBytes.{ReadConsumes};
-ghost use Rattle.std.specs.declared.option.Option.{Option};
 ghost use Rattle.cube_io.specs.Causes.{HasCause};
+ghost use Rattle.cube_io.specs.Seen.{SourceState};
 
 use crate::Failed;
 use cube_model::Text;
 
 /// A source of bytes.
 pub trait Source {
-    /// The bytes that are left, where the source tells them.
-    ghost left: { Self → Option (List ℕ) };
-
-    /// Whether the end was given.
-    ghost ended: { Self → Bool };
-
-    /// How often the source has failed.
-    ghost faults: { Self → ℕ };
+    /// The bytes that are left, where it tells them, whether the end was given, and how often it has failed.
+    ghost state: { Self → SourceState };
 
     /// The next bytes, at the front of the buffer, and how many. 0 is the end, and from then on each call answers 0.
     fn read(&mut self, buf: &mut [u8]) -> Result<usize, Failed>
         requires { 0 < length buf.old }
         ensures bound { ReadsAtMost result buf.new }
-        ensures bytes { ReadConsumes (left self.old) (left self.new) result buf.new }
-        ensures end { (ended self.new ≡ true) ↔ ((ended self.old ≡ true) ⊎ (result ≡ Ok 0)) }
-        ensures stays { ended self.old ≡ true → result ≡ Ok 0 }
-        ensures cause { HasCause (faults self.old) (faults self.new) result };
+        ensures bytes { ReadConsumes (state self.old).left (state self.new).left result buf.new }
+        ensures end { ((state self.new).ended ≡ true) ↔ (((state self.old).ended ≡ true) ⊎ (result ≡ Ok 0)) }
+        ensures stays { (state self.old).ended ≡ true → result ≡ Ok 0 }
+        ensures cause { HasCause (state self.old).faults (state self.new).faults result };
 }
 
 /// A source over bytes in memory. It fails at the reads with these numbers, counted from 0.
@@ -46,9 +40,9 @@ pub struct MemSource {
 impl MemSource {
     /// Gives at most `largest` bytes at a read, one where that is 0.
     pub fn new(bytes: Text, largest: usize, failing: Vec<u64>) -> Self
-        ensures left { ⟦<MemSource as Source>⟧.left result ≡ Some bytes }
-        ensures fresh { ⟦<MemSource as Source>⟧.ended result ≡ false }
-        ensures faults { ⟦<MemSource as Source>⟧.faults result ≡ 0 }
+        ensures left { (⟦<MemSource as Source>⟧.state result).left ≡ Some bytes }
+        ensures fresh { (⟦<MemSource as Source>⟧.state result).ended ≡ false }
+        ensures faults { (⟦<MemSource as Source>⟧.state result).faults ≡ 0 }
     {
         MemSource {
             bytes,
@@ -63,11 +57,7 @@ impl MemSource {
 }
 
 impl Source for MemSource {
-    ghost left = { λ s. Some (drop s.at s.bytes) };
-
-    ghost ended = { λ s. s.ended };
-
-    ghost faults = { λ s. s.faults };
+    ghost state = { λ s. record { left = Some (drop s.at s.bytes); ended = s.ended; faults = s.faults } };
 
     fn read(&mut self, buf: &mut [u8]) -> Result<usize, Failed> {
         if self.ended {

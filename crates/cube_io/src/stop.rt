@@ -2,9 +2,9 @@
 ghost use Rattle.std.specs.Prelude.{◌≡◌, ◌≤◌, ◌+◌, [], true, false};
 ghost use Rattle.std.proofs.Common.{rules};
 ghost use Rattle.cube_io.specs.Causes.{Rose};
-ghost use Rattle.cube_io.specs.States.{settled};
+ghost use Rattle.cube_io.specs.Told.{silent_store};
 
-use crate::{Failed, Store, StoreFault};
+use crate::{Failed, ReadFault, Store};
 use cube_model::Text;
 use std::alloc::Global;
 
@@ -16,16 +16,16 @@ pub struct StopStore<S: Store> {
     inner: S,
     left: u64,
     faults: u64,
-    ghost quiet: { S.told inner ≡ false },
+    ghost quiet: { (S.state inner).told ≡ false },
 }
 
 impl<S: Store> StopStore<S> {
     /// A store that passes so many calls on.
     pub fn new(inner: S, left: u64) -> StopStore<S>
-        requires { S.told inner ≡ false }
-        ensures faults { ⟦<StopStore<S> as Store>⟧.faults result ≡ S.faults inner }
-        ensures attached { ⟦<StopStore<S> as Store>⟧.attached result ≡ S.attached inner }
-        ensures told { ⟦<StopStore<S> as Store>⟧.told result ≡ false }
+        requires { (S.state inner).told ≡ false }
+        ensures faults { (⟦<StopStore<S> as Store>⟧.state result).faults ≡ (S.state inner).faults }
+        ensures attached { (⟦<StopStore<S> as Store>⟧.state result).attached ≡ (S.state inner).attached }
+        ensures told { (⟦<StopStore<S> as Store>⟧.state result).told ≡ false }
     {
         StopStore {
             inner,
@@ -50,17 +50,7 @@ fn spend(left: &mut u64, faults: &mut u64) -> bool
 }
 
 impl<S: Store> Store for StopStore<S> {
-    ghost faults = { λ s. S.faults s.inner + s.faults };
-
-    ghost attached = { λ s. S.attached s.inner };
-
-    ghost told = { λ s. false };
-
-    ghost logs = { λ s k. record { state = settled []; trail = [] } };
-
-    ghost names = { λ s. [] };
-
-    ghost calls = { λ s. 0 };
+    ghost state = { λ s. silent_store ((S.state s.inner).faults + s.faults) (S.state s.inner).attached };
 
     ghost whole = { λ s k told. Prim.search rules };
 
@@ -72,11 +62,11 @@ impl<S: Store> Store for StopStore<S> {
         }
     }
 
-    fn read_all(&mut self, alloc: Global, log: u32) -> Result<Text, StoreFault> {
+    fn read_all(&mut self, alloc: Global, log: u32) -> Result<Text, ReadFault> {
         if spend(&mut self.left, &mut self.faults) {
             self.inner.read_all(alloc, log)
         } else {
-            Err(StoreFault::Failed)
+            Err(ReadFault::Failed)
         }
     }
 

@@ -1,8 +1,9 @@
 // Connections by number: what comes on them, and what is sent.
-ghost use Rattle.std.specs.Prelude.{◌≡◌, ℕ, Bool, List, [], ◌∷◌, ◌++◌, length, IsTrue, IfOk, OnOk};
+ghost use Rattle.std.specs.Prelude.{◌≡◌, [], ◌∷◌, ◌++◌, length, IsTrue, IfOk};
 ghost use Rattle.cube_io.specs.Causes.{HasCause};
-ghost use Rattle.cube_io.specs.Told.{AsksFor};
-ghost use Rattle.cube_io.specs.Wires.{LogEntry, Plan, FitsBuffer, IsOpen, IsSound, SendTells, NextTells};
+ghost use Rattle.cube_io.specs.Seen.{WireState};
+ghost use Rattle.cube_io.specs.Told.{AsksFor, PlaysOn};
+ghost use Rattle.cube_io.specs.Wires.{FitsBuffer, IsOpen, IsSound, SendTells, NextTells};
 ghost use Rattle.cube_io.specs.Wires.LogEntry.{Shut};
 
 use crate::Failed;
@@ -23,60 +24,39 @@ pub enum Event {
 
 /// Connections by number. What stands under `told` holds where the wire tells its log.
 pub trait Wire {
-    /// How often `listen` or `next` failed.
-    ghost faults: { Self → ℕ };
-
-    /// How often a send failed.
-    ghost send_faults: { Self → ℕ };
-
-    /// Whether the wire tells its log.
-    ghost told: { Self → Bool };
-
-    /// The events, sends and closes in order.
-    ghost log: { Self → List LogEntry };
-
-    /// The addresses that `listen` was asked for.
-    ghost heard: { Self → List (List ℕ) };
-
-    /// What the wire is to play: it stays while it plays.
-    ghost plan: { Self → Plan };
+    /// What it tells of its log, of its addresses and of what it is to play, and how often it, and a send on it, has failed.
+    ghost state: { Self → WireState };
 
     /// Listens on an address.
     fn listen(&mut self, address: &Text) -> Result<(), Failed>
-        ensures cause { HasCause (faults self.old) (faults self.new) result }
-        ensures sends { send_faults self.new ≡ send_faults self.old }
-        ensures told { told self.new ≡ told self.old }
-        ensures log { IsTrue (told self.old) → log self.new ≡ log self.old }
-        ensures heard { IsTrue (told self.old) → AsksFor result (heard self.old) (heard self.new) address.now };
+        ensures cause { HasCause (state self.old).faults (state self.new).faults result }
+        ensures sends { (state self.new).send_faults ≡ (state self.old).send_faults }
+        ensures told { (state self.new).told ≡ (state self.old).told }
+        ensures log { IsTrue (state self.old).told → (state self.new).log ≡ (state self.old).log }
+        ensures heard { IsTrue (state self.old).told → AsksFor result (state self.old).heard (state self.new).heard address.now };
 
     /// The next event. The bytes of a piece stand at the front of the buffer.
     fn next(&mut self, buf: &mut [u8]) -> Result<Event, Failed>
         requires { length buf.old ≡ 65536 }
-        ensures cause { HasCause (faults self.old) (faults self.new) result }
-        ensures sends { send_faults self.new ≡ send_faults self.old }
-        ensures told { told self.new ≡ told self.old }
-        ensures plan { plan self.new ≡ plan self.old }
+        ensures cause { HasCause (state self.old).faults (state self.new).faults result }
+        ensures sends { (state self.new).send_faults ≡ (state self.old).send_faults }
+        ensures plays { PlaysOn (state self.old) (state self.new) }
         ensures fits { IfOk result (λ event. FitsBuffer event buf.new) }
-        ensures log { IsTrue (told self.old) → NextTells result buf.new (log self.old) (log self.new) }
-        ensures heard { IsTrue (told self.old) → heard self.new ≡ heard self.old };
+        ensures log { IsTrue (state self.old).told → NextTells result buf.new (state self.old).log (state self.new).log };
 
     /// Sends a piece. After a failure a prefix of it went out, and the connection can only be closed.
     fn send(&mut self, c: u32, piece: &[u8]) -> Result<(), Failed>
-        requires { IsTrue (told self.old) → IsSound c (log self.old) }
-        ensures cause { HasCause (send_faults self.old) (send_faults self.new) result }
-        ensures faults { faults self.new ≡ faults self.old }
-        ensures told { told self.new ≡ told self.old }
-        ensures plan { plan self.new ≡ plan self.old }
-        ensures log { IsTrue (told self.old) → SendTells c piece.now result (log self.old) (log self.new) }
-        ensures heard { IsTrue (told self.old) → heard self.new ≡ heard self.old };
+        requires { IsTrue (state self.old).told → IsSound c (state self.old).log }
+        ensures cause { HasCause (state self.old).send_faults (state self.new).send_faults result }
+        ensures faults { (state self.new).faults ≡ (state self.old).faults }
+        ensures plays { PlaysOn (state self.old) (state self.new) }
+        ensures log { IsTrue (state self.old).told → SendTells c piece.now result (state self.old).log (state self.new).log };
 
     /// Closes a connection.
     fn close(&mut self, c: u32)
-        requires { IsTrue (told self.old) → IsOpen c (log self.old) }
-        ensures faults { faults self.new ≡ faults self.old }
-        ensures sends { send_faults self.new ≡ send_faults self.old }
-        ensures told { told self.new ≡ told self.old }
-        ensures plan { plan self.new ≡ plan self.old }
-        ensures log { IsTrue (told self.old) → log self.new ≡ log self.old ++ Shut c ∷ [] }
-        ensures heard { IsTrue (told self.old) → heard self.new ≡ heard self.old };
+        requires { IsTrue (state self.old).told → IsOpen c (state self.old).log }
+        ensures faults { (state self.new).faults ≡ (state self.old).faults }
+        ensures sends { (state self.new).send_faults ≡ (state self.old).send_faults }
+        ensures plays { PlaysOn (state self.old) (state self.new) }
+        ensures log { IsTrue (state self.old).told → (state self.new).log ≡ (state self.old).log ++ Shut c ∷ [] };
 }

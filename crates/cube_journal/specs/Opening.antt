@@ -3,14 +3,14 @@ use Rattle.std.specs.Prelude.{◌≡◌, ⊤, ℕ, ◌^◌, ◌<◌, ◌≤◌, 
 use Rattle.std.specs.declared.result.Result.{Result}
 use Rattle.cube_model.specs.declared.entry.Entry.{Entry}
 use Rattle.cube_io.specs.Causes.{Rose}
-use Rattle.cube_io.specs.declared.store.StoreFault.{StoreFault}
-use Rattle.cube_io.specs.declared.store.StoreFault.TheVariants as store
+use Rattle.cube_io.specs.declared.faults.ReadFault.{ReadFault}
+use Rattle.cube_io.specs.declared.faults.ReadFault.TheVariants as store
 use Rattle.cube_journal.specs.declared.fault.JournalFault.{JournalFault}
 use Rattle.cube_journal.specs.declared.fault.JournalFault.TheVariants as journal
 use Rattle.cube_journal.specs.declared.fault.OpenFault.{OpenFault}
 use Rattle.cube_journal.specs.declared.fault.OpenFault.TheVariants.{Failed, TooLong, Damaged, OtherCube, NoMemory}
 
-abbrev pub of_store : StoreFault → OpenFault
+abbrev pub of_store : ReadFault → OpenFault
 of_store store.Failed = Failed
 of_store store.TooLong = TooLong
 of_store store.NoMemory = NoMemory

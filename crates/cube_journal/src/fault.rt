@@ -3,7 +3,7 @@ ghost use Rattle.std.specs.Prelude.{◌≡◌};
 ghost use Rattle.cube_journal.specs.Opening.{of_store, of_journal};
 
 use crate::Digest;
-use cube_io::StoreFault;
+use cube_io::ReadFault;
 
 /// What is wrong with the bytes of a journal.
 #[derive(Clone, Copy, Debug, PartialEq, Eq)]
@@ -32,13 +32,13 @@ pub enum OpenFault {
 }
 
 /// The fault of a log that was not read.
-pub fn of_store(fault: StoreFault) -> OpenFault
+pub fn of_store(fault: ReadFault) -> OpenFault
     ensures { result ≡ of_store fault }
 {
     match fault {
-        StoreFault::Failed => OpenFault::Failed,
-        StoreFault::TooLong => OpenFault::TooLong,
-        StoreFault::NoMemory => OpenFault::NoMemory,
+        ReadFault::Failed => OpenFault::Failed,
+        ReadFault::TooLong => OpenFault::TooLong,
+        ReadFault::NoMemory => OpenFault::NoMemory,
     }
 }
 

@@ -11,8 +11,6 @@ mod line;
 mod opening;
 mod public;
 mod reading;
-#[cfg(test)]
-mod tests;
 mod worked;
 
 pub use digest::{Digest, digest_of};

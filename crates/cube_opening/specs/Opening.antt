@@ -1,12 +1,12 @@
 -- What the dimension file, the fact file and the policy file of a command hold, read in turn.
-use Rattle.std.specs.Prelude.{◌≡◌, ◌⊎◌, ℕ, nat_lt, List, [], ◌∷◌, ◌++◌, length, codes, if◌then◌else◌, IfSome, IsSomeAnd, IsOkAnd, IsOk, Result, Ok, Err, ℤ}
-use Rattle.std.specs.declared.option.Option.{Option}
+use Rattle.std.specs.Prelude.{◌≡◌, ◌⊎◌, ◌<◌, ℕ, nat_lt, List, [], ◌∷◌, ◌++◌, length, codes, if◌then◌else◌, IfSome, IsSomeAnd, IsOkAnd, IsOk, OnOk, IfErr, ◌≢◌, Result, Ok, Err, ℤ}
 use Rattle.cube_model.specs.declared.shape.Shape.{Shape}
 use Rattle.cube_model.specs.Cores.{Core}
 use Rattle.cube_model.specs.Dims.{Dims}
 use Rattle.cube_model.specs.declared.policy.Policy.{Policy}
 use Rattle.cube_io.specs.Causes.{Rose}
 use Rattle.cube_io.specs.Files.{max_file, file_of}
+use Rattle.cube_io.specs.Seen.{FolderState, Seen}
 use Rattle.cube_dims.specs.DimsFile.{dims_of}
 use Rattle.cube_dims.specs.Words as dims
 use Rattle.cube_facts.specs.FactFile.{filled_of}
@@ -15,6 +15,7 @@ use Rattle.cube_facts.specs.Words as facts
 use Rattle.cube_policy.specs.PolicyFile.{policy_of}
 use Rattle.cube_policy.specs.Words as policy
 use Rattle.cube_opening.specs.Reports.{IsReport, NoRoom}
+use Rattle.cube_opening.specs.declared.cube_files.CubeFiles.{CubeFiles}
 use Rattle.cube_opening.specs.declared.report.Report.{Report}
 
 -- ---- what a file says: a value, or the text on its fault
@@ -56,79 +57,108 @@ Says said name known result = IsSomeAnd (file_of known name) (λ bytes. said byt
 abbrev pub unreadable_text : List ℕ → List ℕ
 unreadable_text name = codes "cannot read " ++ name ++ codes "\n"
 
--- How a run ends at a file: memory ran out, or the file was not read, or it is refused.
-abbrev pub Unopened : {X : Type 0} → (List ℕ → Result X (List ℕ)) → List ℕ → Option (List (List ℕ × List ℕ)) → ℕ → ℕ → Report → Type 0
-Unopened said name files before now r =
+-- How a run ends at a file of this kind whose bytes it was to read: memory ran out, or the file was not read, or it is too long.
+abbrev pub Unread : {F : Type 0} → List ℕ → List ℕ → Seen FolderState F → Report → Type 0
+Unread kind name folder r =
     NoRoom r
     ⊎ IsReport 7 (codes "no memory\n") r
-    ⊎ (IsReport 5 (unreadable_text name) r × Rose before now)
-    ⊎ (IsReport 3 r.text r × IfSome files (λ known. Says said name known (Err r.text)))
+    ⊎ (IsReport 5 (unreadable_text name) r × Rose folder.before.faults folder.after.faults)
+    ⊎ (IsReport 3 (kind ++ codes ": limit file 67108864\n") r × IfSome folder.before.files (λ known. IsSomeAnd (file_of known name) (λ bytes. max_file < length bytes)))
+
+-- How a run ends at a file: memory ran out, or the file was not read, or it is refused.
+abbrev pub Unopened : {X F : Type 0} → (List ℕ → Result X (List ℕ)) → List ℕ → Seen FolderState F → Report → Type 0
+Unopened said name folder r =
+    NoRoom r
+    ⊎ IsReport 7 (codes "no memory\n") r
+    ⊎ (IsReport 5 (unreadable_text name) r × Rose folder.before.faults folder.after.faults)
+    ⊎ (IsReport 3 r.text r × IfSome folder.before.files (λ known. Says said name known (Err r.text)))
+
+-- the folder counted no fault
+abbrev pub IsSteady : {F : Type 0} → Seen FolderState F → Type 0
+IsSteady folder = folder.after.faults ≡ folder.before.faults
 
 -- memory ran out, or the folder failed
-abbrev pub Failed : ℕ → ℕ → Report → Type 0
-Failed before now r = (r.status ≡ 7) ⊎ ((r.status ≡ 5) × Rose before now)
+abbrev pub Failed : {F : Type 0} → Seen FolderState F → Report → Type 0
+Failed folder r = (r.status ≡ 7) ⊎ ((r.status ≡ 5) × Rose folder.before.faults folder.after.faults)
+
+-- these names were asked for in turn, and nothing else was
+abbrev pub AskedFor : {F : Type 0} → List (List ℕ) → Seen FolderState F → Type 0
+AskedFor names folder = IfSome folder.before.asked (λ o. IsSomeAnd folder.after.asked (λ n. n ≡ o ++ names))
 
 -- the file's name was asked for; it may be lacking where memory ran out, or where the folder failed
-abbrev pub AsksOnce : List ℕ → Option (List (List ℕ)) → Option (List (List ℕ)) → ℕ → ℕ → Report → Type 0
-AsksOnce name old new before now r = IfSome old (λ o. IsSomeAnd new (λ n. (n ≡ o ++ name ∷ []) ⊎ ((n ≡ o) × Failed before now r)))
+abbrev pub AsksOnce : {F : Type 0} → List ℕ → Seen FolderState F → Report → Type 0
+AsksOnce name folder r = IfSome folder.before.asked (λ o. IsSomeAnd folder.after.asked (λ n. (n ≡ o ++ name ∷ []) ⊎ ((n ≡ o) × Failed folder r)))
+
+-- A call that reads files: the folder tells the same of them, and it counted a fault only where the run ended at one that was not read.
+pub record Reads {X F : Type 0} (folder : Seen FolderState F) (result : Result X Report) : Type 0 where
+  pub files : folder.after.files ≡ folder.before.files
+  pub steady : OnOk result (IsSteady folder)
+  pub steady_err : IfErr result (λ r. r.status ≢ 5 → IsSteady folder)
 
 -- ---- the dimension file and the fact file
 
 -- the dimension file and the fact file of these names are there and make this core
-abbrev pub Makes : List ℕ → List ℕ → Core → List (List ℕ × List ℕ) → Type 0
-Makes dims_name facts_name core known =
-    IsSomeAnd (file_of known dims_name) (λ bytes. IsOkAnd (dims_said bytes) (λ s. Says (facts_said s) facts_name known (Ok core)))
+abbrev pub Makes : CubeFiles → Core → List (List ℕ × List ℕ) → Type 0
+Makes cube core known =
+    IsSomeAnd (file_of known cube.dims) (λ bytes. IsOkAnd (dims_said bytes) (λ s. Says (facts_said s) cube.facts known (Ok core)))
 
 -- the dimension file is there and is accepted
 abbrev pub HasDims : List ℕ → List (List ℕ × List ℕ) → Type 0
 HasDims dims_name known = IsSomeAnd (file_of known dims_name) (λ bytes. IsOk (dims_said bytes))
 
 -- the dimension file is accepted, and the fact file is refused with this text
-abbrev pub RefusesFacts : List ℕ → List ℕ → List ℕ → List (List ℕ × List ℕ) → Type 0
-RefusesFacts dims_name facts_name text known =
-    IsSomeAnd (file_of known dims_name) (λ bytes. IsOkAnd (dims_said bytes) (λ s. Says (facts_said s) facts_name known (Err text)))
+abbrev pub RefusesFacts : CubeFiles → List ℕ → List (List ℕ × List ℕ) → Type 0
+RefusesFacts cube text known =
+    IsSomeAnd (file_of known cube.dims) (λ bytes. IsOkAnd (dims_said bytes) (λ s. Says (facts_said s) cube.facts known (Err text)))
 
 -- how a run ends at these two files
-abbrev pub EndsTwo : List ℕ → List ℕ → Option (List (List ℕ × List ℕ)) → ℕ → ℕ → Report → Type 0
-EndsTwo dims_name facts_name files before now r =
+abbrev pub EndsTwo : {F : Type 0} → CubeFiles → Seen FolderState F → Report → Type 0
+EndsTwo cube folder r =
     NoRoom r
     ⊎ IsReport 7 (codes "no memory\n") r
-    ⊎ (IsReport 5 (unreadable_text dims_name) r × Rose before now)
-    ⊎ (IsReport 5 (unreadable_text facts_name) r × Rose before now × IfSome files (HasDims dims_name))
-    ⊎ (IsReport 3 r.text r × IfSome files (λ known. Says dims_said dims_name known (Err r.text)))
-    ⊎ (IsReport 3 r.text r × IfSome files (RefusesFacts dims_name facts_name r.text))
+    ⊎ (IsReport 5 (unreadable_text cube.dims) r × Rose folder.before.faults folder.after.faults)
+    ⊎ (IsReport 5 (unreadable_text cube.facts) r × Rose folder.before.faults folder.after.faults × IfSome folder.before.files (HasDims cube.dims))
+    ⊎ (IsReport 3 r.text r × IfSome folder.before.files (λ known. Says dims_said cube.dims known (Err r.text)))
+    ⊎ (IsReport 3 r.text r × IfSome folder.before.files (RefusesFacts cube r.text))
 
--- The names that were asked for where the run ended at these two files: up to that of the file that is refused, or that was to be
--- read when memory ran out or the folder failed; there this name may be lacking.
-abbrev pub AsksTwo : List ℕ → List ℕ → Option (List (List ℕ × List ℕ)) → List (List ℕ) → List (List ℕ) → ℕ → ℕ → Report → Type 0
-AsksTwo dims_name facts_name files o n before now r =
-    ((n ≡ o) × Failed before now r)
-    ⊎ ((n ≡ o ++ dims_name ∷ []) × (Failed before now r ⊎ ((r.status ≡ 3) × IfSome files (λ known. Says dims_said dims_name known (Err r.text)))))
-    ⊎ ((n ≡ o ++ dims_name ∷ facts_name ∷ []) × (Failed before now r ⊎ ((r.status ≡ 3) × IfSome files (RefusesFacts dims_name facts_name r.text))))
+-- The names that were asked for behind those asked for before, where the run ended at these two files: up to that of the file that is
+-- refused, or that was to be read when memory ran out or the folder failed; there this name may be lacking.
+abbrev pub AsksTwo : {F : Type 0} → CubeFiles → Seen FolderState F → List (List ℕ) → List (List ℕ) → Report → Type 0
+AsksTwo cube folder o n r =
+    ((n ≡ o) × Failed folder r)
+    ⊎ ((n ≡ o ++ cube.dims ∷ []) × (Failed folder r ⊎ ((r.status ≡ 3) × IfSome folder.before.files (λ known. Says dims_said cube.dims known (Err r.text)))))
+    ⊎ ((n ≡ o ++ cube.dims ∷ cube.facts ∷ []) × (Failed folder r ⊎ ((r.status ≡ 3) × IfSome folder.before.files (RefusesFacts cube r.text))))
 
 -- ---- all three files
 
 -- the files of these names are there and make this core and this policy
-abbrev pub MakesAll : List ℕ → List ℕ → List ℕ → Core → Policy → List (List ℕ × List ℕ) → Type 0
-MakesAll dims_name facts_name policy_name core policy known = Makes dims_name facts_name core known × Says (policy_said core.dims) policy_name known (Ok policy)
+abbrev pub MakesAll : CubeFiles → Core → Policy → List (List ℕ × List ℕ) → Type 0
+MakesAll cube core policy known = Makes cube core known × Says (policy_said core.dims) cube.policy known (Ok policy)
+
+-- the files make this core and this policy, where the folder tells them
+abbrev pub Make : CubeFiles → FolderState → Core → Policy → Type 0
+Make cube folder core policy = IfSome folder.files (MakesAll cube core policy)
 
 -- the dimension file and the fact file make a core, and the policy file is refused with this text
-abbrev pub RefusesPolicy : List ℕ → List ℕ → List ℕ → List ℕ → List (List ℕ × List ℕ) → Type 0
-RefusesPolicy dims_name facts_name policy_name text known = (core : Core) × (Makes dims_name facts_name core known × Says (policy_said core.dims) policy_name known (Err text))
+abbrev pub RefusesPolicy : CubeFiles → List ℕ → List (List ℕ × List ℕ) → Type 0
+RefusesPolicy cube text known = (core : Core) × (Makes cube core known × Says (policy_said core.dims) cube.policy known (Err text))
 
 -- how a run ends at the files
-abbrev pub EndsUnopened : List ℕ → List ℕ → List ℕ → Option (List (List ℕ × List ℕ)) → ℕ → ℕ → Report → Type 0
-EndsUnopened dims_name facts_name policy_name files before now r =
-    EndsTwo dims_name facts_name files before now r
-    ⊎ (IsReport 5 (unreadable_text policy_name) r × Rose before now × IfSome files (λ known. (core : Core) × Makes dims_name facts_name core known))
-    ⊎ (IsReport 3 r.text r × IfSome files (RefusesPolicy dims_name facts_name policy_name r.text))
+abbrev pub EndsUnopened : {F : Type 0} → CubeFiles → Seen FolderState F → Report → Type 0
+EndsUnopened cube folder r =
+    EndsTwo cube folder r
+    ⊎ (IsReport 5 (unreadable_text cube.policy) r × Rose folder.before.faults folder.after.faults × IfSome folder.before.files (λ known. (core : Core) × Makes cube core known))
+    ⊎ (IsReport 3 r.text r × IfSome folder.before.files (RefusesPolicy cube r.text))
+
+-- the names of the three files, in the turn in which they are read
+abbrev pub names_of : CubeFiles → List (List ℕ)
+names_of cube = cube.dims ∷ cube.facts ∷ cube.policy ∷ []
 
 -- All three names were asked for, in turn; where the run ended at a file, none behind it. The last may be lacking where memory ran
 -- out, or where the folder failed.
-abbrev pub AsksAll : List ℕ → List ℕ → List ℕ → Option (List (List ℕ × List ℕ)) → Option (List (List ℕ)) → Option (List (List ℕ)) → ℕ → ℕ → Report → Type 0
-AsksAll dims_name facts_name policy_name files old new before now r =
-    IfSome old (λ o. IsSomeAnd new (λ n. (n ≡ o ++ dims_name ∷ facts_name ∷ policy_name ∷ []) ⊎ AsksTwo dims_name facts_name files o n before now r))
+abbrev pub AsksAll : {F : Type 0} → CubeFiles → Seen FolderState F → Report → Type 0
+AsksAll cube folder r = IfSome folder.before.asked (λ o. IsSomeAnd folder.after.asked (λ n. (n ≡ o ++ names_of cube) ⊎ AsksTwo cube folder o n r))
 
 -- the files are there and are accepted
-abbrev pub HasAll : List ℕ → List ℕ → List ℕ → Option (List (List ℕ × List ℕ)) → Type 0
-HasAll dims_name facts_name policy_name files = IsSomeAnd files (λ known. (core : Core) × ((policy : Policy) × MakesAll dims_name facts_name policy_name core policy known))
+abbrev pub HasAll : CubeFiles → FolderState → Type 0
+HasAll cube folder = IsSomeAnd folder.files (λ known. (core : Core) × ((policy : Policy) × MakesAll cube core policy known))

@@ -1,8 +1,8 @@
 -- Reports of how a run ended.
 use Rattle.std.specs.Prelude.{◌≡◌, ◌⊎◌, ℕ, List, [], codes}
-use Rattle.std.specs.declared.option.Option.{Option}
 use Rattle.std.specs.Io.KnownBytes.{Appends}
 use Rattle.cube_io.specs.Content.{AppendsPrefix}
+use Rattle.cube_io.specs.Seen.{SinkState, Seen}
 use Rattle.cube_opening.specs.declared.report.Report.{Report}
 
 -- a report of this status and text, without outcomes
@@ -14,8 +14,8 @@ abbrev pub NoRoom : Report → Type 0
 NoRoom r = IsReport 7 [] r
 
 -- a text was put on the sink
-abbrev pub Prints : List ℕ → Option (List ℕ) → Option (List ℕ) → Report → Type 0
-Prints text written written' r =
-    (IsReport 0 [] r × Appends written written' text)
-    ⊎ (IsReport 6 (codes "output failed\n") r × AppendsPrefix written written' text)
-    ⊎ (NoRoom r × (written' ≡ written))
+abbrev pub Prints : {O : Type 0} → List ℕ → Seen SinkState O → Report → Type 0
+Prints text out r =
+    (IsReport 0 [] r × Appends out.before.written out.after.written text)
+    ⊎ (IsReport 6 (codes "output failed\n") r × AppendsPrefix out.before.written out.after.written text)
+    ⊎ (NoRoom r × (out.after.written ≡ out.before.written))

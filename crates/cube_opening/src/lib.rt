@@ -1,8 +1,10 @@
 //! The files of a command, read in turn, and the report of a run.
 #![tactic(auto)]
 
+mod cube_files;
 mod opening;
 mod report;
 
+pub use cube_files::CubeFiles;
 pub use opening::{Guarded, Opened, open_flat, open_guarded, read_bytes};
 pub use report::{Report, Room, no_room, spent_room, with_text};

@@ -1,7 +1,7 @@
 // The files of a command, read in turn.
-ghost use Rattle.std.specs.Prelude.{◌≡◌, ◌≢◌, ◌⊎◌, ◌<◌, ◌≤◌, ◌++◌, ◌∷◌, [], length, codes, Ok, Err, IfOk, IfErr, OnOk, IfSome, IsSomeAnd};
-ghost use Rattle.cube_io.specs.Causes.{Rose};
+ghost use Rattle.std.specs.Prelude.{◌≡◌, ◌≢◌, ◌⊎◌, ◌<◌, ◌≤◌, ◌∷◌, [], length, codes, Ok, Err, IfOk, IfErr, OnOk, IfSome, IsSomeAnd};
 ghost use Rattle.cube_io.specs.Files.{max_file, file_of};
+ghost use Rattle.cube_io.specs.Seen.{seen};
 ghost use Rattle.cube_dims.specs.Words as dims_words;
 ghost use Rattle.cube_dims.specs.declared.fault.DimsFault.TheVariants as dims_faults;
 ghost use Rattle.cube_facts.specs.Words as facts_words;
@@ -10,13 +10,14 @@ ghost use Rattle.cube_policy.specs.Words as policy_words;
 ghost use Rattle.cube_policy.specs.declared.fault.PolicyFault.TheVariants as policy_faults;
 ghost use Rattle.cube_model.specs.Policies.{IsPolicy};
 ghost use Rattle.cube_opening.specs.Reports.{IsReport, NoRoom};
-ghost use Rattle.cube_opening.specs.Opening.{fault_text, unreadable_text as unreadable_words, dims_said, facts_said, policy_said, flat_said, Says, Unopened, AsksOnce, Makes, MakesAll, HasDims, EndsTwo, AsksTwo, EndsUnopened, AsksAll};
+ghost use Rattle.cube_opening.specs.Opening.{fault_text, unreadable_text as unreadable_words, dims_said, facts_said, policy_said, flat_said, Says, Unread, Unopened, AskedFor, AsksOnce, Reads, Makes, Make, EndsTwo, AsksTwo, EndsUnopened, AsksAll, names_of};
 
+use crate::cube_files::CubeFiles;
 use crate::report::{Report, Room, no_room, with_text};
 use cube_core::Core;
 use cube_dims::{DimsFault, read_dims};
 use cube_facts::{FactsFault, Flat, read_facts, read_flat};
-use cube_io::{FileFault, Folder};
+use cube_io::{Folder, ReadFault};
 use cube_model::{Dims, NoMemory, Policy, Text};
 use cube_policy::{PolicyFault, read_policy};
 use std::alloc::Global;
@@ -58,26 +59,24 @@ pub fn read_bytes<F: Folder>(
 ) -> Result<Opened<Text>, Report>
     requires room { room ≡ [] }
     requires kind { length kind.now ≤ 16 }
-    ensures ok { IfOk result (λ opened. (opened.room ≡ []) × IfSome (F.files files.old) (λ known. file_of known name.now ≡ Some opened.value) × (length opened.value ≤ max_file)) }
-    ensures err { IfErr result (λ r. NoRoom r ⊎ IsReport 7 (codes "no memory\n") r ⊎ (IsReport 5 (unreadable_words name.now) r × Rose (F.faults files.old) (F.faults files.new)) ⊎ (IsReport 3 (kind.now ++ codes ": limit file 67108864\n") r × IfSome (F.files files.old) (λ known. IsSomeAnd (file_of known name.now) (λ bytes. max_file < length bytes)))) }
-    ensures asks_ok { OnOk result (IfSome (F.asked files.old) (λ o. IsSomeAnd (F.asked files.new) (λ n. n ≡ o ++ name.now ∷ []))) }
-    ensures asks_err { IfErr result (λ r. AsksOnce name.now (F.asked files.old) (F.asked files.new) (F.faults files.old) (F.faults files.new) r) }
-    ensures files { F.files files.new ≡ F.files files.old }
-    ensures steady { OnOk result (F.faults files.new ≡ F.faults files.old) }
-    ensures steady_err { IfErr result (λ r. r.status ≢ 5 → F.faults files.new ≡ F.faults files.old) }
+    ensures ok { IfOk result (λ opened. (opened.room ≡ []) × IfSome (F.state files.old).files (λ known. file_of known name.now ≡ Some opened.value) × (length opened.value ≤ max_file)) }
+    ensures err { IfErr result (Unread kind.now name.now (seen F.state files.old files.new)) }
+    ensures asks_ok { OnOk result (AskedFor (name.now ∷ []) (seen F.state files.old files.new)) }
+    ensures asks_err { IfErr result (AsksOnce name.now (seen F.state files.old files.new)) }
+    ensures reads { Reads (seen F.state files.old files.new) result }
 {
     let Ok(unreadable) = unreadable_text(alloc, name) else {
         return Err(no_room(alloc));
     };
     match files.read_file(alloc, name) {
         Ok(value) => Ok(Opened { room, value }),
-        Err(FileFault::Failed) => Err(with_text(alloc, 5, unreadable)),
-        Err(FileFault::TooLong) => Err(
+        Err(ReadFault::Failed) => Err(with_text(alloc, 5, unreadable)),
+        Err(ReadFault::TooLong) => Err(
             room.with(kind)
                 .with(b": limit file 67108864\n")
                 .close(alloc, 3),
         ),
-        Err(FileFault::NoMemory) => Err(room.with(b"no memory\n").close(alloc, 7)),
+        Err(ReadFault::NoMemory) => Err(room.with(b"no memory\n").close(alloc, 7)),
     }
 }
 
@@ -150,13 +149,11 @@ fn open_dims<F: Folder>(
     files: &mut F,
 ) -> Result<Opened<Dims>, Report>
     requires { room ≡ [] }
-    ensures ok { IfOk result (λ opened. (opened.room ≡ []) × IfSome (F.files files.old) (λ known. Says dims_said name.now known (Ok opened.value))) }
-    ensures err { IfErr result (λ r. Unopened dims_said name.now (F.files files.old) (F.faults files.old) (F.faults files.new) r) }
-    ensures asks_ok { OnOk result (IfSome (F.asked files.old) (λ o. IsSomeAnd (F.asked files.new) (λ n. n ≡ o ++ name.now ∷ []))) }
-    ensures asks_err { IfErr result (λ r. AsksOnce name.now (F.asked files.old) (F.asked files.new) (F.faults files.old) (F.faults files.new) r) }
-    ensures files { F.files files.new ≡ F.files files.old }
-    ensures steady { OnOk result (F.faults files.new ≡ F.faults files.old) }
-    ensures steady_err { IfErr result (λ r. r.status ≢ 5 → F.faults files.new ≡ F.faults files.old) }
+    ensures ok { IfOk result (λ opened. (opened.room ≡ []) × IfSome (F.state files.old).files (λ known. Says dims_said name.now known (Ok opened.value))) }
+    ensures err { IfErr result (Unopened dims_said name.now (seen F.state files.old files.new)) }
+    ensures asks_ok { OnOk result (AskedFor (name.now ∷ []) (seen F.state files.old files.new)) }
+    ensures asks_err { IfErr result (AsksOnce name.now (seen F.state files.old files.new)) }
+    ensures reads { Reads (seen F.state files.old files.new) result }
 {
     let opened = match read_bytes(alloc, room, b"dims", name, files) {
         Ok(opened) => opened,
@@ -196,13 +193,11 @@ fn open_facts<F: Folder>(
     files: &mut F,
 ) -> Result<Opened<Core>, Report>
     requires { room ≡ [] }
-    ensures ok { IfOk result (λ opened. (opened.room ≡ []) × IfSome (F.files files.old) (λ known. Says (facts_said dims) name.now known (Ok opened.value))) }
-    ensures err { IfErr result (λ r. Unopened (facts_said dims) name.now (F.files files.old) (F.faults files.old) (F.faults files.new) r) }
-    ensures asks_ok { OnOk result (IfSome (F.asked files.old) (λ o. IsSomeAnd (F.asked files.new) (λ n. n ≡ o ++ name.now ∷ []))) }
-    ensures asks_err { IfErr result (λ r. AsksOnce name.now (F.asked files.old) (F.asked files.new) (F.faults files.old) (F.faults files.new) r) }
-    ensures files { F.files files.new ≡ F.files files.old }
-    ensures steady { OnOk result (F.faults files.new ≡ F.faults files.old) }
-    ensures steady_err { IfErr result (λ r. r.status ≢ 5 → F.faults files.new ≡ F.faults files.old) }
+    ensures ok { IfOk result (λ opened. (opened.room ≡ []) × IfSome (F.state files.old).files (λ known. Says (facts_said dims) name.now known (Ok opened.value))) }
+    ensures err { IfErr result (Unopened (facts_said dims) name.now (seen F.state files.old files.new)) }
+    ensures asks_ok { OnOk result (AskedFor (name.now ∷ []) (seen F.state files.old files.new)) }
+    ensures asks_err { IfErr result (AsksOnce name.now (seen F.state files.old files.new)) }
+    ensures reads { Reads (seen F.state files.old files.new) result }
 {
     let opened = match read_bytes(alloc, room, b"facts", name, files) {
         Ok(opened) => opened,
@@ -219,13 +214,11 @@ pub fn open_flat<F: Folder>(
     files: &mut F,
 ) -> Result<Opened<Flat>, Report>
     requires { room ≡ [] }
-    ensures ok { IfOk result (λ opened. (opened.room ≡ []) × IfSome (F.files files.old) (λ known. Says flat_said name.now known (Ok opened.value))) }
-    ensures err { IfErr result (λ r. Unopened flat_said name.now (F.files files.old) (F.faults files.old) (F.faults files.new) r) }
-    ensures asks_ok { OnOk result (IfSome (F.asked files.old) (λ o. IsSomeAnd (F.asked files.new) (λ n. n ≡ o ++ name.now ∷ []))) }
-    ensures asks_err { IfErr result (λ r. AsksOnce name.now (F.asked files.old) (F.asked files.new) (F.faults files.old) (F.faults files.new) r) }
-    ensures files { F.files files.new ≡ F.files files.old }
-    ensures steady { OnOk result (F.faults files.new ≡ F.faults files.old) }
-    ensures steady_err { IfErr result (λ r. r.status ≢ 5 → F.faults files.new ≡ F.faults files.old) }
+    ensures ok { IfOk result (λ opened. (opened.room ≡ []) × IfSome (F.state files.old).files (λ known. Says flat_said name.now known (Ok opened.value))) }
+    ensures err { IfErr result (Unopened flat_said name.now (seen F.state files.old files.new)) }
+    ensures asks_ok { OnOk result (AskedFor (name.now ∷ []) (seen F.state files.old files.new)) }
+    ensures asks_err { IfErr result (AsksOnce name.now (seen F.state files.old files.new)) }
+    ensures reads { Reads (seen F.state files.old files.new) result }
 {
     let opened = match read_bytes(alloc, room, b"facts", name, files) {
         Ok(opened) => opened,
@@ -244,24 +237,21 @@ pub fn open_flat<F: Folder>(
 fn open_core<F: Folder>(
     alloc: Global,
     room: Room,
-    dims_name: &Text,
-    facts_name: &Text,
+    cube: &CubeFiles,
     files: &mut F,
 ) -> Result<Opened<Core>, Report>
     requires { room ≡ [] }
-    ensures ok { IfOk result (λ opened. (opened.room ≡ []) × IfSome (F.files files.old) (Makes dims_name.now facts_name.now opened.value)) }
-    ensures err { IfErr result (λ r. EndsTwo dims_name.now facts_name.now (F.files files.old) (F.faults files.old) (F.faults files.new) r) }
-    ensures asks_ok { OnOk result (IfSome (F.asked files.old) (λ o. IsSomeAnd (F.asked files.new) (λ n. n ≡ o ++ dims_name.now ∷ facts_name.now ∷ []))) }
-    ensures asks_err { IfErr result (λ r. IfSome (F.asked files.old) (λ o. IsSomeAnd (F.asked files.new) (λ n. AsksTwo dims_name.now facts_name.now (F.files files.old) o n (F.faults files.old) (F.faults files.new) r))) }
-    ensures files { F.files files.new ≡ F.files files.old }
-    ensures steady { OnOk result (F.faults files.new ≡ F.faults files.old) }
-    ensures steady_err { IfErr result (λ r. r.status ≢ 5 → F.faults files.new ≡ F.faults files.old) }
+    ensures ok { IfOk result (λ opened. (opened.room ≡ []) × IfSome (F.state files.old).files (Makes cube.now opened.value)) }
+    ensures err { IfErr result (EndsTwo cube.now (seen F.state files.old files.new)) }
+    ensures asks_ok { OnOk result (AskedFor (cube.now.dims ∷ cube.now.facts ∷ []) (seen F.state files.old files.new)) }
+    ensures asks_err { IfErr result (λ r. IfSome (F.state files.old).asked (λ o. IsSomeAnd (F.state files.new).asked (λ n. AsksTwo cube.now (seen F.state files.old files.new) o n r))) }
+    ensures reads { Reads (seen F.state files.old files.new) result }
 {
-    let opened = match open_dims(alloc, room, dims_name, files) {
+    let opened = match open_dims(alloc, room, &cube.dims, files) {
         Ok(opened) => opened,
         Err(report) => return Err(report),
     };
-    open_facts(alloc, opened.room, facts_name, opened.value, files)
+    open_facts(alloc, opened.room, &cube.facts, opened.value, files)
 }
 
 // Reads the policy file under dimensions and measures.
@@ -273,14 +263,12 @@ fn open_policy<F: Folder>(
     files: &mut F,
 ) -> Result<Opened<Policy>, Report>
     requires { room ≡ [] }
-    ensures ok { IfOk result (λ opened. (opened.room ≡ []) × IfSome (F.files files.old) (λ known. Says (policy_said dims.now) name.now known (Ok opened.value))) }
+    ensures ok { IfOk result (λ opened. (opened.room ≡ []) × IfSome (F.state files.old).files (λ known. Says (policy_said dims.now) name.now known (Ok opened.value))) }
     ensures rules { IfOk result (λ opened. IsPolicy dims.now opened.value) }
-    ensures err { IfErr result (λ r. Unopened (policy_said dims.now) name.now (F.files files.old) (F.faults files.old) (F.faults files.new) r) }
-    ensures asks_ok { OnOk result (IfSome (F.asked files.old) (λ o. IsSomeAnd (F.asked files.new) (λ n. n ≡ o ++ name.now ∷ []))) }
-    ensures asks_err { IfErr result (λ r. AsksOnce name.now (F.asked files.old) (F.asked files.new) (F.faults files.old) (F.faults files.new) r) }
-    ensures files { F.files files.new ≡ F.files files.old }
-    ensures steady { OnOk result (F.faults files.new ≡ F.faults files.old) }
-    ensures steady_err { IfErr result (λ r. r.status ≢ 5 → F.faults files.new ≡ F.faults files.old) }
+    ensures err { IfErr result (Unopened (policy_said dims.now) name.now (seen F.state files.old files.new)) }
+    ensures asks_ok { OnOk result (AskedFor (name.now ∷ []) (seen F.state files.old files.new)) }
+    ensures asks_err { IfErr result (AsksOnce name.now (seen F.state files.old files.new)) }
+    ensures reads { Reads (seen F.state files.old files.new) result }
 {
     let opened = match read_bytes(alloc, room, b"policy", name, files) {
         Ok(opened) => opened,
@@ -299,26 +287,22 @@ fn open_policy<F: Folder>(
 pub fn open_guarded<F: Folder>(
     alloc: Global,
     room: Room,
-    dims_name: &Text,
-    facts_name: &Text,
-    policy_name: &Text,
+    cube: &CubeFiles,
     files: &mut F,
 ) -> Result<Opened<Guarded>, Report>
     requires { room ≡ [] }
-    ensures ok { IfOk result (λ opened. (opened.room ≡ []) × IfSome (F.files files.old) (MakesAll dims_name.now facts_name.now policy_name.now opened.value.core opened.value.policy)) }
+    ensures ok { IfOk result (λ opened. (opened.room ≡ []) × Make cube.now (F.state files.old) opened.value.core opened.value.policy) }
     ensures rules { IfOk result (λ opened. IsPolicy opened.value.core.dims opened.value.policy) }
-    ensures err { IfErr result (λ r. EndsUnopened dims_name.now facts_name.now policy_name.now (F.files files.old) (F.faults files.old) (F.faults files.new) r) }
-    ensures asks_ok { OnOk result (IfSome (F.asked files.old) (λ o. IsSomeAnd (F.asked files.new) (λ n. n ≡ o ++ dims_name.now ∷ facts_name.now ∷ policy_name.now ∷ []))) }
-    ensures asks_err { IfErr result (λ r. AsksAll dims_name.now facts_name.now policy_name.now (F.files files.old) (F.asked files.old) (F.asked files.new) (F.faults files.old) (F.faults files.new) r) }
-    ensures files { F.files files.new ≡ F.files files.old }
-    ensures steady { OnOk result (F.faults files.new ≡ F.faults files.old) }
-    ensures steady_err { IfErr result (λ r. r.status ≢ 5 → F.faults files.new ≡ F.faults files.old) }
+    ensures err { IfErr result (EndsUnopened cube.now (seen F.state files.old files.new)) }
+    ensures asks_ok { OnOk result (AskedFor (names_of cube.now) (seen F.state files.old files.new)) }
+    ensures asks_err { IfErr result (AsksAll cube.now (seen F.state files.old files.new)) }
+    ensures reads { Reads (seen F.state files.old files.new) result }
 {
-    let (room, core) = match open_core(alloc, room, dims_name, facts_name, files) {
+    let (room, core) = match open_core(alloc, room, cube, files) {
         Ok(opened) => (opened.room, opened.value),
         Err(report) => return Err(report),
     };
-    let (room, policy) = match open_policy(alloc, room, policy_name, core.dims(), files) {
+    let (room, policy) = match open_policy(alloc, room, &cube.policy, core.dims(), files) {
         Ok(opened) => (opened.room, opened.value),
         Err(report) => return Err(report),
     };

@@ -1,4 +1,3 @@
-pub mod Opening
 pub mod Playable
 pub mod Reading
 pub mod Ready

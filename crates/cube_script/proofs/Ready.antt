@@ -17,10 +17,11 @@ use Rattle.cube_io.specs.Wires.LogEntry.{Heard, Sent, Torn, Shut}
 use Rattle.cube_io.specs.declared.scroll.Note.TheVariants as note
 use Rattle.cube_io.proofs.Scrolled.{event_owes, sent_owes, torn_pays, shut_pays}
 use Rattle.cube_script.specs.Playing.{IsPlaying, started, is_torn, has_torn, is_sent, sent_size, is_settled}
+use Rattle.cube_script.specs.declared.script_wire.SendRoom.{SendRoom}
 use Rattle.cube_script.specs.declared.play.ScriptFault.{ScriptFault}
 use Rattle.cube_script.specs.declared.play.ScriptFault.TheVariants.{Line, NoMemory}
 use Rattle.cube_script.specs.Plays.{Refuses}
-use Rattle.cube_script.specs.Rooms.{IsPlayable, entries_owed, entries_for, bytes_for, IsReady, IsListening}
+use Rattle.cube_script.specs.Rooms.{IsPlayable, entries_owed, entries_for, bytes_for, Kept, IsReady, IsListening}
 
 -- ---- one entry more
 
@@ -82,29 +83,29 @@ arrival_owes arrival.End log = event_owes note.End [] log refl
 
 -- ---- the room behind a call
 
-pub next_room : (script : List Arrival) (taken : ℕ) (roll : Roll) (owed sl bl ms mb : ℕ) (over spilled : Bool) (f sf : ℕ) (e : Arrival)
-    → IsReady script taken roll owed sl bl ms mb over spilled f sf → slice_get script taken ≡ Some e
-    → (IsPlayable e) × (0 < roll.entries_left) × (bytes_for e ≤ roll.bytes_left) × (owed + entries_owed e < 2 ^ 64)
-next_room script taken roll owed sl bl ms mb over spilled f sf e r at =
-    let n = sum_next entries_for script taken e at in
-    let b = sum_next bytes_for script taken e at in
-    (playable_at script taken e r.playable at, omega (arith, n, r.entries), omega (arith, b, r.bytes), omega (arith, n, r.entries, r.small))
+pub next_room : (script : List Arrival) (k : Kept) (e : Arrival)
+    → IsReady script k → slice_get script k.taken ≡ Some e
+    → (IsPlayable e) × (0 < k.roll.entries_left) × (bytes_for e ≤ k.roll.bytes_left) × (k.owed + entries_owed e < 2 ^ 64)
+next_room script k e r at =
+    let n = sum_next entries_for script k.taken e at in
+    let b = sum_next bytes_for script k.taken e at in
+    (playable_at script k.taken e r.playable at, omega (arith, n, r.entries), omega (arith, b, r.bytes), omega (arith, n, r.entries, r.small))
 
-pub ready_next : (script : List Arrival) (taken : ℕ) (roll : Roll) (owed sl bl ms mb : ℕ) (over spilled : Bool) (f sf : ℕ) (e : Arrival) (roll' : Roll)
-    → IsReady script taken roll owed sl bl ms mb over spilled f sf → slice_get script taken ≡ Some e
-    → roll'.log ≡ roll.log ++ Heard e ∷ [] → roll'.entries_left + 1 ≡ roll.entries_left → roll'.bytes_left + bytes_for e ≡ roll.bytes_left
-    → IsReady script (taken + 1) roll' (owed + entries_owed e) sl bl ms mb over spilled f sf
-ready_next script taken roll owed sl bl ms mb over spilled f sf e roll' r at log entries bytes =
-    let n = sum_next entries_for script taken e at in
-    let b = sum_next bytes_for script taken e at in
-    let within = slice_get_within script taken e at in
-    let same = torn_more roll.log (Heard e) refl in
+pub ready_next : (script : List Arrival) (k : Kept) (e : Arrival) (roll' : Roll)
+    → IsReady script k → slice_get script k.taken ≡ Some e
+    → roll'.log ≡ k.roll.log ++ Heard e ∷ [] → roll'.entries_left + 1 ≡ k.roll.entries_left → roll'.bytes_left + bytes_for e ≡ k.roll.bytes_left
+    → IsReady script (record k { taken = k.taken + 1; roll = roll'; owed = k.owed + entries_owed e })
+ready_next script k e roll' r at log entries bytes =
+    let n = sum_next entries_for script k.taken e at in
+    let b = sum_next bytes_for script k.taken e at in
+    let within = slice_get_within script k.taken e at in
+    let same = torn_more k.roll.log (Heard e) refl in
     let stays = ap has_torn log ∙ same in
-    let owes = arrival_owes e roll.log in
-    let count = sends_more roll.log (Heard e) in
-    let size = sizes_more roll.log (Heard e) in
+    let owes = arrival_owes e k.roll.log in
+    let count = sends_more k.roll.log (Heard e) in
+    let size = sizes_more k.roll.log (Heard e) in
     record {
-      events = ap events_in log ∙ events_heard roll.log e ∙ ap (λ (l : List Arrival). l ++ e ∷ []) r.events ∙ sym (take_next script taken e at);
+      events = ap events_in log ∙ events_heard k.roll.log e ∙ ap (λ (l : List Arrival). l ++ e ∷ []) r.events ∙ sym (take_next script k.taken e at);
       few = omega (arith, within);
       ends = r.ends;
       playable = r.playable;
@@ -114,24 +115,24 @@ ready_next script taken roll owed sl bl ms mb over spilled f sf e roll' r at log
       bytes = omega (arith, b, r.bytes, bytes);
       sends = rw (log, count) (omega (arith, r.sends));
       sent = rw (log, size) (omega (arith, r.sent));
-      nothing = ap (list_all is_settled) log ∙ settled_more roll.log (Heard e) refl r.nothing;
+      nothing = ap (list_all is_settled) log ∙ settled_more k.roll.log (Heard e) refl r.nothing;
       torn = r.torn ∙ sym stays;
       sound = λ none. r.sound (sym stays ∙ none);
       broken = λ some. r.broken (sym stays ∙ some);
       steady = λ none dry more. r.steady (sym stays ∙ none) dry within;
     }
 
-pub ready_sent : (script : List Arrival) (taken : ℕ) (roll : Roll) (owed sl bl ms mb : ℕ) (over spilled : Bool) (f sf c : ℕ) (piece : List ℕ) (roll' : Roll)
-    → IsReady script taken roll owed sl bl ms mb over spilled f sf → 0 < sl → length piece ≤ bl
-    → roll'.log ≡ roll.log ++ Sent c piece ∷ [] → roll'.entries_left + 1 ≡ roll.entries_left → roll'.bytes_left + length piece ≡ roll.bytes_left
-    → IsReady script taken roll' owed (sl - 1) (bl - length piece) ms mb over spilled f sf
-ready_sent script taken roll owed sl bl ms mb over spilled f sf c piece roll' r some fits log entries bytes =
-    let stays = ap has_torn log ∙ torn_more roll.log (Sent c piece) refl in
-    let owes = sent_owes c piece roll.log in
-    let count = sends_more roll.log (Sent c piece) in
-    let size = sizes_more roll.log (Sent c piece) in
+pub ready_sent : (script : List Arrival) (k : Kept) (c : ℕ) (piece : List ℕ) (roll' : Roll)
+    → IsReady script k → 0 < k.left.sends → length piece ≤ k.left.bytes
+    → roll'.log ≡ k.roll.log ++ Sent c piece ∷ [] → roll'.entries_left + 1 ≡ k.roll.entries_left → roll'.bytes_left + length piece ≡ k.roll.bytes_left
+    → IsReady script (record k { roll = roll'; left = record { sends = k.left.sends - 1; bytes = k.left.bytes - length piece } })
+ready_sent script k c piece roll' r some fits log entries bytes =
+    let stays = ap has_torn log ∙ torn_more k.roll.log (Sent c piece) refl in
+    let owes = sent_owes c piece k.roll.log in
+    let count = sends_more k.roll.log (Sent c piece) in
+    let size = sizes_more k.roll.log (Sent c piece) in
     record {
-      events = ap events_in log ∙ events_sent roll.log c piece ∙ r.events;
+      events = ap events_in log ∙ events_sent k.roll.log c piece ∙ r.events;
       few = r.few;
       ends = r.ends;
       playable = r.playable;
@@ -141,7 +142,7 @@ ready_sent script taken roll owed sl bl ms mb over spilled f sf c piece roll' r 
       bytes = omega (arith, r.bytes, bytes, fits);
       sends = rw (log, count) (omega (arith, r.sends, some));
       sent = rw (log, size) (omega (arith, r.sent, fits));
-      nothing = ap (list_all is_settled) log ∙ settled_more roll.log (Sent c piece) refl r.nothing;
+      nothing = ap (list_all is_settled) log ∙ settled_more k.roll.log (Sent c piece) refl r.nothing;
       torn = r.torn ∙ sym stays;
       sound = λ none. r.sound (sym stays ∙ none);
       broken = λ broke. r.broken (sym stays ∙ broke);
@@ -151,23 +152,23 @@ ready_sent script taken roll owed sl bl ms mb over spilled f sf c piece roll' r 
 no_way : true ≡ false → ⊥
 no_way e = cc
 
-pub torn_room : (script : List Arrival) (taken : ℕ) (roll : Roll) (owed sl bl ms mb : ℕ) (over spilled : Bool) (f sf c : ℕ)
-    → IsReady script taken roll owed sl bl ms mb over spilled f sf → IsSound c roll.log → (0 < owed) × (0 < roll.entries_left)
-torn_room script taken roll owed sl bl ms mb over spilled f sf c r sound =
-    let pays = torn_pays c [] roll.log sound in
+pub torn_room : (script : List Arrival) (k : Kept) (c : ℕ)
+    → IsReady script k → IsSound c k.roll.log → (0 < k.owed) × (0 < k.roll.entries_left)
+torn_room script k c r sound =
+    let pays = torn_pays c [] k.roll.log sound in
     (omega (arith, pays, r.enough), omega (arith, pays, r.enough, r.entries))
 
-pub ready_torn : (script : List Arrival) (taken : ℕ) (roll : Roll) (owed sl bl ms mb : ℕ) (over spilled : Bool) (f sf c sf' : ℕ) (roll' : Roll)
-    → IsReady script taken roll owed sl bl ms mb over spilled f sf → IsSound c roll.log → 0 < sf'
-    → roll'.log ≡ roll.log ++ Torn c [] ∷ [] → roll'.entries_left + 1 ≡ roll.entries_left → roll'.bytes_left + 0 ≡ roll.bytes_left
-    → IsReady script taken roll' (owed - 1) sl bl ms mb true spilled f sf'
-ready_torn script taken roll owed sl bl ms mb over spilled f sf c sf' roll' r sound rose log entries bytes =
-    let now = ap has_torn log ∙ torn_now roll.log c [] in
-    let pays = torn_pays c [] roll.log sound in
-    let count = sends_more roll.log (Torn c []) in
-    let size = sizes_more roll.log (Torn c []) in
+pub ready_torn : (script : List Arrival) (k : Kept) (c sf' : ℕ) (roll' : Roll)
+    → IsReady script k → IsSound c k.roll.log → 0 < sf'
+    → roll'.log ≡ k.roll.log ++ Torn c [] ∷ [] → roll'.entries_left + 1 ≡ k.roll.entries_left → roll'.bytes_left + 0 ≡ k.roll.bytes_left
+    → IsReady script (record k { roll = roll'; owed = k.owed - 1; overrun = true; send_faults = sf' })
+ready_torn script k c sf' roll' r sound rose log entries bytes =
+    let now = ap has_torn log ∙ torn_now k.roll.log c [] in
+    let pays = torn_pays c [] k.roll.log sound in
+    let count = sends_more k.roll.log (Torn c []) in
+    let size = sizes_more k.roll.log (Torn c []) in
     record {
-      events = ap events_in log ∙ events_torn roll.log c [] ∙ r.events;
+      events = ap events_in log ∙ events_torn k.roll.log c [] ∙ r.events;
       few = r.few;
       ends = r.ends;
       playable = r.playable;
@@ -177,30 +178,30 @@ ready_torn script taken roll owed sl bl ms mb over spilled f sf c sf' roll' r so
       bytes = omega (arith, r.bytes, bytes);
       sends = rw (log, count) (omega (arith, r.sends));
       sent = rw (log, size) (omega (arith, r.sent));
-      nothing = ap (list_all is_settled) log ∙ settled_more roll.log (Torn c []) refl r.nothing;
+      nothing = ap (list_all is_settled) log ∙ settled_more k.roll.log (Torn c []) refl r.nothing;
       torn = sym now;
       sound = λ none. absurd (no_way (sym now ∙ none));
       broken = λ broke. rose;
       steady = λ none dry more. absurd (no_way (sym now ∙ none));
     }
 
-pub shut_room : (script : List Arrival) (taken : ℕ) (roll : Roll) (owed sl bl ms mb : ℕ) (over spilled : Bool) (f sf c : ℕ)
-    → IsReady script taken roll owed sl bl ms mb over spilled f sf → IsOpen c roll.log → (0 < owed) × (0 < roll.entries_left)
-shut_room script taken roll owed sl bl ms mb over spilled f sf c r opens =
-    let pays = shut_pays c roll.log opens in
+pub shut_room : (script : List Arrival) (k : Kept) (c : ℕ)
+    → IsReady script k → IsOpen c k.roll.log → (0 < k.owed) × (0 < k.roll.entries_left)
+shut_room script k c r opens =
+    let pays = shut_pays c k.roll.log opens in
     (omega (arith, pays, r.enough), omega (arith, pays, r.enough, r.entries))
 
-pub ready_shut : (script : List Arrival) (taken : ℕ) (roll : Roll) (owed sl bl ms mb : ℕ) (over spilled : Bool) (f sf c : ℕ) (roll' : Roll)
-    → IsReady script taken roll owed sl bl ms mb over spilled f sf → IsOpen c roll.log
-    → roll'.log ≡ roll.log ++ Shut c ∷ [] → roll'.entries_left + 1 ≡ roll.entries_left → roll'.bytes_left + 0 ≡ roll.bytes_left
-    → IsReady script taken roll' (owed - 1) sl bl ms mb over spilled f sf
-ready_shut script taken roll owed sl bl ms mb over spilled f sf c roll' r opens log entries bytes =
-    let stays = ap has_torn log ∙ torn_more roll.log (Shut c) refl in
-    let pays = shut_pays c roll.log opens in
-    let count = sends_more roll.log (Shut c) in
-    let size = sizes_more roll.log (Shut c) in
+pub ready_shut : (script : List Arrival) (k : Kept) (c : ℕ) (roll' : Roll)
+    → IsReady script k → IsOpen c k.roll.log
+    → roll'.log ≡ k.roll.log ++ Shut c ∷ [] → roll'.entries_left + 1 ≡ k.roll.entries_left → roll'.bytes_left + 0 ≡ k.roll.bytes_left
+    → IsReady script (record k { roll = roll'; owed = k.owed - 1 })
+ready_shut script k c roll' r opens log entries bytes =
+    let stays = ap has_torn log ∙ torn_more k.roll.log (Shut c) refl in
+    let pays = shut_pays c k.roll.log opens in
+    let count = sends_more k.roll.log (Shut c) in
+    let size = sizes_more k.roll.log (Shut c) in
     record {
-      events = ap events_in log ∙ events_shut roll.log c ∙ r.events;
+      events = ap events_in log ∙ events_shut k.roll.log c ∙ r.events;
       few = r.few;
       ends = r.ends;
       playable = r.playable;
@@ -210,7 +211,7 @@ ready_shut script taken roll owed sl bl ms mb over spilled f sf c roll' r opens 
       bytes = omega (arith, r.bytes, bytes);
       sends = rw (log, count) (omega (arith, r.sends));
       sent = rw (log, size) (omega (arith, r.sent));
-      nothing = ap (list_all is_settled) log ∙ settled_more roll.log (Shut c) refl r.nothing;
+      nothing = ap (list_all is_settled) log ∙ settled_more k.roll.log (Shut c) refl r.nothing;
       torn = r.torn ∙ sym stays;
       sound = λ none. r.sound (sym stays ∙ none);
       broken = λ broke. r.broken (sym stays ∙ broke);
@@ -218,10 +219,10 @@ ready_shut script taken roll owed sl bl ms mb over spilled f sf c roll' r opens 
     }
 
 -- a `next` that fails behind a failed send, or behind the end
-pub ready_fails : (script : List Arrival) (taken : ℕ) (roll : Roll) (owed sl bl ms mb : ℕ) (over spilled : Bool) (f sf f' : ℕ)
-    → IsReady script taken roll owed sl bl ms mb over spilled f sf → (over ≡ false → taken < length script → ⊥)
-    → IsReady script taken roll owed sl bl ms mb over spilled f' sf
-ready_fails script taken roll owed sl bl ms mb over spilled f sf f' r never = record {
+pub ready_fails : (script : List Arrival) (k : Kept) (f' : ℕ)
+    → IsReady script k → (k.overrun ≡ false → k.taken < length script → ⊥)
+    → IsReady script (record k { faults = f' })
+ready_fails script k f' r never = record {
   events = r.events;
   few = r.few;
   ends = r.ends;
@@ -240,9 +241,9 @@ ready_fails script taken roll owed sl bl ms mb over spilled f sf f' r never = re
 }
 
 -- an address that is refused
-pub ready_spills : (script : List Arrival) (taken : ℕ) (roll : Roll) (owed sl bl ms mb : ℕ) (over spilled : Bool) (f sf f' : ℕ)
-    → IsReady script taken roll owed sl bl ms mb over spilled f sf → IsReady script taken roll owed sl bl ms mb over true f' sf
-ready_spills script taken roll owed sl bl ms mb over spilled f sf f' r = record {
+pub ready_spills : (script : List Arrival) (k : Kept) (f' : ℕ)
+    → IsReady script k → IsReady script (record k { spilled = true; faults = f' })
+ready_spills script k f' r = record {
   events = r.events;
   few = r.few;
   ends = r.ends;
@@ -262,9 +263,9 @@ ready_spills script taken roll owed sl bl ms mb over spilled f sf f' r = record 
 
 -- ---- what is seen of it
 
-taken_is : (script : List Arrival) (taken : ℕ) (roll : Roll) (owed sl bl ms mb : ℕ) (over spilled : Bool) (f sf : ℕ)
-    → IsReady script taken roll owed sl bl ms mb over spilled f sf → length (events_in roll.log) ≡ taken
-taken_is script taken roll owed sl bl ms mb over spilled f sf r = ap length r.events ∙ length-take-le taken script r.few
+taken_is : (script : List Arrival) (k : Kept)
+    → IsReady script k → length (events_in k.roll.log) ≡ k.taken
+taken_is script k r = ap length r.events ∙ length-take-le k.taken script r.few
 
 coming : (b : Bool) (script : List Arrival) (at : ℕ) (e : Arrival) → b ≡ false → slice_get script at ≡ Some e → (if b then None else slice_get script at) ≡ Some e
 coming true script at e b is = absurd (no_way b)
@@ -274,28 +275,28 @@ none_coming : (b : Bool) (script : List Arrival) (at : ℕ) → (b ≡ false →
 none_coming true script at past = refl
 none_coming false script at past = slice_get_past script at (past refl)
 
-pub next_some : (script : List Arrival) (taken : ℕ) (roll : Roll) (owed sl bl ms mb : ℕ) (over spilled : Bool) (f sf : ℕ) (e : Arrival)
-    → IsReady script taken roll owed sl bl ms mb over spilled f sf → over ≡ false → slice_get script taken ≡ Some e
-    → (if has_torn roll.log then None else slice_get script (length (events_in roll.log))) ≡ Some e
-next_some script taken roll owed sl bl ms mb over spilled f sf e r sound at =
-    coming (has_torn roll.log) script (length (events_in roll.log)) e (sym r.torn ∙ sound) (ap (slice_get script) (taken_is script taken roll owed sl bl ms mb over spilled f sf r) ∙ at)
+pub next_some : (script : List Arrival) (k : Kept) (e : Arrival)
+    → IsReady script k → k.overrun ≡ false → slice_get script k.taken ≡ Some e
+    → (if has_torn k.roll.log then None else slice_get script (length (events_in k.roll.log))) ≡ Some e
+next_some script k e r sound at =
+    coming (has_torn k.roll.log) script (length (events_in k.roll.log)) e (sym r.torn ∙ sound) (ap (slice_get script) (taken_is script k r) ∙ at)
 
-pub next_none : (script : List Arrival) (taken : ℕ) (roll : Roll) (owed sl bl ms mb : ℕ) (over spilled : Bool) (f sf : ℕ)
-    → IsReady script taken roll owed sl bl ms mb over spilled f sf → (over ≡ false → length script ≤ taken)
-    → (if has_torn roll.log then None else slice_get script (length (events_in roll.log))) ≡ None
-next_none script taken roll owed sl bl ms mb over spilled f sf r past =
-    let is = taken_is script taken roll owed sl bl ms mb over spilled f sf r in
-    none_coming (has_torn roll.log) script (length (events_in roll.log)) (λ none. rw is (past (r.torn ∙ none)))
+pub next_none : (script : List Arrival) (k : Kept)
+    → IsReady script k → (k.overrun ≡ false → length script ≤ k.taken)
+    → (if has_torn k.roll.log then None else slice_get script (length (events_in k.roll.log))) ≡ None
+next_none script k r past =
+    let is = taken_is script k r in
+    none_coming (has_torn k.roll.log) script (length (events_in k.roll.log)) (λ none. rw is (past (r.torn ∙ none)))
 
-pub playing : (script : List Arrival) (taken : ℕ) (roll : Roll) (owed sl bl ms mb : ℕ) (over spilled : Bool) (f sf : ℕ) (heard : List (List ℕ))
-    → IsReady script taken roll owed sl bl ms mb over spilled f sf
-    → IsPlaying (record { script = script; log = roll.log; heard = heard; most_sends = ms; most_bytes = mb; spilled = spilled; faults = f; send_faults = sf })
-playing script taken roll owed sl bl ms mb over spilled f sf heard r =
-    let is = taken_is script taken roll owed sl bl ms mb over spilled f sf r in
+pub playing : (script : List Arrival) (k : Kept) (heard : List (List ℕ))
+    → IsReady script k
+    → IsPlaying (record { script = script; log = k.roll.log; heard = heard; most = k.most; spilled = k.spilled; faults = k.faults; send_faults = k.send_faults })
+playing script k heard r =
+    let is = taken_is script k r in
     record {
       ends = r.ends;
       nothing = r.nothing;
-      events = (drop taken script, sym (take-append-drop taken script) ∙ ap (λ (l : List Arrival). l ++ drop taken script) (sym r.events));
+      events = (drop k.taken script, sym (take-append-drop k.taken script) ∙ ap (λ (l : List Arrival). l ++ drop k.taken script) (sym r.events));
       sends = omega (arith, r.sends);
       sent = omega (arith, r.sent);
       sound = r.sound;
@@ -305,9 +306,9 @@ playing script taken roll owed sl bl ms mb over spilled f sf heard r =
 
 -- ---- the beginning
 
-pub ready_start : (script events : List Arrival) (roll : Roll) (sl bl : ℕ) → script ≡ events ++ arrival.End ∷ [] → Each IsPlayable script → roll.log ≡ [] → roll.entries_left ≡ sum_by entries_for script + sl → roll.bytes_left ≡ sum_by bytes_for script + bl → roll.entries_left < 2 ^ 64
-    → IsReady script 0 roll 0 sl bl sl bl false false 0 0
-ready_start script events roll sl bl is each none entries bytes small = record {
+pub ready_start : (script events : List Arrival) (roll : Roll) (most : SendRoom) → script ≡ events ++ arrival.End ∷ [] → Each IsPlayable script → roll.log ≡ [] → roll.entries_left ≡ sum_by entries_for script + most.sends → roll.bytes_left ≡ sum_by bytes_for script + most.bytes → roll.entries_left < 2 ^ 64
+    → IsReady script (record { taken = 0; roll = roll; owed = 0; left = most; most = most; overrun = false; spilled = false; faults = 0; send_faults = 0 })
+ready_start script events roll most is each none entries bytes small = record {
   ends = (events, is);
   nothing = ap (list_all is_settled) none;
   events = ap events_in none;
@@ -328,16 +329,16 @@ ready_start script events roll sl bl is each none entries bytes small = record {
 pub listening_start : (roll : Roll) → roll.log ≡ [] → roll.entries_left ≡ 8 → roll.bytes_left ≡ 1024 → IsListening roll
 listening_start roll none entries bytes = record { few = rw none (omega (arith, entries)); short = rw none (omega (arith, bytes)) }
 
-pub overrun_is : (script : List Arrival) (taken : ℕ) (roll : Roll) (owed sl bl ms mb : ℕ) (over spilled : Bool) (f sf : ℕ)
-    → IsReady script taken roll owed sl bl ms mb over spilled f sf → over ≡ true ↔ (0 < sf)
-overrun_is script taken roll owed sl bl ms mb over spilled f sf r = by over r.torn r.sound r.broken
+pub overrun_is : (script : List Arrival) (k : Kept)
+    → IsReady script k → k.overrun ≡ true ↔ (0 < k.send_faults)
+overrun_is script k r = by k.overrun r.torn r.sound r.broken
   where
-    by : (b : Bool) → b ≡ has_torn roll.log → (has_torn roll.log ≡ false → sf ≡ 0) → (has_torn roll.log ≡ true → 0 < sf) → b ≡ true ↔ (0 < sf)
+    by : (b : Bool) → b ≡ has_torn k.roll.log → (has_torn k.roll.log ≡ false → k.send_faults ≡ 0) → (has_torn k.roll.log ≡ true → 0 < k.send_faults) → b ≡ true ↔ (0 < k.send_faults)
     by true is sound broken = (λ _. broken (sym is), λ _. refl)
     by false is sound broken = (λ h. absurd (no_way (sym h)), λ some. absurd (omega (arith, some, sound (sym is))))
 
 -- ---- the answer to a script
 
-pub refused : (fault : ScriptFault) (said : Result (List Arrival) ℕ) (sends bytes : ℕ) → Refuses fault said → (fault ≡ NoMemory) ⊎ (started said sends bytes ≡ Err fault)
-refused (Line n) said sends bytes h = inr (ap (λ (r : Result (List Arrival) ℕ). started r sends bytes) h)
-refused NoMemory said sends bytes h = inl refl
+pub refused : (fault : ScriptFault) (said : Result (List Arrival) ℕ) (most : SendRoom) → Refuses fault said → (fault ≡ NoMemory) ⊎ (started said most ≡ Err fault)
+refused (Line n) said most h = inr (ap (λ (r : Result (List Arrival) ℕ). started r most) h)
+refused NoMemory said most h = inl refl

@@ -12,29 +12,29 @@ use Rattle.cube_script.proofs.Ready.{take_next}
 
 -- ---- a send
 
-sent_text : (c : ℕ) (piece : List ℕ) → rendered (Sent c piece) ≡ sent_head c (length piece) ++ piece ++ 10 ∷ []
+sent_text : (c : ℕ) (piece : List ℕ) → rendered (Sent c piece) ≡ sent_head c piece ++ piece ++ 10 ∷ []
 sent_text c piece = ap (λ (l : List ℕ). l ++ 10 ∷ []) (sym (append_assoc (codes "sent " ++ decimal c ++ codes " " ++ decimal (length piece)) (10 ∷ []) piece))
 
 -- its head was not put whole
-pub head_broken : (c : ℕ) (piece : List ℕ) (l m : Option (List ℕ)) → AppendsPrefix l m (sent_head c (length piece)) → AppendsPrefix l m (rendered (Sent c piece))
+pub head_broken : (c : ℕ) (piece : List ℕ) (l m : Option (List ℕ)) → AppendsPrefix l m (sent_head c piece) → AppendsPrefix l m (rendered (Sent c piece))
 head_broken c piece l m k =
-    prefix_within l l m [] (sent_head c (length piece)) (piece ++ 10 ∷ []) (rendered (Sent c piece)) (appends_none l) k
-    (sent_text c piece ∙ append_assoc (sent_head c (length piece)) piece (10 ∷ []))
+    prefix_within l l m [] (sent_head c piece) (piece ++ 10 ∷ []) (rendered (Sent c piece)) (appends_none l) k
+    (sent_text c piece ∙ append_assoc (sent_head c piece) piece (10 ∷ []))
 
 -- its bytes were not put whole
-pub bytes_broken : (c : ℕ) (piece : List ℕ) (l m n : Option (List ℕ)) → Appends l m (sent_head c (length piece)) → AppendsPrefix m n piece → AppendsPrefix l n (rendered (Sent c piece))
-bytes_broken c piece l m n h k = prefix_within l m n (sent_head c (length piece)) piece (10 ∷ []) (rendered (Sent c piece)) h k (sent_text c piece)
+pub bytes_broken : (c : ℕ) (piece : List ℕ) (l m n : Option (List ℕ)) → Appends l m (sent_head c piece) → AppendsPrefix m n piece → AppendsPrefix l n (rendered (Sent c piece))
+bytes_broken c piece l m n h k = prefix_within l m n (sent_head c piece) piece (10 ∷ []) (rendered (Sent c piece)) h k (sent_text c piece)
 
 -- the line feed behind them was not put
-pub feed_broken : (c : ℕ) (piece : List ℕ) (l m n o : Option (List ℕ)) → Appends l m (sent_head c (length piece)) → Appends m n piece → AppendsPrefix n o (10 ∷ []) → AppendsPrefix l o (rendered (Sent c piece))
+pub feed_broken : (c : ℕ) (piece : List ℕ) (l m n o : Option (List ℕ)) → Appends l m (sent_head c piece) → Appends m n piece → AppendsPrefix n o (10 ∷ []) → AppendsPrefix l o (rendered (Sent c piece))
 feed_broken c piece l m n o h k f =
-    prefix_within l n o (sent_head c (length piece) ++ piece) (10 ∷ []) [] (rendered (Sent c piece)) (appends_then l m n (sent_head c (length piece)) piece h k) f
-    (sent_text c piece ∙ sym (append-nil (sent_head c (length piece) ++ piece ++ 10 ∷ [])))
+    prefix_within l n o (sent_head c piece ++ piece) (10 ∷ []) [] (rendered (Sent c piece)) (appends_then l m n (sent_head c piece) piece h k) f
+    (sent_text c piece ∙ sym (append-nil (sent_head c piece ++ piece ++ 10 ∷ [])))
 
-pub sent_whole : (c : ℕ) (piece : List ℕ) (l m n o : Option (List ℕ)) → Appends l m (sent_head c (length piece)) → Appends m n piece → Appends n o (10 ∷ []) → Appends l o (rendered (Sent c piece))
+pub sent_whole : (c : ℕ) (piece : List ℕ) (l m n o : Option (List ℕ)) → Appends l m (sent_head c piece) → Appends m n piece → Appends n o (10 ∷ []) → Appends l o (rendered (Sent c piece))
 sent_whole c piece l m n o h k f =
-    appends_same l o (sent_head c (length piece) ++ piece ++ 10 ∷ []) (rendered (Sent c piece)) (sym (sent_text c piece))
-    (appends_then l n o (sent_head c (length piece) ++ piece) (10 ∷ []) (appends_then l m n (sent_head c (length piece)) piece h k) f)
+    appends_same l o (sent_head c piece ++ piece ++ 10 ∷ []) (rendered (Sent c piece)) (sym (sent_text c piece))
+    (appends_then l n o (sent_head c piece ++ piece) (10 ∷ []) (appends_then l m n (sent_head c piece) piece h k) f)
 
 -- ---- the entries
 

@@ -1,9 +1,11 @@
 -- A wire that plays a script: what it plays, its log and its room, and what each call is answered.
-use Rattle.std.specs.Prelude.{◌≡◌, ◌<◌, ◌≤◌, ℕ, ◌+◌, Bool, true, false, ◌&&◌, ◌||◌, ◌==◌, nat_lt, nat_le, List, [], ◌∷◌, ◌++◌, length, if◌then◌else◌, sum_by, count_by, Option, Some, None, slice_get, Result, Ok, Err}
+use Rattle.std.specs.Prelude.{◌≡◌, ◌<◌, ◌≤◌, ℕ, ◌+◌, Bool, true, false, ◌&&◌, ◌||◌, ◌==◌, nat_lt, nat_le, List, [], ◌∷◌, ◌++◌, length, if◌then◌else◌, sum_by, count_by, Option, None, slice_get, Result, Ok, Err}
 use Rattle.std.specs.List.{list_any, list_all}
+use Rattle.cube_io.specs.Seen.{WireState}
 use Rattle.cube_io.specs.Wires.{Arrival, LogEntry, events_in}
 use Rattle.cube_io.specs.Wires.Arrival.{End}
 use Rattle.cube_io.specs.Wires.LogEntry.{Heard, Sent, Torn, Shut}
+use Rattle.cube_script.specs.declared.script_wire.SendRoom.{SendRoom}
 use Rattle.cube_script.specs.declared.play.ScriptFault.{ScriptFault}
 use Rattle.cube_script.specs.declared.play.ScriptFault.TheVariants.{Line}
 
@@ -39,38 +41,45 @@ is_settled (Sent c bytes) = true
 is_settled (Torn c bytes) = length bytes == 0
 is_settled (Shut c) = true
 
--- A wire that plays a script: all that it plays, its log, the addresses that were heard, the most sends and the most bytes of
--- them, whether an address was refused, and how often calls failed.
+-- A wire that plays a script: all that it plays, its log, the addresses that were heard, the room for sends that go well, whether an
+-- address was refused, and how often calls failed, and sends.
 pub record Playing : Type 0 where
   pub script : List Arrival
   pub log : List LogEntry
   pub heard : List (List ℕ)
-  pub most_sends : ℕ
-  pub most_bytes : ℕ
+  pub most : SendRoom
   pub spilled : Bool
   pub faults : ℕ
   pub send_faults : ℕ
 
 -- as it begins: it plays the events, and then the end
-abbrev pub starting : List Arrival → ℕ → ℕ → Playing
-starting events sends bytes = record { script = events ++ End ∷ []; log = []; heard = []; most_sends = sends; most_bytes = bytes; spilled = false; faults = 0; send_faults = 0 }
+abbrev pub starting : List Arrival → SendRoom → Playing
+starting events most = record { script = events ++ End ∷ []; log = []; heard = []; most = most; spilled = false; faults = 0; send_faults = 0 }
+
+-- a wire that tells its log, on which nothing came or went out, that was asked for no address, and that never failed
+pub record IsFresh (wire : WireState) : Type 0 where
+  pub told : wire.told ≡ true
+  pub log : wire.log ≡ []
+  pub heard : wire.heard ≡ []
+  pub faults : wire.faults ≡ 0
+  pub send_faults : wire.send_faults ≡ 0
 
 -- what is answered to the events of a script, or to its first line that is refused
-abbrev pub started : Result (List Arrival) ℕ → ℕ → ℕ → Result Playing ScriptFault
-started (Ok events) sends bytes = Ok (starting events sends bytes)
-started (Err n) sends bytes = Err (Line n)
+abbrev pub started : Result (List Arrival) ℕ → SendRoom → Result Playing ScriptFault
+started (Ok events) most = Ok (starting events most)
+started (Err n) most = Err (Line n)
 
 -- the event that comes next, if one does: none comes behind a send that failed
 abbrev pub next_of : Playing → Option Arrival
 next_of w = if has_torn w.log then None else slice_get w.script (length (events_in w.log))
 
--- a send of these bytes would pass the room for so many sends, and for so many bytes of them all
-abbrev pub passes_room : ℕ → ℕ → List LogEntry → List ℕ → Bool
-passes_room sends bytes log piece = nat_le sends (count_by is_sent log) || nat_lt bytes (sum_by sent_size log + length piece)
+-- behind the log a send of these bytes would pass the room for sends
+abbrev pub passes_room : SendRoom → List LogEntry → List ℕ → Bool
+passes_room most log piece = nat_le most.sends (count_by is_sent log) || nat_lt most.bytes (sum_by sent_size log + length piece)
 
 -- a send of these bytes fails: an earlier one did, or it would pass the room for sends
 abbrev pub is_refused : Playing → List ℕ → Bool
-is_refused w piece = has_torn w.log || passes_room w.most_sends w.most_bytes w.log piece
+is_refused w piece = has_torn w.log || passes_room w.most w.log piece
 
 -- the most addresses, and the most bytes of them
 abbrev pub max_addresses : ℕ
@@ -89,8 +98,8 @@ has_room_for w address = nat_lt (length w.heard) max_addresses && nat_le (sum_by
 pub record IsPlaying (w : Playing) : Type 0 where
   pub ends : (events : List Arrival) × (w.script ≡ events ++ End ∷ [])
   pub events : (rest : List Arrival) × (w.script ≡ events_in w.log ++ rest)
-  pub sends : count_by is_sent w.log ≤ w.most_sends
-  pub sent : sum_by sent_size w.log ≤ w.most_bytes
+  pub sends : count_by is_sent w.log ≤ w.most.sends
+  pub sent : sum_by sent_size w.log ≤ w.most.bytes
   pub nothing : list_all is_settled w.log ≡ true
   pub sound : has_torn w.log ≡ false → w.send_faults ≡ 0
   pub broken : has_torn w.log ≡ true → 0 < w.send_faults

@@ -6,6 +6,7 @@ use Rattle.cube_io.specs.Scrolls.{Roll, owed_by}
 use Rattle.cube_io.specs.Wires.{Arrival, LogEntry, events_in}
 use Rattle.cube_io.specs.Wires.Arrival.{Opened, Came, Closed, End}
 use Rattle.cube_io.specs.Wires.LogEntry.{Heard, Sent, Torn, Shut}
+use Rattle.cube_script.specs.declared.script_wire.SendRoom.{SendRoom}
 use Rattle.cube_script.specs.Playing.{has_torn, is_sent, sent_size, is_settled, max_addresses, max_address_bytes}
 
 -- a piece has a byte and fits the buffer
@@ -33,24 +34,38 @@ bytes_for (Came c bytes) = length bytes
 bytes_for (Closed c) = 0
 bytes_for End = 0
 
--- What a wire keeps beside its log agrees with it, and there is room for all that may come: the events that are left, the sends
--- that are left, and what is owed.
-pub record IsReady (script : List Arrival) (taken : ℕ) (roll : Roll) (owed sends_left bytes_left most_sends most_bytes : ℕ) (overrun spilled : Bool) (faults send_faults : ℕ) : Type 0 where
-  pub events : events_in roll.log ≡ take taken script
-  pub few : taken ≤ length script
+-- What a wire keeps beside its script: how many events it has taken, its log with the room behind it, how many entries it owes to
+-- connections, the room for sends that is left and the whole of it, whether a send failed, whether an address was refused, and how
+-- often calls failed, and sends.
+pub record Kept : Type 0 where
+  pub taken : ℕ
+  pub roll : Roll
+  pub owed : ℕ
+  pub left : SendRoom
+  pub most : SendRoom
+  pub overrun : Bool
+  pub spilled : Bool
+  pub faults : ℕ
+  pub send_faults : ℕ
+
+-- What a wire keeps agrees with its log, and there is room for all that may come: the events that are left, the sends that are left,
+-- and what is owed.
+pub record IsReady (script : List Arrival) (kept : Kept) : Type 0 where
+  pub events : events_in kept.roll.log ≡ take kept.taken script
+  pub few : kept.taken ≤ length script
   pub ends : (events : List Arrival) × (script ≡ events ++ End ∷ [])
   pub playable : Each IsPlayable script
-  pub enough : owed_by roll.log ≤ owed
-  pub entries : sum_by entries_for (drop taken script) + sends_left + owed ≤ roll.entries_left
-  pub small : roll.entries_left < 2 ^ 64
-  pub bytes : sum_by bytes_for (drop taken script) + bytes_left ≤ roll.bytes_left
-  pub sends : count_by is_sent roll.log + sends_left ≡ most_sends
-  pub sent : sum_by sent_size roll.log + bytes_left ≡ most_bytes
-  pub nothing : list_all is_settled roll.log ≡ true
-  pub torn : overrun ≡ has_torn roll.log
-  pub sound : has_torn roll.log ≡ false → send_faults ≡ 0
-  pub broken : has_torn roll.log ≡ true → 0 < send_faults
-  pub steady : has_torn roll.log ≡ false → spilled ≡ false → taken < length script → faults ≡ 0
+  pub enough : owed_by kept.roll.log ≤ kept.owed
+  pub entries : sum_by entries_for (drop kept.taken script) + kept.left.sends + kept.owed ≤ kept.roll.entries_left
+  pub small : kept.roll.entries_left < 2 ^ 64
+  pub bytes : sum_by bytes_for (drop kept.taken script) + kept.left.bytes ≤ kept.roll.bytes_left
+  pub sends : count_by is_sent kept.roll.log + kept.left.sends ≡ kept.most.sends
+  pub sent : sum_by sent_size kept.roll.log + kept.left.bytes ≡ kept.most.bytes
+  pub nothing : list_all is_settled kept.roll.log ≡ true
+  pub torn : kept.overrun ≡ has_torn kept.roll.log
+  pub sound : has_torn kept.roll.log ≡ false → kept.send_faults ≡ 0
+  pub broken : has_torn kept.roll.log ≡ true → 0 < kept.send_faults
+  pub steady : has_torn kept.roll.log ≡ false → kept.spilled ≡ false → kept.taken < length script → kept.faults ≡ 0
 
 -- the address that an entry keeps, as bytes that came
 abbrev pub address_in : LogEntry → List ℕ

@@ -6,10 +6,8 @@ mod read;
 mod render;
 mod room;
 mod script_wire;
-#[cfg(test)]
-mod tests;
 mod worked;
 
 pub use play::ScriptFault;
-pub use script_wire::{MAX_SENDS, MAX_SENT_BYTES, ScriptWire};
+pub use script_wire::{MAX_SENDS, MAX_SENT_BYTES, ScriptWire, SendRoom};
 pub use worked::worked_scripts;

@@ -1,5 +1,5 @@
 // The text of a log.
-ghost use Rattle.std.specs.Prelude.{◌≡◌, ◌<◌, ◌≤◌, ◌+◌, ◌^◌, ◌++◌, ◌∷◌, [], length, take, decimal, codes, OnOk, OnErr};
+ghost use Rattle.std.specs.Prelude.{◌≡◌, ◌<◌, ◌≤◌, ◌+◌, ◌++◌, length, take, OnOk, OnErr};
 ghost use Rattle.std.specs.Io.KnownBytes.{Appends};
 ghost use Rattle.cube_io.specs.Causes.{HasCause};
 ghost use Rattle.cube_io.specs.Content.{AppendsPrefix};
@@ -26,15 +26,15 @@ fn write_at(buf: &mut [u8; HEAD], at: usize, text: &[u8]) -> usize
 }
 
 // Writes the line before the bytes of a send.
-fn write_sent(buf: &mut [u8; HEAD], c: u32, len: usize) -> usize
-    ensures written { take result buf.new ≡ sent_head c len }
+fn write_sent(buf: &mut [u8; HEAD], c: u32, piece: &[u8]) -> usize
+    ensures written { take result buf.new ≡ sent_head c piece.now }
     ensures short { result ≤ 64 }
 {
     let mut number = Buffer::new();
     let at = write_at(buf, 0, b"sent ");
     let at = write_at(buf, at, number.format(c).as_bytes());
     let at = write_at(buf, at, b" ");
-    let at = write_at(buf, at, number.format(len).as_bytes());
+    let at = write_at(buf, at, number.format(piece.len()).as_bytes());
     write_at(buf, at, b"\n")
 }
 
@@ -51,12 +51,12 @@ fn write_shut(buf: &mut [u8; HEAD], c: u32) -> usize
 
 // Puts a send that went well.
 fn put_sent<O: Sink>(out: &mut O, c: u32, piece: &[u8]) -> Result<(), Failed>
-    ensures ok { OnOk result (Appends (O.written out.old) (O.written out.new) (rendered (Sent c piece.now))) }
-    ensures err { OnErr result (AppendsPrefix (O.written out.old) (O.written out.new) (rendered (Sent c piece.now))) }
-    ensures cause { HasCause (O.faults out.old) (O.faults out.new) result }
+    ensures ok { OnOk result (Appends (O.state out.old).written (O.state out.new).written (rendered (Sent c piece.now))) }
+    ensures err { OnErr result (AppendsPrefix (O.state out.old).written (O.state out.new).written (rendered (Sent c piece.now))) }
+    ensures cause { HasCause (O.state out.old).faults (O.state out.new).faults result }
 {
     let mut head = [0u8; HEAD];
-    let end = write_sent(&mut head, c, piece.len());
+    let end = write_sent(&mut head, c, piece);
     out.put(&head[..end])?;
     out.put(piece)?;
     out.put(b"\n")?;
@@ -65,9 +65,9 @@ fn put_sent<O: Sink>(out: &mut O, c: u32, piece: &[u8]) -> Result<(), Failed>
 
 // Puts a close.
 fn put_shut<O: Sink>(out: &mut O, c: u32) -> Result<(), Failed>
-    ensures ok { OnOk result (Appends (O.written out.old) (O.written out.new) (rendered (Shut c))) }
-    ensures err { OnErr result (AppendsPrefix (O.written out.old) (O.written out.new) (rendered (Shut c))) }
-    ensures cause { HasCause (O.faults out.old) (O.faults out.new) result }
+    ensures ok { OnOk result (Appends (O.state out.old).written (O.state out.new).written (rendered (Shut c))) }
+    ensures err { OnErr result (AppendsPrefix (O.state out.old).written (O.state out.new).written (rendered (Shut c))) }
+    ensures cause { HasCause (O.state out.old).faults (O.state out.new).faults result }
 {
     let mut line = [0u8; HEAD];
     let end = write_shut(&mut line, c);
@@ -77,9 +77,9 @@ fn put_shut<O: Sink>(out: &mut O, c: u32) -> Result<(), Failed>
 
 // Puts the text of an entry.
 fn put_entry<O: Sink>(out: &mut O, note: Note, bytes: &[u8]) -> Result<(), Failed>
-    ensures ok { OnOk result (Appends (O.written out.old) (O.written out.new) (rendered (entry_of note bytes.now))) }
-    ensures err { OnErr result (AppendsPrefix (O.written out.old) (O.written out.new) (rendered (entry_of note bytes.now))) }
-    ensures cause { HasCause (O.faults out.old) (O.faults out.new) result }
+    ensures ok { OnOk result (Appends (O.state out.old).written (O.state out.new).written (rendered (entry_of note bytes.now))) }
+    ensures err { OnErr result (AppendsPrefix (O.state out.old).written (O.state out.new).written (rendered (entry_of note bytes.now))) }
+    ensures cause { HasCause (O.state out.old).faults (O.state out.new).faults result }
 {
     match note {
         Note::Sent(c) => put_sent(out, c, bytes),
@@ -91,9 +91,9 @@ fn put_entry<O: Sink>(out: &mut O, note: Note, bytes: &[u8]) -> Result<(), Faile
 /// Puts the text of a log: `sent C N` and a line feed, the N bytes and a line feed for each send that went well, `shut C` and a
 /// line feed for each close. After a put that failed it puts nothing more.
 pub(crate) fn put_log<O: Sink>(scroll: &Scroll, out: &mut O) -> Result<(), Failed>
-    ensures ok { OnOk result (Appends (O.written out.old) (O.written out.new) (render scroll.now.log)) }
-    ensures err { OnErr result (AppendsPrefix (O.written out.old) (O.written out.new) (render scroll.now.log)) }
-    ensures cause { HasCause (O.faults out.old) (O.faults out.new) result }
+    ensures ok { OnOk result (Appends (O.state out.old).written (O.state out.new).written (render scroll.now.log)) }
+    ensures err { OnErr result (AppendsPrefix (O.state out.old).written (O.state out.new).written (render scroll.now.log)) }
+    ensures cause { HasCause (O.state out.old).faults (O.state out.new).faults result }
 {
     'entries: for place in 0..scroll.len() {
         let (note, bytes) = scroll.entry(place);

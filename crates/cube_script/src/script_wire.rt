@@ -1,13 +1,13 @@
 // A wire that plays a script.
-ghost use Rattle.std.specs.Prelude.{◌≡◌, ◌<◌, ◌≤◌, ◌+◌, ◌-◌, ◌^◌, ◌++◌, ◌∷◌, [], ◌↔◌, List, Bool, true, false, not, min, length, is_ok, is_err, Some, None, Ok, IsTrue, IfOk, OnOk, OnErr, MatchResult};
+ghost use Rattle.std.specs.Prelude.{◌≡◌, ◌<◌, ◌+◌, ◌-◌, ◌^◌, ◌++◌, ◌∷◌, [], ◌↔◌, true, false, min, length, is_ok, is_err, Some, None, Ok, IsTrue, IfOk, OnOk, OnErr, MatchResult};
 ghost use Rattle.std.specs.Io.KnownBytes.{Appends};
 ghost use Rattle.cube_model.specs.Answers.{Answers};
 ghost use Rattle.cube_io.specs.Causes.{HasCause};
 ghost use Rattle.cube_io.specs.Content.{AppendsPrefix};
 ghost use Rattle.cube_io.specs.Told.{AsksFor};
-ghost use Rattle.cube_io.specs.Wires.{Arrival, FitsBuffer, IsOpen, IsSound, SendTells, NextTells, arrival_of, render, events_in};
+ghost use Rattle.cube_io.specs.Wires.{FitsBuffer, IsOpen, IsSound, SendTells, NextTells, arrival_of, render, events_in};
 ghost use Rattle.cube_io.specs.Wires.LogEntry.{Heard, Sent, Torn, Shut};
-ghost use Rattle.cube_script.specs.Playing.{Playing, IsPlaying, started, has_torn, next_of, is_refused, has_room_for};
+ghost use Rattle.cube_script.specs.Playing.{Playing, IsPlaying, IsFresh, started, has_torn, next_of, is_refused, has_room_for};
 ghost use Rattle.cube_script.specs.Scripts.{script_of};
 ghost use Rattle.cube_script.specs.declared.play.ScriptFault.TheVariants.{NoMemory};
 
@@ -26,6 +26,15 @@ pub const MAX_SENDS: usize = 4_194_304;
 /// The most bytes of all sends that go well.
 pub const MAX_SENT_BYTES: usize = 268_435_456;
 
+/// Room for sends that go well.
+#[derive(Clone, Copy, Debug, PartialEq, Eq)]
+pub struct SendRoom {
+    /// How many of them.
+    pub sends: usize,
+    /// How many bytes of them all.
+    pub bytes: usize,
+}
+
 // Room for how many addresses, and for how many bytes of them.
 const ADDRESSES: usize = 8;
 
@@ -43,10 +52,8 @@ pub struct ScriptWire {
     at: usize,
     scroll: Scroll,
     owed: usize,
-    sends_left: usize,
-    bytes_left: usize,
-    most_sends: usize,
-    most_bytes: usize,
+    left: SendRoom,
+    most: SendRoom,
     overrun: bool,
     addresses: Scroll,
     spilled: bool,
@@ -62,9 +69,9 @@ impl Model for ScriptWire {
 
     ghost Value = { Playing };
 
-    ghost view = { λ w. record { script = map played w.plays.items; log = w.scroll.log; heard = map address_in w.addresses.log; most_sends = w.most_sends; most_bytes = w.most_bytes; spilled = w.spilled; faults = w.faults; send_faults = w.send_faults } };
+    ghost view = { λ w. record { script = map played w.plays.items; log = w.scroll.log; heard = map address_in w.addresses.log; most = w.most; spilled = w.spilled; faults = w.faults; send_faults = w.send_faults } };
 
-    ghost invariant = { λ w. IsReady (map played w.plays.items) w.at w.scroll w.owed w.sends_left w.bytes_left w.most_sends w.most_bytes w.overrun w.spilled w.faults w.send_faults × IsListening w.addresses };
+    ghost invariant = { λ w. IsReady (map played w.plays.items) (record { taken = w.at; roll = w.scroll; owed = w.owed; left = w.left; most = w.most; overrun = w.overrun; spilled = w.spilled; faults = w.faults; send_faults = w.send_faults }) × IsListening w.addresses };
 }
 
 impl ScriptWire {
@@ -72,39 +79,34 @@ impl ScriptWire {
     /// `close C`, each ended by a line feed, with single spaces: C is a number below 2^32 in decimal digits without leading
     /// zeros, and HEX an even number of hexadecimal digits in either case, for 1 to 65,536 bytes.
     pub fn new(alloc: Global, script: &Text) -> Result<ScriptWire, ScriptFault>
-        ensures plays { Answers NoMemory result (started (script_of script.now) MAX_SENDS MAX_SENT_BYTES) }
-        ensures told { IfOk result (λ wire. ⟦<ScriptWire as Wire>⟧.told wire ≡ true) }
-        ensures log { IfOk result (λ wire. ⟦<ScriptWire as Wire>⟧.log wire ≡ []) }
-        ensures heard { IfOk result (λ wire. ⟦<ScriptWire as Wire>⟧.heard wire ≡ []) }
-        ensures faults { IfOk result (λ wire. ⟦<ScriptWire as Wire>⟧.faults wire ≡ 0) }
-        ensures send_faults { IfOk result (λ wire. ⟦<ScriptWire as Wire>⟧.send_faults wire ≡ 0) }
+        ensures plays { Answers NoMemory result (started (script_of script.now) (record { sends = MAX_SENDS; bytes = MAX_SENT_BYTES })) }
+        ensures fresh { IfOk result (λ wire. IsFresh (⟦<ScriptWire as Wire>⟧.state wire)) }
     {
-        ScriptWire::with_room(alloc, script, MAX_SENDS, MAX_SENT_BYTES)
+        let most = SendRoom {
+            sends: MAX_SENDS,
+            bytes: MAX_SENT_BYTES,
+        };
+        ScriptWire::with_room(alloc, script, most)
     }
 
-    /// The same wire, with room for so many sends that go well, and for so many bytes of them all.
+    /// The same wire, with this room for sends.
     pub fn with_room(
         alloc: Global,
         script: &Text,
-        sends: usize,
-        bytes: usize,
+        most: SendRoom,
     ) -> Result<ScriptWire, ScriptFault>
-        ensures plays { Answers NoMemory result (started (script_of script.now) sends bytes) }
-        ensures told { IfOk result (λ wire. ⟦<ScriptWire as Wire>⟧.told wire ≡ true) }
-        ensures log { IfOk result (λ wire. ⟦<ScriptWire as Wire>⟧.log wire ≡ []) }
-        ensures heard { IfOk result (λ wire. ⟦<ScriptWire as Wire>⟧.heard wire ≡ []) }
-        ensures faults { IfOk result (λ wire. ⟦<ScriptWire as Wire>⟧.faults wire ≡ 0) }
-        ensures send_faults { IfOk result (λ wire. ⟦<ScriptWire as Wire>⟧.send_faults wire ≡ 0) }
+        ensures plays { Answers NoMemory result (started (script_of script.now) most) }
+        ensures fresh { IfOk result (λ wire. IsFresh (⟦<ScriptWire as Wire>⟧.state wire)) }
     {
         let mut plays = read_script(alloc, script.as_slice())?;
         plays.push(Play::End)?;
         let Some((events, pieces)) = room_for(&plays) else {
             return Err(ScriptFault::NoMemory);
         };
-        let Some(entries) = events.checked_add(sends) else {
+        let Some(entries) = events.checked_add(most.sends) else {
             return Err(ScriptFault::NoMemory);
         };
-        let Some(room) = pieces.checked_add(bytes) else {
+        let Some(room) = pieces.checked_add(most.bytes) else {
             return Err(ScriptFault::NoMemory);
         };
         Ok(ScriptWire {
@@ -112,10 +114,8 @@ impl ScriptWire {
             at: 0,
             scroll: Scroll::with_room(alloc, entries, room)?,
             owed: 0,
-            sends_left: sends,
-            bytes_left: bytes,
-            most_sends: sends,
-            most_bytes: bytes,
+            left: most,
+            most,
             overrun: false,
             addresses: Scroll::with_room(alloc, ADDRESSES, ADDRESS_BYTES)?,
             spilled: false,
@@ -144,26 +144,16 @@ impl ScriptWire {
     /// Puts the text of the log: `sent C N` and a line feed, the N bytes and a line feed for each send that went well, and
     /// `shut C` and a line feed for each close. After a put that failed it puts nothing more.
     pub fn write_log<O: Sink>(&self, out: &mut O) -> Result<(), Failed>
-        ensures ok { OnOk result (Appends (O.written out.old) (O.written out.new) (render self.now.log)) }
-        ensures err { OnErr result (AppendsPrefix (O.written out.old) (O.written out.new) (render self.now.log)) }
-        ensures cause { HasCause (O.faults out.old) (O.faults out.new) result }
+        ensures ok { OnOk result (Appends (O.state out.old).written (O.state out.new).written (render self.now.log)) }
+        ensures err { OnErr result (AppendsPrefix (O.state out.old).written (O.state out.new).written (render self.now.log)) }
+        ensures cause { HasCause (O.state out.old).faults (O.state out.new).faults result }
     {
         put_log(&self.scroll, out)
     }
 }
 
 impl Wire for ScriptWire {
-    ghost faults = { λ w. w.faults };
-
-    ghost send_faults = { λ w. w.send_faults };
-
-    ghost told = { λ w. true };
-
-    ghost log = { λ w. w.log };
-
-    ghost heard = { λ w. w.heard };
-
-    ghost plan = { λ w. record { events = w.script; sends = w.most_sends; bytes = w.most_bytes; refused = w.spilled } };
+    ghost state = { λ w. record { faults = w.faults; send_faults = w.send_faults; told = true; log = w.log; heard = w.heard; plan = record { events = w.script; sends = w.most.sends; bytes = w.most.bytes; refused = w.spilled } } };
 
     fn listen(&mut self, address: &Text) -> Result<(), Failed>
         ensures cause { HasCause self.old.faults self.new.faults result }
@@ -219,7 +209,7 @@ impl Wire for ScriptWire {
         ensures ok { OnOk result (self.new ≡ record self.old { log = self.old.log ++ Sent c piece.now ∷ [] }) }
         ensures err { OnErr result (self.new ≡ record self.old { log = self.old.log ++ Torn c [] ∷ []; send_faults = min (self.old.send_faults + 1) (2 ^ 64 - 1) }) }
     {
-        if self.overrun || self.sends_left == 0 || self.bytes_left < piece.len() {
+        if self.overrun || self.left.sends == 0 || self.left.bytes < piece.len() {
             self.scroll.add(Note::Torn(c), b"");
             self.owed -= 1;
             self.overrun = true;
@@ -227,8 +217,8 @@ impl Wire for ScriptWire {
             return Err(Failed);
         }
         self.scroll.add(Note::Sent(c), piece);
-        self.sends_left -= 1;
-        self.bytes_left -= piece.len();
+        self.left.sends -= 1;
+        self.left.bytes -= piece.len();
         Ok(())
     }
 

@@ -21,8 +21,10 @@ use Rattle.cube_http.specs.declared.connection.Heard.TheVariants as sound
 use Rattle.cube_http.specs.declared.targets.Wanted.{Wanted}
 use Rattle.cube_http.specs.declared.targets.Wanted.TheVariants.{Asked, Constant}
 use Rattle.cube_server.specs.Logs.{Call, Turn, replied, answered, wanted_by, dealt_with, dealt_all}
+use Rattle.cube_server.specs.Seen.{DeskState}
 use Rattle.cube_server.specs.Steps.{Speaks, Deals, turn, course, body_said, dead_said}
 use Rattle.cube_server.specs.Ears.{said_in_body, said_to_dead}
+use Rattle.cube_server.proofs.Enduring.{OneMiss}
 use Rattle.cube_server.proofs.Spoken.{none_spoken}
 
 -- the reply to a request went out
@@ -32,11 +34,12 @@ Replies c q r log log' live = Speaks c (replied c r (closes q.head) (is_head (ki
 less_one : (a b : ℕ) → b + 1 ≡ a → a - 1 ≡ b
 less_one a b e = omega (arith, e)
 
-pub asked_deals : (m : Manner) (c : ℕ) (q : Request) (ask : Ask) (o : Outcome) (r : Reply) (rooms rooms' : List Room) (asks asks' : ℕ) (outs outs' : List Outcome) (log log' : List LogEntry) (live : Bool)
-    → outs' ≡ outs ++ o ∷ [] → r ≡ m.reply rooms ask o → rooms' ≡ m.next rooms ask o → asks' + 1 ≡ asks → Replies c q r log log' live
-    → Deals c (wanted_by m (Asked ask) c q) rooms rooms' asks asks' outs outs' log log' live
-asked_deals m c q ask o r rooms rooms' asks asks' outs outs' log log' live gained er en one s =
+pub asked_deals : (c : ℕ) (q : Request) (ask : Ask) (o : Outcome) (r : Reply) (old new : DeskState) (log log' : List LogEntry) (live : Bool)
+    → new.outcomes ≡ old.outcomes ++ o ∷ [] → r ≡ old.manner.reply old.rooms ask o → new.rooms ≡ old.manner.next old.rooms ask o → new.room + 1 ≡ old.room → Replies c q r log log' live
+    → Deals c (wanted_by old.manner (Asked ask) c q) old new log log' live
+asked_deals c q ask o r old new log log' live gained er en one s =
     let handled : Call = record { ask = ask; outcome = o } in
+    let next : List Room = old.manner.next old.rooms ask o in
     record {
       talks = s.talks;
       outcomes = o ∷ [];
@@ -46,72 +49,71 @@ asked_deals m c q ask o r rooms rooms' asks asks' outs outs' log log' live gaine
       gained = gained;
       shown = s.shown;
       runs = λ os ss bs cs.
-          ap (λ (z : Reply). answered c q z (turn (course (m.next rooms ask o) (asks - 1) os (s.sends ++ ss) bs (cs ++ handled ∷ []) log) true)) (sym er)
-          ∙ s.runs (course (m.next rooms ask o) (asks - 1) os [] bs (cs ++ handled ∷ []) []) ss
-          ∙ ap (λ (n : ℕ). turn (course (m.next rooms ask o) n os ss bs (cs ++ handled ∷ []) log') live) (less_one asks asks' one)
-          ∙ ap (λ (z : List Room). turn (course z asks' os ss bs (cs ++ handled ∷ []) log') live) (sym en);
+          ap (λ (z : Reply). answered c q z (turn (course next (old.room - 1) os (s.sends ++ ss) bs (cs ++ handled ∷ []) log) true)) (sym er)
+          ∙ s.runs (course next (old.room - 1) os [] bs (cs ++ handled ∷ []) []) ss
+          ∙ ap (λ (n : ℕ). turn (course next n os ss bs (cs ++ handled ∷ []) log') live) (less_one old.room new.room one)
+          ∙ ap (λ (z : List Room). turn (course z new.room os ss bs (cs ++ handled ∷ []) log') live) (sym en);
     }
 
-pub constant_deals : (m : Manner) (c : ℕ) (q : Request) (f : Fixed) (rooms : List Room) (asks : ℕ) (outs : List Outcome) (log log' : List LogEntry) (live : Bool)
-    → Replies c q (reply.Fixed f) log log' live → Deals c (wanted_by m (Constant f) c q) rooms rooms asks asks outs outs log log' live
-constant_deals m c q f rooms asks outs log log' live s = record {
+pub constant_deals : (c : ℕ) (q : Request) (f : Fixed) (desk : DeskState) (log log' : List LogEntry) (live : Bool)
+    → Replies c q (reply.Fixed f) log log' live → Deals c (wanted_by desk.manner (Constant f) c q) desk desk log log' live
+constant_deals c q f desk log log' live s = record {
   talks = s.talks;
   outcomes = [];
   sends = s.sends;
   starved = false ∷ [];
   calls = [];
-  gained = sym (append-nil outs);
+  gained = sym (append-nil desk.outcomes);
   shown = s.shown;
-  runs = λ os ss bs cs. s.runs (course rooms asks os [] bs cs []) ss ∙ ap (λ (z : List Call). turn (course rooms asks os ss bs z log') live) (sym (append-nil cs));
+  runs = λ os ss bs cs. s.runs (course desk.rooms desk.room os [] bs cs []) ss ∙ ap (λ (z : List Call). turn (course desk.rooms desk.room os ss bs z log') live) (sym (append-nil cs));
 }
 
-pub starved_deals : (m : Manner) (c : ℕ) (q : Request) (f : Fixed) (rooms : List Room) (asks asks' : ℕ) (outs outs' : List Outcome) (log log' : List LogEntry) (live : Bool)
-    → outs' ≡ outs ++ NoMemory ∷ [] → asks' + 1 ≡ asks → Replies c q (reply.Fixed constant.NoMemory) log log' live
-    → Deals c (wanted_by m (Constant f) c q) rooms rooms asks asks' outs outs' log log' live
-starved_deals m c q f rooms asks asks' outs outs' log log' live gained one s = record {
+pub starved_deals : (c : ℕ) (q : Request) (f : Fixed) (old new : DeskState) (log log' : List LogEntry) (live : Bool) → OneMiss old new → Replies c q (reply.Fixed constant.NoMemory) log log' live
+    → Deals c (wanted_by old.manner (Constant f) c q) old new log log' live
+starved_deals c q f old new log log' live one s = record {
   talks = s.talks;
   outcomes = NoMemory ∷ [];
   sends = s.sends;
   starved = true ∷ [];
   calls = [];
-  gained = gained;
+  gained = one.added;
   shown = s.shown;
   runs = λ os ss bs cs.
-      s.runs (course rooms (asks - 1) os [] bs cs []) ss
-      ∙ ap (λ (n : ℕ). turn (course rooms n os ss bs cs log') live) (less_one asks asks' one)
-      ∙ ap (λ (z : List Call). turn (course rooms asks' os ss bs z log') live) (sym (append-nil cs));
+      s.runs (course old.rooms (old.room - 1) os [] bs cs []) ss
+      ∙ ap (λ (n : ℕ). turn (course old.rooms n os ss bs cs log') live) (less_one old.room new.room one.room)
+      ∙ ap (λ (z : List Room). turn (course z new.room os ss bs cs log') live) (sym one.rooms)
+      ∙ ap (λ (z : List Call). turn (course new.rooms new.room os ss bs z log') live) (sym (append-nil cs));
 }
 
 -- a request that found no memory before it reached the desk
-pub missed_deals : (m : Manner) (w : Wanted) (c : ℕ) (q : Request) (rooms : List Room) (asks asks' : ℕ) (outs outs' : List Outcome) (log log' : List LogEntry) (live : Bool) → IsConstant m
-    → outs' ≡ outs ++ NoMemory ∷ [] → asks' + 1 ≡ asks → Replies c q (reply.Fixed constant.NoMemory) log log' live
-    → Deals c (wanted_by m w c q) rooms rooms asks asks' outs outs' log log' live
-missed_deals m (Asked ask) c q rooms asks asks' outs outs' log log' live k gained one s =
-    asked_deals m c q ask NoMemory (reply.Fixed constant.NoMemory) rooms rooms asks asks' outs outs' log log' live gained (sym (k.memory rooms ask).0) (sym (k.memory rooms ask).1) one s
-missed_deals m (Constant f) c q rooms asks asks' outs outs' log log' live k gained one s = starved_deals m c q f rooms asks asks' outs outs' log log' live gained one s
+pub missed_deals : (w : Wanted) (c : ℕ) (q : Request) (old new : DeskState) (log log' : List LogEntry) (live : Bool) → IsConstant old.manner → OneMiss old new → Replies c q (reply.Fixed constant.NoMemory) log log' live
+    → Deals c (wanted_by old.manner w c q) old new log log' live
+missed_deals (Asked ask) c q old new log log' live k one s =
+    asked_deals c q ask NoMemory (reply.Fixed constant.NoMemory) old new log log' live one.added (sym (k.memory old.rooms ask).0) (one.rooms ∙ sym (k.memory old.rooms ask).1) one.room s
+missed_deals (Constant f) c q old new log log' live k one s = starved_deals c q f old new log log' live one s
 
 -- ---- items
 
 -- sends alone
-pub speech_deals : (c : ℕ) (op : Turn → Turn) (rooms : List Room) (asks : ℕ) (outs : List Outcome) (log log' : List LogEntry) (live : Bool) → Speaks c op log log' live → Deals c op rooms rooms asks asks outs outs log log' live
-speech_deals c op rooms asks outs log log' live s = record {
+pub speech_deals : (c : ℕ) (op : Turn → Turn) (desk : DeskState) (log log' : List LogEntry) (live : Bool) → Speaks c op log log' live → Deals c op desk desk log log' live
+speech_deals c op desk log log' live s = record {
   talks = s.talks;
   outcomes = [];
   sends = s.sends;
   starved = [];
   calls = [];
-  gained = sym (append-nil outs);
+  gained = sym (append-nil desk.outcomes);
   shown = s.shown;
-  runs = λ os ss bs cs. s.runs (course rooms asks os [] bs cs []) ss ∙ ap (λ (z : List Call). turn (course rooms asks os ss bs z log') live) (sym (append-nil cs));
+  runs = λ os ss bs cs. s.runs (course desk.rooms desk.room os [] bs cs []) ss ∙ ap (λ (z : List Call). turn (course desk.rooms desk.room os ss bs z log') live) (sym (append-nil cs));
 }
 
 more_asks : (asks : ℕ) → 1 ≤ asks → nat_lt 0 asks ≡ true
 more_asks asks h = grind (arith, nat_tests)
 
 -- one item
-pub one_dealt : (m : Manner) (c : ℕ) (i : Item) (rooms rooms' : List Room) (asks asks' : ℕ) (outs outs' : List Outcome) (log log' : List LogEntry) (live : Bool) → 1 ≤ asks
-    → Deals c (dealt_with m c i) rooms rooms' asks asks' outs outs' log log' live → Deals c (dealt_all m c (i ∷ [])) rooms rooms' asks asks' outs outs' log log' live
-one_dealt m c i rooms rooms' asks asks' outs outs' log log' live some d = record {
+pub one_dealt : (m : Manner) (c : ℕ) (i : Item) (old new : DeskState) (log log' : List LogEntry) (live : Bool) → 1 ≤ old.room
+    → Deals c (dealt_with m c i) old new log log' live → Deals c (dealt_all m c (i ∷ [])) old new log log' live
+one_dealt m c i old new log log' live some d = record {
   talks = d.talks;
   outcomes = d.outcomes;
   sends = d.sends;
@@ -119,21 +121,21 @@ one_dealt m c i rooms rooms' asks asks' outs outs' log log' live some d = record
   calls = d.calls;
   gained = d.gained;
   shown = d.shown;
-  runs = λ os ss bs cs. rw (more_asks asks some) (d.runs os ss bs cs);
+  runs = λ os ss bs cs. rw (more_asks old.room some) (d.runs os ss bs cs);
 }
 
-pub body_dealt : (m : Manner) (c : ℕ) (waits : Bool) (rooms : List Room) (asks : ℕ) (outs : List Outcome) (log log' : List LogEntry) (live : Bool) → 1 ≤ asks
-    → Speaks c (body_said c waits) log log' live → Deals c (dealt_all m c (said_in_body waits)) rooms rooms asks asks outs outs log log' live
-body_dealt m c true rooms asks outs log log' live some s = one_dealt m c Continue rooms rooms asks asks outs outs log log' live some (speech_deals c (dealt_with m c Continue) rooms asks outs log log' live s)
-body_dealt m c false rooms asks outs log log' live some s = speech_deals c (λ t. t) rooms asks outs log log' live s
+pub body_dealt : (m : Manner) (c : ℕ) (waits : Bool) (desk : DeskState) (log log' : List LogEntry) (live : Bool) → 1 ≤ desk.room
+    → Speaks c (body_said c waits) log log' live → Deals c (dealt_all m c (said_in_body waits)) desk desk log log' live
+body_dealt m c true desk log log' live some s = one_dealt m c Continue desk desk log log' live some (speech_deals c (dealt_with m c Continue) desk log log' live s)
+body_dealt m c false desk log log' live some s = speech_deals c (λ t. t) desk log log' live s
 
-pub dead_dealt : (m : Manner) (c : ℕ) (h : Sound) (rooms : List Room) (asks : ℕ) (outs : List Outcome) (log log' : List LogEntry) (live : Bool) → 1 ≤ asks
-    → Speaks c (dead_said c h) log log' live → Deals c (dealt_all m c (said_to_dead h)) rooms rooms asks asks outs outs log log' live
-dead_dealt m c sound.More rooms asks outs log log' live some s = speech_deals c (λ t. t) rooms asks outs log log' live s
-dead_dealt m c sound.Continue rooms asks outs log log' live some s = speech_deals c (λ t. t) rooms asks outs log log' live s
-dead_dealt m c sound.Whole rooms asks outs log log' live some s = speech_deals c (λ t. t) rooms asks outs log log' live s
-dead_dealt m c (sound.Bad f) rooms asks outs log log' live some s = one_dealt m c (Bad f) rooms rooms asks asks outs outs log log' live some (speech_deals c (dealt_with m c (Bad f)) rooms asks outs log log' live s)
+pub dead_dealt : (m : Manner) (c : ℕ) (h : Sound) (desk : DeskState) (log log' : List LogEntry) (live : Bool) → 1 ≤ desk.room
+    → Speaks c (dead_said c h) log log' live → Deals c (dealt_all m c (said_to_dead h)) desk desk log log' live
+dead_dealt m c sound.More desk log log' live some s = speech_deals c (λ t. t) desk log log' live s
+dead_dealt m c sound.Continue desk log log' live some s = speech_deals c (λ t. t) desk log log' live s
+dead_dealt m c sound.Whole desk log log' live some s = speech_deals c (λ t. t) desk log log' live s
+dead_dealt m c (sound.Bad f) desk log log' live some s = one_dealt m c (Bad f) desk desk log log' live some (speech_deals c (dealt_with m c (Bad f)) desk log log' live s)
 
 -- nothing was said
-pub none_dealt : (m : Manner) (c : ℕ) (rooms : List Room) (asks : ℕ) (outs : List Outcome) (log : List LogEntry) → Deals c (dealt_all m c []) rooms rooms asks asks outs outs log log true
-none_dealt m c rooms asks outs log = speech_deals c (λ t. t) rooms asks outs log log true (none_spoken c (λ t. t) log (λ k. refl))
+pub none_dealt : (m : Manner) (c : ℕ) (desk : DeskState) (log : List LogEntry) → Deals c (dealt_all m c []) desk desk log log true
+none_dealt m c desk log = speech_deals c (λ t. t) desk log log true (none_spoken c (λ t. t) log (λ k. refl))

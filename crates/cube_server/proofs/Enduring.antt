@@ -1,5 +1,5 @@
 -- How what a crash may leave adds up over asks.
-use Rattle.std.proofs.Common.{◌≡◌, ◌≢◌, ◌⊎◌, ◌↔◌, inl, inr, ℕ, ◌+◌, Bool, IsTrue, List, [], ◌∷◌, ◌++◌, refl, sym, ◌∙◌, ap, arith, cond}
+use Rattle.std.proofs.Common.{◌≡◌, ◌≢◌, ◌⊎◌, ◌↔◌, inl, inr, ℕ, ◌+◌, IsTrue, List, [], ◌∷◌, ◌++◌, length, refl, sym, ◌∙◌, ap, subst, arith, cond, length-append}
 use Rattle.std.proofs.lemmas.List.{append_cancel_left}
 use Rattle.std.proofs.lemmas.List.Sums.{sum_by-append}
 use Rattle.cube_model.specs.declared.ask.Ask.{Ask}
@@ -8,14 +8,12 @@ use Rattle.cube_model.specs.declared.outcome.Outcome.TheVariants.{Given, Journal
 use Rattle.cube_model.specs.declared.reply.Reply.{Reply}
 use Rattle.cube_model.specs.Rooms.{Room}
 use Rattle.cube_io.specs.Desks.{Manner, Answered, ForeignStay}
-use Rattle.cube_io.specs.States.{State, Log, Gained}
+use Rattle.cube_io.specs.Seen.{StoreState}
+use Rattle.cube_io.specs.States.{State, Gained}
 use Rattle.cube_io.proofs.Trails.{gained_none, gained_then, gained_map}
 use Rattle.cube_server.specs.Logs.{Call}
+use Rattle.cube_server.specs.Seen.{DeskState}
 use Rattle.cube_server.specs.Crashes.{after, Reaches, OnTheWay, is_fault, faults_in, Endures}
-
--- what holds of rooms, a log and a state of it
-abbrev pub Holds : Type 1
-Holds = List Room → ℕ → State → Type 0
 
 pub after_more : (m : Manner) (rooms : List Room) (xs ys : List Call) → after m rooms (xs ++ ys) ≡ after m (after m rooms xs) ys
 after_more m rooms [] ys = refl
@@ -31,13 +29,17 @@ same_holds : (P : Type 0) → P ↔ P
 same_holds P = (λ p. p, λ p. p)
 
 -- nothing was asked
-pub endures_none : (m : Manner) (w x : List Room → ℕ → State → Type 0) (told : Bool) (logs : ℕ → Log) (rooms : List Room) (outs : List Outcome) (faults : ℕ) → Endures m w w x x told told logs logs rooms rooms outs outs faults faults
-endures_none m w x told logs rooms outs faults = record {
+pub endures_none : (w x : List Room → ℕ → State → Type 0) (d : DeskState) (s : StoreState) → Endures w w x x d d s s
+endures_none w x d s = record {
+  manner = refl;
+  counted = refl;
+  fewer = omega arith;
   told = refl;
-  reached = reaches_none m rooms;
-  within_stays = λ r k s. same_holds (w r k s);
-  exact_stays = λ r k s. same_holds (x r k s);
-  passed = λ t k h. gained_none _ (logs k) (logs k) refl;
+  names = λ t. refl;
+  reached = reaches_none d.manner d.rooms;
+  within_stays = λ r k st. same_holds (w r k st);
+  exact_stays = λ r k st. same_holds (x r k st);
+  passed = λ t k h. gained_none _ (s.logs k) (s.logs k) refl;
   stays_within = λ t k h. h;
   stays_exact = λ n t k h. h;
   others = λ t k no. refl;
@@ -54,28 +56,45 @@ both_ways : (P Q R : Type 0) → Q ↔ P → R ↔ Q → R ↔ P
 both_ways P Q R f g = (λ r. f.0 (g.0 r), λ p. g.1 (f.1 p))
 
 -- some asks, and then more
-pub endures_then : (m : Manner) (w w' w'' x x' x'' : List Room → ℕ → State → Type 0) (t t' t'' : Bool) (l l' l'' : ℕ → Log) (a b c : List Room) (o p q : List Outcome) (i j n : ℕ)
-    → Endures m w w' x x' t t' l l' a b o p i j → Endures m w' w'' x' x'' t' t'' l' l'' b c p q j n → Endures m w w'' x x'' t t'' l l'' a c o q i n
-endures_then m w w' w'' x x' x'' t t' t'' l l' l'' a b c o p q i j n f g =
+pub endures_then : (w w' w'' x x' x'' : List Room → ℕ → State → Type 0) (a b c : DeskState) (s t u : StoreState) → Endures w w' x x' a b s t → Endures w' w'' x' x'' b c t u → Endures w w'' x x'' a c s u
+endures_then w w' w'' x x' x'' a b c s t u f g =
     let fewer = f.more in
     let few = g.more in
+    let onward : Reaches a.manner b.rooms c.rooms = subst (λ (m : Manner). Reaches m b.rooms c.rooms) f.manner g.reached in
     record {
+      manner = g.manner ∙ f.manner;
+      counted = g.counted ∙ f.counted;
+      fewer = omega (arith, f.fewer, g.fewer);
       told = g.told ∙ f.told;
-      reached = reaches_then m a b c f.reached g.reached;
-      within_stays = λ r k s. both_ways (w r k s) (w' r k s) (w'' r k s) (f.within_stays r k s) (g.within_stays r k s);
-      exact_stays = λ r k s. both_ways (x r k s) (x' r k s) (x'' r k s) (f.exact_stays r k s) (g.exact_stays r k s);
+      names = λ h. g.names (rw f.told h) ∙ f.names h;
+      reached = reaches_then a.manner a.rooms b.rooms c.rooms f.reached onward;
+      within_stays = λ r k st. both_ways (w r k st) (w' r k st) (w'' r k st) (f.within_stays r k st) (g.within_stays r k st);
+      exact_stays = λ r k st. both_ways (x r k st) (x' r k st) (x'' r k st) (f.exact_stays r k st) (g.exact_stays r k st);
       passed = λ h k e.
-          gained_then (OnTheWay m w a c k) (l k) (l' k) (l'' k)
-          (gained_map (OnTheWay m w a b k) (OnTheWay m w a c k) (l k) (l' k) (λ s y. record { here = y.here; from = y.from; to = reaches_then m y.here b c y.to g.reached; there = y.there }) (f.passed h k e))
-          (gained_map (OnTheWay m w' b c k) (OnTheWay m w a c k) (l' k) (l'' k) (λ s y. record { here = y.here; from = reaches_then m a b y.here f.reached y.from; to = y.to; there = (f.within_stays y.here k s).0 y.there })
+          gained_then (OnTheWay a.manner w a.rooms c.rooms k) (s.logs k) (t.logs k) (u.logs k)
+          (gained_map (OnTheWay a.manner w a.rooms b.rooms k) (OnTheWay a.manner w a.rooms c.rooms k) (s.logs k) (t.logs k)
+          (λ st y. record { here = y.here; from = y.from; to = reaches_then a.manner y.here b.rooms c.rooms y.to onward; there = y.there })
+          (f.passed h k e))
+          (gained_map (OnTheWay b.manner w' b.rooms c.rooms k) (OnTheWay a.manner w a.rooms c.rooms k) (t.logs k) (u.logs k)
+          (λ st y. record {
+            here = y.here;
+            from = reaches_then a.manner a.rooms b.rooms y.here f.reached (subst (λ (m : Manner). Reaches m b.rooms y.here) f.manner y.from);
+            to = subst (λ (m : Manner). Reaches m y.here c.rooms) f.manner y.to;
+            there = (f.within_stays y.here k st).0 y.there;
+          })
           (g.passed (rw f.told h) k (f.stays_within h k e)));
       stays_within = λ h k e. g.stays_within (rw f.told h) k (f.stays_within h k e);
-      stays_exact = λ same h k e. let first : faults_in p ≡ faults_in o = omega (arith, same, fewer, few) in let second : faults_in q ≡ faults_in p = omega (arith, same, fewer, few) in
+      stays_exact = λ same h k e.
+          let first : faults_in b.outcomes ≡ faults_in a.outcomes = omega (arith, same, fewer, few) in
+          let second : faults_in c.outcomes ≡ faults_in b.outcomes = omega (arith, same, fewer, few) in
           g.stays_exact second (rw f.told h) k (f.stays_exact first h k e);
-      others = λ h k no. g.others (rw f.told h) k (λ r s y. no r s ((f.within_stays r k s).0 y)) ∙ f.others h k no;
+      others = λ h k no. g.others (rw f.told h) k (λ r st y. no r st ((f.within_stays r k st).0 y)) ∙ f.others h k no;
       more = omega (arith, fewer, few);
       later = omega (arith, f.later, g.later);
-      steady = λ same. let first : faults_in p ≡ faults_in o = omega (arith, same, fewer, few) in let second : faults_in q ≡ faults_in p = omega (arith, same, fewer, few) in g.steady second ∙ f.steady first;
+      steady = λ same.
+          let first : faults_in b.outcomes ≡ faults_in a.outcomes = omega (arith, same, fewer, few) in
+          let second : faults_in c.outcomes ≡ faults_in b.outcomes = omega (arith, same, fewer, few) in
+          g.steady second ∙ f.steady first;
       risen = omega (arith, fewer, few, f.risen, g.risen, f.later, g.later);
     }
 
@@ -97,19 +116,24 @@ is_or_not JournalFault = inl refl
 is_or_not NoMemory = inr (λ e. cc)
 
 -- what the clauses of one answer say
-pub record OneAnswer (m : Manner) (ask : Ask) (reply : Reply) (w w' x x' : List Room → ℕ → State → Type 0) (t t' : Bool) (l l' : ℕ → Log) (a b : List Room) (o p : List Outcome) (i j : ℕ) : Type 0 where
-  pub answered : Answered m ask a b o p i j reply
-  pub told : t' ≡ t
+pub record OneAnswer (ask : Ask) (reply : Reply) (w w' x x' : List Room → ℕ → State → Type 0) (a b : DeskState) (s t : StoreState) : Type 0 where
+  pub answered : Answered a.manner ask a.rooms b.rooms a.outcomes b.outcomes s.faults t.faults reply
+  pub manner : b.manner ≡ a.manner
+  pub room : b.room + 1 ≡ a.room
+  pub told : t.told ≡ s.told
+  pub names : IsTrue s.told → t.names ≡ s.names
   pub within_stays : (r : List Room) (log : ℕ) (state : State) → w' r log state ↔ w r log state
   pub exact_stays : (r : List Room) (log : ℕ) (state : State) → x' r log state ↔ x r log state
-  pub passed : IsTrue t → (log : ℕ) → w a log (l log).state → Gained (λ state. w a log state ⊎ w b log state) (l log) (l' log)
-  pub within : IsTrue t → (log : ℕ) → w a log (l log).state → w' b log (l' log).state
-  pub exact : p ≢ o ++ JournalFault ∷ [] → IsTrue t → (log : ℕ) → x a log (l log).state → x' b log (l' log).state
-  pub others : ForeignStay t w l l'
+  pub passed : IsTrue s.told → (log : ℕ) → w a.rooms log (s.logs log).state → Gained (λ state. w a.rooms log state ⊎ w b.rooms log state) (s.logs log) (t.logs log)
+  pub within : IsTrue s.told → (log : ℕ) → w a.rooms log (s.logs log).state → w' b.rooms log (t.logs log).state
+  pub exact : b.outcomes ≢ a.outcomes ++ JournalFault ∷ [] → IsTrue s.told → (log : ℕ) → x a.rooms log (s.logs log).state → x' b.rooms log (t.logs log).state
+  pub others : ForeignStay w s t
 
-pub endures_answer : (m : Manner) (ask : Ask) (reply : Reply) (w w' x x' : List Room → ℕ → State → Type 0) (t t' : Bool) (l l' : ℕ → Log) (a b : List Room) (o p : List Outcome) (i j : ℕ) → OneAnswer m ask reply w w' x x' t t' l l' a b o p i j
-    → Endures m w w' x x' t t' l l' a b o p i j
-endures_answer m ask reply w w' x x' t t' l l' a b o p i j one = by (is_or_not one.answered.outcome)
+one_more : (o : Outcome) (xs ys : List Outcome) (m n : ℕ) → ys ≡ xs ++ o ∷ [] → n + 1 ≡ m → n + length ys ≡ m + length xs
+one_more o xs ys m n added one = omega (arith, one, ap length added ∙ length-append xs (o ∷ []))
+
+pub endures_answer : (ask : Ask) (reply : Reply) (w w' x x' : List Room → ℕ → State → Type 0) (a b : DeskState) (s t : StoreState) → OneAnswer ask reply w w' x x' a b s t → Endures w w' x x' a b s t
+endures_answer ask reply w w' x x' a b s t one = by (is_or_not one.answered.outcome)
   where
     out : Outcome
     out = one.answered.outcome
@@ -117,25 +141,29 @@ endures_answer m ask reply w w' x x' t t' l l' a b o p i j one = by (is_or_not o
     call : Call
     call = record { ask = ask; outcome = out }
 
-    way : Reaches m a b
+    way : Reaches a.manner a.rooms b.rooms
     way = (call ∷ [], one.answered.moved)
 
-    count : faults_in p ≡ faults_in o + faults_in (out ∷ [])
-    count = ap faults_in one.answered.added ∙ count_more o out
+    count : faults_in b.outcomes ≡ faults_in a.outcomes + faults_in (out ∷ [])
+    count = ap faults_in one.answered.added ∙ count_more a.outcomes out
 
-    gone : IsTrue t → (log : ℕ) → w a log (l log).state → Gained (OnTheWay m w a b log) (l log) (l' log)
-    gone h k e = gained_map (λ state. w a k state ⊎ w b k state) (OnTheWay m w a b k) (l k) (l' k) (λ s y. side k s y) (one.passed h k e)
+    gone : IsTrue s.told → (log : ℕ) → w a.rooms log (s.logs log).state → Gained (OnTheWay a.manner w a.rooms b.rooms log) (s.logs log) (t.logs log)
+    gone h k e = gained_map (λ state. w a.rooms k state ⊎ w b.rooms k state) (OnTheWay a.manner w a.rooms b.rooms k) (s.logs k) (t.logs k) (λ st y. side k st y) (one.passed h k e)
       where
-        side : (k : ℕ) (s : State) → (w a k s ⊎ w b k s) → OnTheWay m w a b k s
-        side k s (inl y) = record { here = a; from = reaches_none m a; to = way; there = y }
-        side k s (inr y) = record { here = b; from = way; to = reaches_none m b; there = y }
+        side : (k : ℕ) (st : State) → (w a.rooms k st ⊎ w b.rooms k st) → OnTheWay a.manner w a.rooms b.rooms k st
+        side k st (inl y) = record { here = a.rooms; from = reaches_none a.manner a.rooms; to = way; there = y }
+        side k st (inr y) = record { here = b.rooms; from = way; to = reaches_none a.manner b.rooms; there = y }
 
-    by : ((out ≡ JournalFault) ⊎ (out ≢ JournalFault)) → Endures m w w' x x' t t' l l' a b o p i j
+    by : ((out ≡ JournalFault) ⊎ (out ≢ JournalFault)) → Endures w w' x x' a b s t
     by (inl is) =
-        let c : faults_in p ≡ faults_in o + 1 = count ∙ ap (λ (z : Outcome). faults_in o + faults_in (z ∷ [])) is in
+        let c : faults_in b.outcomes ≡ faults_in a.outcomes + 1 = count ∙ ap (λ (z : Outcome). faults_in a.outcomes + faults_in (z ∷ [])) is in
         let rose = (one.answered.failed is).0 in
         record {
+          manner = one.manner;
+          counted = one_more out a.outcomes b.outcomes a.room b.room one.answered.added one.room;
+          fewer = omega (arith, one.room);
           told = one.told;
+          names = one.names;
           reached = way;
           within_stays = one.within_stays;
           exact_stays = one.exact_stays;
@@ -149,16 +177,20 @@ endures_answer m ask reply w w' x x' t t' l l' a b o p i j one = by (is_or_not o
           risen = omega (arith, c, rose);
         }
     by (inr other) =
-        let c : faults_in p ≡ faults_in o = count ∙ ap (λ (z : ℕ). faults_in o + z) (count_of out other) ∙ omega arith in
-        let same : j ≡ i = one.answered.steady other in
+        let c : faults_in b.outcomes ≡ faults_in a.outcomes = count ∙ ap (λ (z : ℕ). faults_in a.outcomes + z) (count_of out other) ∙ omega arith in
+        let same : t.faults ≡ s.faults = one.answered.steady other in
         record {
+          manner = one.manner;
+          counted = one_more out a.outcomes b.outcomes a.room b.room one.answered.added one.room;
+          fewer = omega (arith, one.room);
           told = one.told;
+          names = one.names;
           reached = way;
           within_stays = one.within_stays;
           exact_stays = one.exact_stays;
           passed = gone;
           stays_within = one.within;
-          stays_exact = λ e. one.exact (not_fault out o p other one.answered.added);
+          stays_exact = λ e. one.exact (not_fault out a.outcomes b.outcomes other one.answered.added);
           others = one.others;
           more = omega (arith, c);
           later = one.answered.later;
@@ -166,22 +198,32 @@ endures_answer m ask reply w w' x x' t t' l l' a b o p i j one = by (is_or_not o
           risen = omega (arith, c, same);
         }
 
--- an ask that found no memory
-pub endures_miss : (m : Manner) (w w' x x' : List Room → ℕ → State → Type 0) (t : Bool) (l : ℕ → Log) (a b : List Room) (o p : List Outcome) (i : ℕ) → b ≡ a → p ≡ o ++ NoMemory ∷ []
-    → ((r : List Room) (log : ℕ) (state : State) → w' r log state ↔ w r log state) → ((r : List Room) (log : ℕ) (state : State) → x' r log state ↔ x r log state) → Endures m w w' x x' t t l l a b o p i i
-endures_miss m w w' x x' t l a b o p i same added ws xs =
-    let c : faults_in p ≡ faults_in o = ap faults_in added ∙ count_more o NoMemory ∙ omega arith in
-    rw same (record {
+-- an ask that found no memory: it left the rooms, and that one outcome
+pub record OneMiss (a b : DeskState) : Type 0 where
+  pub manner : b.manner ≡ a.manner
+  pub rooms : b.rooms ≡ a.rooms
+  pub room : b.room + 1 ≡ a.room
+  pub added : b.outcomes ≡ a.outcomes ++ NoMemory ∷ []
+
+pub endures_miss : (w w' x x' : List Room → ℕ → State → Type 0) (a b : DeskState) (s : StoreState) → OneMiss a b
+    → ((r : List Room) (log : ℕ) (state : State) → w' r log state ↔ w r log state) → ((r : List Room) (log : ℕ) (state : State) → x' r log state ↔ x r log state) → Endures w w' x x' a b s s
+endures_miss w w' x x' a b s one ws xs =
+    let c : faults_in b.outcomes ≡ faults_in a.outcomes = ap faults_in one.added ∙ count_more a.outcomes NoMemory ∙ omega arith in
+    record {
+      manner = one.manner;
+      counted = one_more NoMemory a.outcomes b.outcomes a.room b.room one.added one.room;
+      fewer = omega (arith, one.room);
       told = refl;
-      reached = reaches_none m a;
+      names = λ h. refl;
+      reached = ([], one.rooms);
       within_stays = ws;
       exact_stays = xs;
-      passed = λ h k e. gained_none _ (l k) (l k) refl;
-      stays_within = λ h k e. (ws a k (l k).state).1 e;
-      stays_exact = λ n h k e. (xs a k (l k).state).1 e;
+      passed = λ h k e. gained_none _ (s.logs k) (s.logs k) refl;
+      stays_within = λ h k e. rw one.rooms ((ws a.rooms k (s.logs k).state).1 e);
+      stays_exact = λ n h k e. rw one.rooms ((xs a.rooms k (s.logs k).state).1 e);
       others = λ h k no. refl;
       more = omega (arith, c);
       later = omega arith;
       steady = λ n. refl;
       risen = omega (arith, c);
-    })
+    }

@@ -1,3 +1,4 @@
+pub mod Sending
 pub mod Spoken
 pub mod Found
 pub mod Dealt

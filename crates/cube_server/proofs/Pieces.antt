@@ -3,7 +3,6 @@ use Rattle.std.proofs.Common.{◌≡◌, ◌==◌, ℕ, ◌<◌, ◌≤◌, ◌&
 use Rattle.std.proofs.lemmas.List.{append-nil, take-append-drop, length-take-le}
 use Rattle.std.proofs.lemmas.Bool.Decides.{nat_tests}
 use Rattle.cube_model.specs.declared.outcome.Outcome.{Outcome}
-use Rattle.cube_model.specs.Rooms.{Room}
 use Rattle.cube_io.specs.Desks.{Manner}
 use Rattle.cube_io.specs.Wires.{LogEntry}
 use Rattle.cube_http.specs.Stream.{Item}
@@ -16,6 +15,7 @@ use Rattle.cube_server.specs.Ears.{Keeps, said, said_before, kept_bytes, OnGoes,
 use Rattle.cube_server.specs.declared.lines.Ear.{Ear}
 use Rattle.cube_http.specs.Hearing.{Hears}
 use Rattle.cube_server.specs.Logs.{Call, Turn, dealt_all, dealt_with, behind}
+use Rattle.cube_server.specs.Seen.{DeskState}
 use Rattle.cube_server.specs.Steps.{Talks, Deals, turn, course, sends_in}
 use Rattle.cube_server.proofs.Spoken.{talks_then}
 use Rattle.cube_server.proofs.Streams.{OneHeard, one_heard, GoesOn, behind_piece, behind_all}
@@ -41,7 +41,7 @@ dealt_more m c (x ∷ xs) ys t = by (goes t) refl (dealt_more m c xs ys (dealt_w
 -- ---- the piece
 
 -- Of a piece a front has been heard, and what it says was dealt with.
-pub record Progress (m : Manner) (c : ℕ) (stream piece rest bytes : List ℕ) (rooms rooms' : List Room) (asks asks' : ℕ) (outs outs' : List Outcome) (log log' : List LogEntry) : Type 0 where
+pub record Progress (m : Manner) (c : ℕ) (stream piece rest bytes : List ℕ) (old new : DeskState) (log log' : List LogEntry) : Type 0 where
   pub past : List ℕ
   pub split : piece ≡ past ++ rest
   pub keeps : Keeps (stream ++ past) bytes
@@ -49,14 +49,14 @@ pub record Progress (m : Manner) (c : ℕ) (stream piece rest bytes : List ℕ) 
   pub sends : List (Option ℕ)
   pub starved : List Bool
   pub calls : List Call
-  pub gained : outs' ≡ outs ++ outcomes
+  pub gained : new.outcomes ≡ old.outcomes ++ outcomes
   pub shown : sends_in log' ≡ sends_in log ++ sends
   pub runs : (os : List Outcome) (ss : List (Option ℕ)) (bs : List Bool) (cs : List Call)
-      → dealt_all m c (behind (length stream) (stream ++ piece)) (turn (course rooms asks (outcomes ++ os) (sends ++ ss) (starved ++ bs) cs log) true)
-      ≡ dealt_all m c (behind (length (stream ++ past)) (stream ++ piece)) (turn (course rooms' asks' os ss bs (cs ++ calls) log') true)
+      → dealt_all m c (behind (length stream) (stream ++ piece)) (turn (course old.rooms old.room (outcomes ++ os) (sends ++ ss) (starved ++ bs) cs log) true)
+      ≡ dealt_all m c (behind (length (stream ++ past)) (stream ++ piece)) (turn (course new.rooms new.room os ss bs (cs ++ calls) log') true)
 
-pub progress_start : (m : Manner) (c : ℕ) (stream piece bytes : List ℕ) (rooms : List Room) (asks : ℕ) (outs : List Outcome) (log : List LogEntry) → Keeps stream bytes → Progress m c stream piece piece bytes rooms rooms asks asks outs outs log log
-progress_start m c stream piece bytes rooms asks outs log k = record {
+pub progress_start : (m : Manner) (c : ℕ) (stream piece bytes : List ℕ) (desk : DeskState) (log : List LogEntry) → Keeps stream bytes → Progress m c stream piece piece bytes desk desk log log
+progress_start m c stream piece bytes desk log k = record {
   past = [];
   split = refl;
   keeps = rw append-nil k;
@@ -64,7 +64,7 @@ progress_start m c stream piece bytes rooms asks outs log k = record {
   sends = [];
   starved = [];
   calls = [];
-  gained = sym (append-nil outs);
+  gained = sym (append-nil desk.outcomes);
   shown = sym (append-nil (sends_in log));
   runs = λ os ss bs cs. rw (append-nil stream, append-nil cs) refl;
 }
@@ -88,25 +88,25 @@ next_said stream past t rest piece h n split one =
     ∙ ap (λ (l : List ℕ). said h n ++ behind (length (stream ++ (past ++ t))) l) (sym whole)
 
 -- one part more was heard and dealt with
-onward : (m : Manner) (c : ℕ) (stream piece t rest bytes : List ℕ) (h : Heard) (n : Conn) (rooms x y : List Room) (asks i j : ℕ) (outs o p : List Outcome) (log u v : List LogEntry) (live : Bool)
-    → (g : Progress m c stream piece (t ++ rest) bytes rooms x asks i outs o log u) → OneHeard (stream ++ g.past) t h n → (d : Deals c (dealt_all m c (said h n)) x y i j o p u v live)
+onward : (m : Manner) (c : ℕ) (stream piece t rest bytes : List ℕ) (h : Heard) (n : Conn) (a x y : DeskState) (log u v : List LogEntry) (live : Bool)
+    → (g : Progress m c stream piece (t ++ rest) bytes a x log u) → OneHeard (stream ++ g.past) t h n → (d : Deals c (dealt_all m c (said h n)) x y u v live)
     → (os : List Outcome) (ss : List (Option ℕ)) (bs : List Bool) (cs : List Call)
-    → dealt_all m c (behind (length stream) (stream ++ piece)) (turn (course rooms asks ((g.outcomes ++ d.outcomes) ++ os) ((g.sends ++ d.sends) ++ ss) ((g.starved ++ d.starved) ++ bs) cs log) true)
-    ≡ dealt_all m c (behind (length (stream ++ (g.past ++ t))) (stream ++ piece)) (turn (course y j os ss bs (cs ++ (g.calls ++ d.calls)) v) live)
-onward m c stream piece t rest bytes h n rooms x y asks i j outs o p log u v live g one d os ss bs cs =
+    → dealt_all m c (behind (length stream) (stream ++ piece)) (turn (course a.rooms a.room ((g.outcomes ++ d.outcomes) ++ os) ((g.sends ++ d.sends) ++ ss) ((g.starved ++ d.starved) ++ bs) cs log) true)
+    ≡ dealt_all m c (behind (length (stream ++ (g.past ++ t))) (stream ++ piece)) (turn (course y.rooms y.room os ss bs (cs ++ (g.calls ++ d.calls)) v) live)
+onward m c stream piece t rest bytes h n a x y log u v live g one d os ss bs cs =
     let after = behind (length (stream ++ (g.past ++ t))) (stream ++ piece) in
     rw (append_assoc g.outcomes d.outcomes os, append_assoc g.sends d.sends ss, append_assoc g.starved d.starved bs) (
     g.runs (d.outcomes ++ os) (d.sends ++ ss) (d.starved ++ bs) cs
-    ∙ ap (λ (l : List Item). dealt_all m c l (turn (course x i (d.outcomes ++ os) (d.sends ++ ss) (d.starved ++ bs) (cs ++ g.calls) u) true)) (next_said stream g.past t rest piece h n g.split one)
-    ∙ dealt_more m c (said h n) after (turn (course x i (d.outcomes ++ os) (d.sends ++ ss) (d.starved ++ bs) (cs ++ g.calls) u) true)
+    ∙ ap (λ (l : List Item). dealt_all m c l (turn (course x.rooms x.room (d.outcomes ++ os) (d.sends ++ ss) (d.starved ++ bs) (cs ++ g.calls) u) true)) (next_said stream g.past t rest piece h n g.split one)
+    ∙ dealt_more m c (said h n) after (turn (course x.rooms x.room (d.outcomes ++ os) (d.sends ++ ss) (d.starved ++ bs) (cs ++ g.calls) u) true)
     ∙ ap (dealt_all m c after) (d.runs os ss bs (cs ++ g.calls))
-    ∙ ap (λ (l : List Call). dealt_all m c after (turn (course y j os ss bs l v) live)) (append_assoc cs g.calls d.calls)
+    ∙ ap (λ (l : List Call). dealt_all m c after (turn (course y.rooms y.room os ss bs l v) live)) (append_assoc cs g.calls d.calls)
     )
 
-pub one_more : (m : Manner) (c : ℕ) (stream piece t rest bytes bytes' : List ℕ) (h : Heard) (n : Conn) (rooms x y : List Room) (asks i j : ℕ) (outs o p : List Outcome) (log u v : List LogEntry)
-    → (g : Progress m c stream piece (t ++ rest) bytes rooms x asks i outs o log u) → OneHeard (stream ++ g.past) t h n → Deals c (dealt_all m c (said h n)) x y i j o p u v true → Keeps (stream ++ (g.past ++ t)) bytes'
-    → Progress m c stream piece rest bytes' rooms y asks j outs p log v
-one_more m c stream piece t rest bytes bytes' h n rooms x y asks i j outs o p log u v g one d k = record {
+pub one_more : (m : Manner) (c : ℕ) (stream piece t rest bytes bytes' : List ℕ) (h : Heard) (n : Conn) (a x y : DeskState) (log u v : List LogEntry)
+    → (g : Progress m c stream piece (t ++ rest) bytes a x log u) → OneHeard (stream ++ g.past) t h n → Deals c (dealt_all m c (said h n)) x y u v true → Keeps (stream ++ (g.past ++ t)) bytes'
+    → Progress m c stream piece rest bytes' a y log v
+one_more m c stream piece t rest bytes bytes' h n a x y log u v g one d k = record {
   past = g.past ++ t;
   split = g.split ∙ sym (append_assoc g.past t rest);
   keeps = k;
@@ -114,9 +114,9 @@ one_more m c stream piece t rest bytes bytes' h n rooms x y asks i j outs o p lo
   sends = g.sends ++ d.sends;
   starved = g.starved ++ d.starved;
   calls = g.calls ++ d.calls;
-  gained = d.gained ∙ ap (λ (l : List Outcome). l ++ d.outcomes) g.gained ∙ append_assoc outs g.outcomes d.outcomes;
+  gained = d.gained ∙ ap (λ (l : List Outcome). l ++ d.outcomes) g.gained ∙ append_assoc a.outcomes g.outcomes d.outcomes;
   shown = d.shown ∙ ap (λ (l : List (Option ℕ)). l ++ d.sends) g.shown ∙ append_assoc (sends_in log) g.sends d.sends;
-  runs = onward m c stream piece t rest bytes h n rooms x y asks i j outs o p log u v true g one d;
+  runs = onward m c stream piece t rest bytes h n a x y log u v true g one d;
 }
 
 -- ---- its end
@@ -125,26 +125,26 @@ no_asks : nat_lt 0 0 ≡ false
 no_asks = refl
 
 -- the connection was closed
-pub piece_closed : (m : Manner) (c : ℕ) (stream piece t rest bytes : List ℕ) (h : Heard) (n : Conn) (rooms x y : List Room) (asks i j : ℕ) (outs o p : List Outcome) (log u v : List LogEntry)
-    → (g : Progress m c stream piece (t ++ rest) bytes rooms x asks i outs o log u) → OneHeard (stream ++ g.past) t h n → Deals c (dealt_all m c (said h n)) x y i j o p u v false → Talks c log u true
-    → Deals c (dealt_all m c (behind (length stream) (stream ++ piece))) rooms y asks j outs p log v false
-piece_closed m c stream piece t rest bytes h n rooms x y asks i j outs o p log u v g one d talks = record {
+pub piece_closed : (m : Manner) (c : ℕ) (stream piece t rest bytes : List ℕ) (h : Heard) (n : Conn) (a x y : DeskState) (log u v : List LogEntry)
+    → (g : Progress m c stream piece (t ++ rest) bytes a x log u) → OneHeard (stream ++ g.past) t h n → Deals c (dealt_all m c (said h n)) x y u v false → Talks c log u true
+    → Deals c (dealt_all m c (behind (length stream) (stream ++ piece))) a y log v false
+piece_closed m c stream piece t rest bytes h n a x y log u v g one d talks = record {
   talks = talks_then c log u v false talks d.talks;
   outcomes = g.outcomes ++ d.outcomes;
   sends = g.sends ++ d.sends;
   starved = g.starved ++ d.starved;
   calls = g.calls ++ d.calls;
-  gained = d.gained ∙ ap (λ (l : List Outcome). l ++ d.outcomes) g.gained ∙ append_assoc outs g.outcomes d.outcomes;
+  gained = d.gained ∙ ap (λ (l : List Outcome). l ++ d.outcomes) g.gained ∙ append_assoc a.outcomes g.outcomes d.outcomes;
   shown = d.shown ∙ ap (λ (l : List (Option ℕ)). l ++ d.sends) g.shown ∙ append_assoc (sends_in log) g.sends d.sends;
   runs = λ os ss bs cs.
-      onward m c stream piece t rest bytes h n rooms x y asks i j outs o p log u v false g one d os ss bs cs
-      ∙ stopped m c (behind (length (stream ++ (g.past ++ t))) (stream ++ piece)) (turn (course y j os ss bs (cs ++ (g.calls ++ d.calls)) v) false) refl;
+      onward m c stream piece t rest bytes h n a x y log u v false g one d os ss bs cs
+      ∙ stopped m c (behind (length (stream ++ (g.past ++ t))) (stream ++ piece)) (turn (course y.rooms y.room os ss bs (cs ++ (g.calls ++ d.calls)) v) false) refl;
 }
 
 -- the asks are used up
-pub piece_spent : (m : Manner) (c : ℕ) (stream piece rest bytes : List ℕ) (rooms x : List Room) (asks i : ℕ) (outs o : List Outcome) (log u : List LogEntry) → Progress m c stream piece rest bytes rooms x asks i outs o log u → Talks c log u true → i ≡ 0
-    → Deals c (dealt_all m c (behind (length stream) (stream ++ piece))) rooms x asks i outs o log u true
-piece_spent m c stream piece rest bytes rooms x asks i outs o log u g talks none = record {
+pub piece_spent : (m : Manner) (c : ℕ) (stream piece rest bytes : List ℕ) (a x : DeskState) (log u : List LogEntry) → Progress m c stream piece rest bytes a x log u → Talks c log u true → x.room ≡ 0
+    → Deals c (dealt_all m c (behind (length stream) (stream ++ piece))) a x log u true
+piece_spent m c stream piece rest bytes a x log u g talks none = record {
   talks = talks;
   outcomes = g.outcomes;
   sends = g.sends;
@@ -153,13 +153,13 @@ piece_spent m c stream piece rest bytes rooms x asks i outs o log u g talks none
   gained = g.gained;
   shown = g.shown;
   runs = λ os ss bs cs.
-      g.runs os ss bs cs ∙ stopped m c (behind (length (stream ++ g.past)) (stream ++ piece)) (turn (course x i os ss bs (cs ++ g.calls) u) true) (ap (nat_lt 0) none);
+      g.runs os ss bs cs ∙ stopped m c (behind (length (stream ++ g.past)) (stream ++ piece)) (turn (course x.rooms x.room os ss bs (cs ++ g.calls) u) true) (ap (nat_lt 0) none);
 }
 
 -- all of it was heard
-pub piece_heard : (m : Manner) (c : ℕ) (stream piece bytes : List ℕ) (rooms x : List Room) (asks i : ℕ) (outs o : List Outcome) (log u : List LogEntry) → Progress m c stream piece [] bytes rooms x asks i outs o log u → Talks c log u true
-    → Deals c (dealt_all m c (behind (length stream) (stream ++ piece))) rooms x asks i outs o log u true × Keeps (stream ++ piece) bytes
-piece_heard m c stream piece bytes rooms x asks i outs o log u g talks =
+pub piece_heard : (m : Manner) (c : ℕ) (stream piece bytes : List ℕ) (a x : DeskState) (log u : List LogEntry) → Progress m c stream piece [] bytes a x log u → Talks c log u true
+    → Deals c (dealt_all m c (behind (length stream) (stream ++ piece))) a x log u true × Keeps (stream ++ piece) bytes
+piece_heard m c stream piece bytes a x log u g talks =
     let all : piece ≡ g.past = g.split ∙ append-nil g.past in (
       record {
         talks = talks;
@@ -171,8 +171,8 @@ piece_heard m c stream piece bytes rooms x asks i outs o log u g talks =
         shown = g.shown;
         runs = λ os ss bs cs.
             g.runs os ss bs cs
-            ∙ ap (λ (l : List ℕ). dealt_all m c (behind (length (stream ++ l)) (stream ++ piece)) (turn (course x i os ss bs (cs ++ g.calls) u) true)) (sym all)
-            ∙ ap (λ (l : List Item). dealt_all m c l (turn (course x i os ss bs (cs ++ g.calls) u) true)) (behind_all (stream ++ piece));
+            ∙ ap (λ (l : List ℕ). dealt_all m c (behind (length (stream ++ l)) (stream ++ piece)) (turn (course x.rooms x.room os ss bs (cs ++ g.calls) u) true)) (sym all)
+            ∙ ap (λ (l : List Item). dealt_all m c l (turn (course x.rooms x.room os ss bs (cs ++ g.calls) u) true)) (behind_all (stream ++ piece));
       },
       rw all g.keeps,
     )
@@ -187,30 +187,32 @@ none_left (x ∷ xs) e = absurd (some_left x xs e)
 -- ---- one feed
 
 -- the rest of a piece, as what was used and what is left
-cut_rest : (m : Manner) (c : ℕ) (stream piece rest bytes : List ℕ) (used : ℕ) (rooms x : List Room) (asks i : ℕ) (outs o : List Outcome) (log u : List LogEntry) → Progress m c stream piece rest bytes rooms x asks i outs o log u
-    → Progress m c stream piece (take used rest ++ drop used rest) bytes rooms x asks i outs o log u
-cut_rest m c stream piece rest bytes used rooms x asks i outs o log u g = subst (λ (l : List ℕ). Progress m c stream piece l bytes rooms x asks i outs o log u) (sym (take-append-drop used rest)) g
+cut_rest : (m : Manner) (c : ℕ) (stream piece rest bytes : List ℕ) (used : ℕ) (a x : DeskState) (log u : List LogEntry) → Progress m c stream piece rest bytes a x log u
+    → Progress m c stream piece (take used rest ++ drop used rest) bytes a x log u
+cut_rest m c stream piece rest bytes used a x log u g = subst (λ (l : List ℕ). Progress m c stream piece l bytes a x log u) (sym (take-append-drop used rest)) g
 
 used_some : (used : ℕ) (rest : List ℕ) → 0 < used → used ≤ length rest → 0 < length (take used rest)
 used_some used rest some few = omega (arith, some, length-take-le used rest few)
 
 -- the connection is open behind what was used
-pub step_on : (m : Manner) (c : ℕ) (stream piece rest : List ℕ) (used : ℕ) (e next : Ear) (h : Heard) (n : Conn) (rooms x y : List Room) (asks i j : ℕ) (outs o p : List Outcome) (log u v : List LogEntry)
-    → Progress m c stream piece rest (kept_bytes e) rooms x asks i outs o log u → 0 < used → used ≤ length rest → Hears (said_before e) (kept_bytes e ++ take used rest) h n
-    → Deals c (dealt_all m c (said h n)) x y i j o p u v true → OnLeaves (left.On next) n → Progress m c stream piece (drop used rest) (kept_bytes next) rooms y asks j outs p log v
-step_on m c stream piece rest used e next h n rooms x y asks i j outs o p log u v was some few hears d leaves =
-    let g = cut_rest m c stream piece rest (kept_bytes e) used rooms x asks i outs o log u was in
+pub step_on : (m : Manner) (c : ℕ) (stream piece rest : List ℕ) (used : ℕ) (e next : Ear) (h : Heard) (n : Conn) (a x y : DeskState) (log u v : List LogEntry)
+    → Progress m c stream piece rest (kept_bytes e) a x log u → x.manner ≡ m → 0 < used → used ≤ length rest → Hears (said_before e) (kept_bytes e ++ take used rest) h n
+    → Deals c (dealt_all x.manner c (said h n)) x y u v true → OnLeaves (left.On next) n → Progress m c stream piece (drop used rest) (kept_bytes next) a y log v
+step_on m c stream piece rest used e next h n a x y log u v was same some few hears deals leaves =
+    let d : Deals c (dealt_all m c (said h n)) x y u v true = subst (λ (k : Manner). Deals c (dealt_all k c (said h n)) x y u v true) same deals in
+    let g = cut_rest m c stream piece rest (kept_bytes e) used a x log u was in
     let t = take used rest in
     let one = one_heard e (stream ++ g.past) t h n g.keeps (used_some used rest some few) hears in
     let keeps : Keeps (stream ++ (g.past ++ t)) (kept_bytes next) = subst (λ (l : List ℕ). Keeps l (kept_bytes next)) (append_assoc stream g.past t) (goes_left (left.On next) n ((stream ++ g.past) ++ t) leaves one.goes) in
-    one_more m c stream piece t (drop used rest) (kept_bytes e) (kept_bytes next) h n rooms x y asks i j outs o p log u v g one d keeps
+    one_more m c stream piece t (drop used rest) (kept_bytes e) (kept_bytes next) h n a x y log u v g one d keeps
 
 -- it was closed there
-pub step_off : (m : Manner) (c : ℕ) (stream piece rest : List ℕ) (used : ℕ) (e : Ear) (h : Heard) (n : Conn) (rooms x y : List Room) (asks i j : ℕ) (outs o p : List Outcome) (log u v : List LogEntry)
-    → Progress m c stream piece rest (kept_bytes e) rooms x asks i outs o log u → 0 < used → used ≤ length rest → Hears (said_before e) (kept_bytes e ++ take used rest) h n
-    → Deals c (dealt_all m c (said h n)) x y i j o p u v false → Talks c log u true → Deals c (dealt_all m c (behind (length stream) (stream ++ piece))) rooms y asks j outs p log v false
-step_off m c stream piece rest used e h n rooms x y asks i j outs o p log u v was some few hears d talks =
-    let g = cut_rest m c stream piece rest (kept_bytes e) used rooms x asks i outs o log u was in
+pub step_off : (m : Manner) (c : ℕ) (stream piece rest : List ℕ) (used : ℕ) (e : Ear) (h : Heard) (n : Conn) (a x y : DeskState) (log u v : List LogEntry)
+    → Progress m c stream piece rest (kept_bytes e) a x log u → x.manner ≡ m → 0 < used → used ≤ length rest → Hears (said_before e) (kept_bytes e ++ take used rest) h n
+    → Deals c (dealt_all x.manner c (said h n)) x y u v false → Talks c log u true → Deals c (dealt_all m c (behind (length stream) (stream ++ piece))) a y log v false
+step_off m c stream piece rest used e h n a x y log u v was same some few hears deals talks =
+    let d : Deals c (dealt_all m c (said h n)) x y u v false = subst (λ (k : Manner). Deals c (dealt_all k c (said h n)) x y u v false) same deals in
+    let g = cut_rest m c stream piece rest (kept_bytes e) used a x log u was in
     let t = take used rest in
     let one = one_heard e (stream ++ g.past) t h n g.keeps (used_some used rest some few) hears in
-    piece_closed m c stream piece t (drop used rest) (kept_bytes e) h n rooms x y asks i j outs o p log u v g one d talks
+    piece_closed m c stream piece t (drop used rest) (kept_bytes e) h n a x y log u v g one d talks

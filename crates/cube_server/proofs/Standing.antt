@@ -12,7 +12,8 @@ use Rattle.cube_io.specs.Wires.LogEntry.{Heard}
 use Rattle.cube_server.specs.declared.lines.Line.{Line}
 use Rattle.cube_server.specs.Ears.{AreKept, AreOpen}
 use Rattle.cube_server.specs.Logs.{Call, Run, met, taken as took, is_over, run_on, begin, run_of}
-use Rattle.cube_server.specs.Steps.{Takes, Serves, course, run, luck_of, sends_in, has_end, is_end}
+use Rattle.cube_server.specs.Seen.{DeskState}
+use Rattle.cube_server.specs.Steps.{Takes, Serves, course, run, luck_of, stated_at, sends_in, has_end, is_end}
 use Rattle.cube_server.proofs.Spoken.{sends_more, events_more}
 
 -- one event more
@@ -35,21 +36,23 @@ going conns events rooms asks os ss bs cs log some more =
     rw (a, b) refl
 
 -- How a call stands: its log is that of the definition's run so far, whatever luck is left.
-pub record Stands (m : Manner) (rooms0 rooms : List Room) (asks0 asks events0 events : ℕ) (outs0 outs : List Outcome) (log : List LogEntry) (lines : List Line) : Type 0 where
+pub record Stands (start now : DeskState) (events0 events : ℕ) (log : List LogEntry) (lines : List Line) : Type 0 where
+  pub manner : now.manner ≡ start.manner
   pub conns : List (ℕ × List ℕ)
-  pub kept : 0 < asks → AreKept lines conns
+  pub kept : 0 < now.room → AreKept lines conns
   pub live : AreOpen lines log
   pub unended : has_end log ≡ false
   pub outcomes : List Outcome
   pub starved : List Bool
   pub calls : List Call
-  pub gained : outs ≡ outs0 ++ outcomes
+  pub gained : now.outcomes ≡ start.outcomes ++ outcomes
   pub runs : (os : List Outcome) (ss : List (Option ℕ)) (bs : List Bool)
-      → run_of m rooms0 (events_in log) (luck_of asks0 events0 (outcomes ++ os) (sends_in log ++ ss) (starved ++ bs)) ≡ run conns events (course rooms asks os ss bs calls log)
+      → run_of start.manner start.rooms (events_in log) (luck_of (stated_at start events0) (outcomes ++ os) (sends_in log ++ ss) (starved ++ bs)) ≡ run conns events (course now.rooms now.room os ss bs calls log)
 
-pub stands_start : (m : Manner) (rooms : List Room) (asks events : ℕ) (outs : List Outcome) (log : List LogEntry) (lines : List Line) → log ≡ [] → lines ≡ [] → Stands m rooms rooms asks asks events events outs outs log lines
+pub stands_start : (desk : DeskState) (events : ℕ) (log : List LogEntry) (lines : List Line) → log ≡ [] → lines ≡ [] → Stands desk desk events events log lines
 unfolding run_of
-stands_start m rooms asks events outs log lines l e = rw (l, e) (record {
+stands_start desk events log lines l e = rw (l, e) (record {
+  manner = refl;
   conns = [];
   kept = λ some. tt;
   live = tt;
@@ -57,7 +60,7 @@ stands_start m rooms asks events outs log lines l e = rw (l, e) (record {
   outcomes = [];
   starved = [];
   calls = [];
-  gained = sym (append-nil outs);
+  gained = sym (append-nil desk.outcomes);
   runs = λ os ss bs. refl;
 })
 
@@ -76,23 +79,24 @@ any_more (x ∷ es) e none last = by (is_end x) none (λ n. any_more es e n last
     by false n more = more n
 
 -- the run so far, with one event more
-run_once : (m : Manner) (rooms0 rooms : List Room) (asks0 asks events0 events : ℕ) (outs0 outs : List Outcome) (log : List LogEntry) (lines : List Line) (e : Arrival) → (s : Stands m rooms0 rooms asks0 asks events0 events outs0 outs log lines) → 0 < events → 0 < asks
-    → (os : List Outcome) (ss : List (Option ℕ)) (bs : List Bool) → run_of m rooms0 (events_in log ++ e ∷ []) (luck_of asks0 events0 (s.outcomes ++ os) (sends_in log ++ ss) (s.starved ++ bs))
-    ≡ met m e (run s.conns (events - 1) (course rooms asks os ss bs s.calls (log ++ Heard e ∷ [])))
+run_once : (start now : DeskState) (events0 events : ℕ) (log : List LogEntry) (lines : List Line) (e : Arrival) → (s : Stands start now events0 events log lines) → 0 < events → 0 < now.room
+    → (os : List Outcome) (ss : List (Option ℕ)) (bs : List Bool) → run_of start.manner start.rooms (events_in log ++ e ∷ []) (luck_of (stated_at start events0) (s.outcomes ++ os) (sends_in log ++ ss) (s.starved ++ bs))
+    ≡ met start.manner e (run s.conns (events - 1) (course now.rooms now.room os ss bs s.calls (log ++ Heard e ∷ [])))
 unfolding run_of
-run_once m rooms0 rooms asks0 asks events0 events outs0 outs log lines e s some more os ss bs =
-    run_more m (events_in log) e (begin rooms0 (luck_of asks0 events0 (s.outcomes ++ os) (sends_in log ++ ss) (s.starved ++ bs)))
-    ∙ ap (once m e) (s.runs os ss bs)
-    ∙ ap (λ (b : Bool). if b then run s.conns events (course rooms asks os ss bs s.calls log) else met m e (took e (run s.conns events (course rooms asks os ss bs s.calls log)))) (going s.conns events rooms asks os ss bs s.calls log some more)
+run_once start now events0 events log lines e s some more os ss bs =
+    run_more start.manner (events_in log) e (begin start.rooms (luck_of (stated_at start events0) (s.outcomes ++ os) (sends_in log ++ ss) (s.starved ++ bs)))
+    ∙ ap (once start.manner e) (s.runs os ss bs)
+    ∙ ap (λ (b : Bool). if b then run s.conns events (course now.rooms now.room os ss bs s.calls log) else met start.manner e (took e (run s.conns events (course now.rooms now.room os ss bs s.calls log)))) (going s.conns events now.rooms now.room os ss bs s.calls log some more)
 
-pub stands_more : (m : Manner) (rooms0 x y : List Room) (asks0 i j events0 events : ℕ) (outs0 o p : List Outcome) (u v : List LogEntry) (lines lines' : List Line)
-    → (s : Stands m rooms0 x asks0 i events0 events outs0 o u lines) → 0 < events → 0 < i → Takes m lines' s.conns x y i j o p u v
-    → Stands m rooms0 y asks0 j events0 (events - 1) outs0 p v lines'
-stands_more m rooms0 x y asks0 i j events0 events outs0 o p u v lines lines' s some more t =
+pub stands_more : (start x y : DeskState) (events0 events : ℕ) (u v : List LogEntry) (lines lines' : List Line)
+    → (s : Stands start x events0 events u lines) → y.manner ≡ x.manner → 0 < events → 0 < x.room → Takes lines' s.conns x y u v
+    → Stands start y events0 (events - 1) v lines'
+stands_more start x y events0 events u v lines lines' s same some more t =
     let d = t.meets in
     let ev : events_in v ≡ events_in u ++ t.event ∷ [] = d.quiet ∙ one_event u t.event in
     let sh : sends_in v ≡ sends_in u ++ d.sends = d.shown ∙ ap (λ (l : List (Option ℕ)). l ++ d.sends) (no_send u t.event) in
     record {
+      manner = same ∙ s.manner;
       conns = d.conns';
       kept = d.kept;
       live = d.live;
@@ -100,19 +104,20 @@ stands_more m rooms0 x y asks0 i j events0 events outs0 o p u v lines lines' s s
       outcomes = s.outcomes ++ d.outcomes;
       starved = s.starved ++ d.starved;
       calls = s.calls ++ d.calls;
-      gained = d.gained ∙ ap (λ (l : List Outcome). l ++ d.outcomes) s.gained ∙ append_assoc outs0 s.outcomes d.outcomes;
+      gained = d.gained ∙ ap (λ (l : List Outcome). l ++ d.outcomes) s.gained ∙ append_assoc start.outcomes s.outcomes d.outcomes;
       runs = λ os ss bs.
           rw (ev, sh, append_assoc s.outcomes d.outcomes os, append_assoc (sends_in u) d.sends ss, append_assoc s.starved d.starved bs) (
-          run_once m rooms0 x asks0 i events0 events outs0 o u lines t.event s some more (d.outcomes ++ os) (d.sends ++ ss) (d.starved ++ bs)
+          run_once start x events0 events u lines t.event s some more (d.outcomes ++ os) (d.sends ++ ss) (d.starved ++ bs)
+          ∙ ap (λ (m : Manner). met m t.event (run s.conns (events - 1) (course x.rooms x.room (d.outcomes ++ os) (d.sends ++ ss) (d.starved ++ bs) s.calls (u ++ Heard t.event ∷ [])))) (sym s.manner)
           ∙ d.runs (events - 1) os ss bs s.calls
           );
     }
 
 -- ---- its ends
 
-serves_by : (m : Manner) (rooms0 rooms : List Room) (asks0 asks events0 events : ℕ) (outs0 outs : List Outcome) (log : List LogEntry) (conns : List (ℕ × List ℕ)) (outcomes : List Outcome) (starved : List Bool) (calls : List Call) → outs ≡ outs0 ++ outcomes
-    → run_of m rooms0 (events_in log) (luck_of asks0 events0 outcomes (sends_in log) starved) ≡ run conns events (course rooms asks [] [] [] calls log) → Serves m rooms0 rooms asks0 asks events0 outs0 outs log
-serves_by m rooms0 rooms asks0 asks events0 events outs0 outs log conns outcomes starved calls gained runs = record {
+serves_by : (start now : DeskState) (events0 events : ℕ) (log : List LogEntry) (conns : List (ℕ × List ℕ)) (outcomes : List Outcome) (starved : List Bool) (calls : List Call) → now.outcomes ≡ start.outcomes ++ outcomes
+    → run_of start.manner start.rooms (events_in log) (luck_of (stated_at start events0) outcomes (sends_in log) starved) ≡ run conns events (course now.rooms now.room [] [] [] calls log) → Serves start now events0 log
+serves_by start now events0 events log conns outcomes starved calls gained runs = record {
   outcomes = outcomes;
   starved = starved;
   gained = gained;
@@ -123,19 +128,18 @@ serves_by m rooms0 rooms asks0 asks events0 events outs0 outs log conns outcomes
 }
 
 -- no more events came
-pub stands_done : (m : Manner) (rooms0 rooms : List Room) (asks0 asks events0 events : ℕ) (outs0 outs : List Outcome) (log log' : List LogEntry) (lines : List Line) → Stands m rooms0 rooms asks0 asks events0 events outs0 outs log lines → log' ≡ log
-    → Serves m rooms0 rooms asks0 asks events0 outs0 outs log'
-stands_done m rooms0 rooms asks0 asks events0 events outs0 outs log log' lines s same = rw same (
-    serves_by m rooms0 rooms asks0 asks events0 events outs0 outs log s.conns s.outcomes s.starved s.calls s.gained (rw (append-nil s.outcomes, append-nil (sends_in log), append-nil s.starved) at (s.runs [] [] []))
+pub stands_done : (start now : DeskState) (events0 events : ℕ) (log log' : List LogEntry) (lines : List Line) → Stands start now events0 events log lines → log' ≡ log → Serves start now events0 log'
+stands_done start now events0 events log log' lines s same = rw same (
+    serves_by start now events0 events log s.conns s.outcomes s.starved s.calls s.gained (rw (append-nil s.outcomes, append-nil (sends_in log), append-nil s.starved) at (s.runs [] [] []))
     )
 
 -- the end came
-pub stands_end : (m : Manner) (rooms0 rooms : List Room) (asks0 asks events0 events : ℕ) (outs0 outs : List Outcome) (log log' : List LogEntry) (lines : List Line) → Stands m rooms0 rooms asks0 asks events0 events outs0 outs log lines → 0 < events → 0 < asks
-    → log' ≡ log ++ Heard End ∷ [] → Serves m rooms0 rooms asks0 asks events0 outs0 outs log'
-stands_end m rooms0 rooms asks0 asks events0 events outs0 outs log log' lines s some more e =
-    let runs = run_once m rooms0 rooms asks0 asks events0 events outs0 outs log lines End s some more [] [] [] in
+pub stands_end : (start now : DeskState) (events0 events : ℕ) (log log' : List LogEntry) (lines : List Line) → Stands start now events0 events log lines → 0 < events → 0 < now.room → log' ≡ log ++ Heard End ∷ []
+    → Serves start now events0 log'
+stands_end start now events0 events log log' lines s some more e =
+    let runs = run_once start now events0 events log lines End s some more [] [] [] in
     rw e (
-    serves_by m rooms0 rooms asks0 asks events0 0 outs0 outs (log ++ Heard End ∷ []) s.conns s.outcomes s.starved s.calls s.gained
+    serves_by start now events0 0 (log ++ Heard End ∷ []) s.conns s.outcomes s.starved s.calls s.gained
     (rw (one_event log End, no_send log End) (rw (append-nil s.outcomes, append-nil (sends_in log), append-nil s.starved) at runs))
     )
 
@@ -147,18 +151,18 @@ pub one_longer : (log log' : List LogEntry) (e : Arrival) (n : ℕ) → events_i
 one_longer log log' e n same long = ap length (same ∙ one_event log e) ∙ length-append (events_in log) (e ∷ []) ∙ ap (λ (k : ℕ). k + 1) long
 
 -- an event was taken and dealt with: the call stands one event on, or its asks are used up
-pub record Onward (m : Manner) (rooms0 y : List Room) (asks0 j events0 events : ℕ) (outs0 p : List Outcome) (u v : List LogEntry) (lines' : List Line) : Type 0 where
-  pub stands : Stands m rooms0 y asks0 j events0 events outs0 p v lines'
+pub record Onward (start y : DeskState) (events0 events : ℕ) (u v : List LogEntry) (lines' : List Line) : Type 0 where
+  pub stands : Stands start y events0 events v lines'
   pub longer : length (events_in v) ≡ length (events_in u) + 1
 
-pub onward : (m : Manner) (rooms0 x y : List Room) (asks0 i j events0 taken : ℕ) (outs0 o p : List Outcome) (u v : List LogEntry) (lines lines' : List Line)
-    → Stands m rooms0 x asks0 i events0 (events0 - taken) outs0 o u lines → taken < events0 → 0 < i → ((conns : List (ℕ × List ℕ)) → AreKept lines conns → Takes m lines' conns x y i j o p u v)
-    → Onward m rooms0 y asks0 j events0 (events0 - (taken + 1)) outs0 p u v lines'
-onward m rooms0 x y asks0 i j events0 taken outs0 o p u v lines lines' s few some takes =
+pub onward : (start x y : DeskState) (events0 taken : ℕ) (u v : List LogEntry) (lines lines' : List Line)
+    → Stands start x events0 (events0 - taken) u lines → y.manner ≡ x.manner → taken < events0 → 0 < x.room → ((conns : List (ℕ × List ℕ)) → AreKept lines conns → Takes lines' conns x y u v)
+    → Onward start y events0 (events0 - (taken + 1)) u v lines'
+onward start x y events0 taken u v lines lines' s same few some takes =
     let t = takes s.conns (s.kept some) in
     let n : events0 - taken - 1 ≡ events0 - (taken + 1) = omega arith in
     let more : 0 < events0 - taken = omega (arith, few) in
     record {
-      stands = subst (λ (k : ℕ). Stands m rooms0 y asks0 j events0 k outs0 p v lines') n (stands_more m rooms0 x y asks0 i j events0 (events0 - taken) outs0 o p u v lines lines' s more some t);
+      stands = subst (λ (k : ℕ). Stands start y events0 k v lines') n (stands_more start x y events0 (events0 - taken) u v lines lines' s same more some t);
       longer = one_longer u v t.event (length (events_in u)) t.meets.quiet refl;
     }

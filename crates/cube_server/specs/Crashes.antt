@@ -1,11 +1,13 @@
 -- What a crash may leave of the logs of a store, while a desk is asked.
-use Rattle.std.specs.Prelude.{◌≡◌, ◌↔◌, ℕ, ◌+◌, ◌-◌, ◌^◌, ◌≤◌, min, Bool, true, false, IsTrue, List, [], ◌∷◌, count_by}
+use Rattle.std.specs.Prelude.{◌≡◌, ◌↔◌, ℕ, ◌+◌, ◌-◌, ◌^◌, ◌≤◌, min, Bool, true, false, IsTrue, List, [], ◌∷◌, length, count_by}
 use Rattle.cube_model.specs.declared.outcome.Outcome.{Outcome}
 use Rattle.cube_model.specs.declared.outcome.Outcome.TheVariants.{Given, JournalFault, NoMemory}
 use Rattle.cube_model.specs.Rooms.{Room}
 use Rattle.cube_io.specs.Desks.{Manner, ForeignStay}
-use Rattle.cube_io.specs.States.{State, Log, Gained}
+use Rattle.cube_io.specs.Seen.{StoreState}
+use Rattle.cube_io.specs.States.{State, Gained}
 use Rattle.cube_server.specs.Logs.{Call}
+use Rattle.cube_server.specs.Seen.{DeskState}
 
 -- the rooms that some asks leave
 abbrev pub after : Manner → List Room → List Call → List Room
@@ -32,19 +34,27 @@ is_fault NoMemory = false
 abbrev pub faults_in : List Outcome → ℕ
 faults_in outcomes = count_by is_fault outcomes
 
--- What asks do to a store. Where `within` held of the rooms at entry, it holds at each state that a log gains of the rooms that some
--- of the asks leave, and at exit of the last rooms. Where `exact` held and the journal failed in no ask, it holds at exit. The count of
--- the store's faults rose for each ask in which the journal failed, and for no other. Logs that keep no room's history stayed.
-pub record Endures (m : Manner) (within within' exact exact' : List Room → ℕ → State → Type 0) (tells tells' : Bool) (logs logs' : ℕ → Log) (rooms rooms' : List Room) (outs outs' : List Outcome) (faults faults' : ℕ) : Type 0 where
-  pub told : tells' ≡ tells
-  pub reached : Reaches m rooms rooms'
+-- What asks do to a desk and to a store. The desk's manner stays, and each ask takes room for one and leaves one outcome. The store
+-- tells what it told and was asked for no name. Where `within` held of the rooms at entry, it holds at each state that a log gains of the
+-- rooms that some of the asks leave, and at exit of the last rooms. Where `exact` held and the journal failed in no ask, it holds at
+-- exit. The count of the store's faults rose for each ask in which the journal failed, and for no other. Logs that keep no room's
+-- history stayed.
+pub record Endures (within within' exact exact' : List Room → ℕ → State → Type 0) (old new : DeskState) (store store' : StoreState) : Type 0 where
+  pub manner : new.manner ≡ old.manner
+  pub counted : new.room + length new.outcomes ≡ old.room + length old.outcomes
+  pub fewer : new.room ≤ old.room
+  pub told : store'.told ≡ store.told
+  pub names : IsTrue store.told → store'.names ≡ store.names
+  pub reached : Reaches old.manner old.rooms new.rooms
   pub within_stays : (r : List Room) (log : ℕ) (state : State) → within' r log state ↔ within r log state
   pub exact_stays : (r : List Room) (log : ℕ) (state : State) → exact' r log state ↔ exact r log state
-  pub passed : IsTrue tells → (log : ℕ) → within rooms log (logs log).state → Gained (OnTheWay m within rooms rooms' log) (logs log) (logs' log)
-  pub stays_within : IsTrue tells → (log : ℕ) → within rooms log (logs log).state → within' rooms' log (logs' log).state
-  pub stays_exact : faults_in outs' ≡ faults_in outs → IsTrue tells → (log : ℕ) → exact rooms log (logs log).state → exact' rooms' log (logs' log).state
-  pub others : ForeignStay tells within logs logs'
-  pub more : faults_in outs ≤ faults_in outs'
-  pub later : faults ≤ faults'
-  pub steady : faults_in outs' ≡ faults_in outs → faults' ≡ faults
-  pub risen : min (faults + (faults_in outs' - faults_in outs)) (2 ^ 64 - 1) ≤ faults'
+  pub passed : IsTrue store.told → (log : ℕ) → within old.rooms log (store.logs log).state
+      → Gained (OnTheWay old.manner within old.rooms new.rooms log) (store.logs log) (store'.logs log)
+  pub stays_within : IsTrue store.told → (log : ℕ) → within old.rooms log (store.logs log).state → within' new.rooms log (store'.logs log).state
+  pub stays_exact : faults_in new.outcomes ≡ faults_in old.outcomes → IsTrue store.told → (log : ℕ) → exact old.rooms log (store.logs log).state
+      → exact' new.rooms log (store'.logs log).state
+  pub others : ForeignStay within store store'
+  pub more : faults_in old.outcomes ≤ faults_in new.outcomes
+  pub later : store.faults ≤ store'.faults
+  pub steady : faults_in new.outcomes ≡ faults_in old.outcomes → store'.faults ≡ store.faults
+  pub risen : min (store.faults + (faults_in new.outcomes - faults_in old.outcomes)) (2 ^ 64 - 1) ≤ store'.faults

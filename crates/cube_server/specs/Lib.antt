@@ -1,3 +1,4 @@
+pub mod Seen
 pub mod Logs
 pub mod Rows
 pub mod Ears

@@ -16,10 +16,12 @@ use Rattle.cube_http.specs.Stream.{Request}
 use Rattle.cube_http.specs.declared.connection.Heard.{Heard as Sound}
 use Rattle.cube_http.specs.declared.connection.Heard.TheVariants as heard
 use Rattle.cube_http.specs.declared.targets.Wanted.{Wanted}
-use Rattle.cube_server.specs.Logs.{Luck, Call, Course, Turn, Run, spoken, replied, answered, wanted_by, run_of, log_of, end_of, met}
+use Rattle.cube_server.specs.Logs.{Luck, Call, Course, Turn, Run, spoken, replied, answered, wanted_by, dealt_all, behind, run_of, log_of, end_of, met}
 use Rattle.cube_server.specs.declared.serving.ServeFault.{ServeFault}
 use Rattle.cube_server.specs.declared.serving.ServeFault.TheVariants as fault
-use Rattle.cube_server.specs.Ears.{AreKept, AreOpen}
+use Rattle.cube_server.specs.Seen.{DeskState}
+use Rattle.cube_server.specs.Ears.{AreKept, AreOpen, OnGoes, is_on}
+use Rattle.cube_server.specs.declared.deal.Left.{Left}
 use Rattle.cube_server.specs.declared.lines.Line.{Line}
 
 -- each reply of the desk has a status with a phrase
@@ -66,21 +68,27 @@ pub record Speaks (c : ℕ) (op : Turn → Turn) (log log' : List LogEntry) (liv
   pub runs : (k : Course) (left : List (Option ℕ)) → op (turn (speaking k (sends ++ left) log) true) ≡ turn (speaking k left log') live
 
 -- a step of the definition that may ask the desk too
-pub record Deals (c : ℕ) (op : Turn → Turn) (rooms rooms' : List Room) (asks asks' : ℕ) (outs outs' : List Outcome) (log log' : List LogEntry) (live : Bool) : Type 0 where
+pub record Deals (c : ℕ) (op : Turn → Turn) (old new : DeskState) (log log' : List LogEntry) (live : Bool) : Type 0 where
   pub talks : Talks c log log' live
   pub outcomes : List Outcome
   pub sends : List (Option ℕ)
   pub starved : List Bool
   pub calls : List Call
-  pub gained : outs' ≡ outs ++ outcomes
+  pub gained : new.outcomes ≡ old.outcomes ++ outcomes
   pub shown : sends_in log' ≡ sends_in log ++ sends
   pub runs : (os : List Outcome) (ss : List (Option ℕ)) (bs : List Bool) (cs : List Call)
-      → op (turn (course rooms asks (outcomes ++ os) (sends ++ ss) (starved ++ bs) cs log) true) ≡ turn (course rooms' asks' os ss bs (cs ++ calls) log') live
+      → op (turn (course old.rooms old.room (outcomes ++ os) (sends ++ ss) (starved ++ bs) cs log) true) ≡ turn (course new.rooms new.room os ss bs (cs ++ calls) log') live
 
 -- the reply to what a request wants: where it goes out, the request was dealt with
-abbrev pub MakesReply : Manner → Wanted → List Room → List Room → ℕ → ℕ → List Outcome → List Outcome → Reply → Type 0
-MakesReply m w rooms rooms' asks asks' outs outs' r =
-    (q : Request) (c : ℕ) (log log' : List LogEntry) (live : Bool) → Speaks c (answered c q r) log log' live → Deals c (wanted_by m w c q) rooms rooms' asks asks' outs outs' log log' live
+abbrev pub MakesReply : Wanted → DeskState → DeskState → Reply → Type 0
+MakesReply w old new r =
+    (q : Request) (c : ℕ) (log log' : List LogEntry) (live : Bool) → Speaks c (answered c q r) log log' live → Deals c (wanted_by old.manner w c q) old new log log' live
+
+-- A piece on a connection on which a stream came before: what the items whose last byte lies in it lead to, and, while asks may be made,
+-- that an open connection keeps what goes on as the stream with the piece does.
+pub record HearsPiece (c : ℕ) (stream piece : List ℕ) (old new : DeskState) (log log' : List LogEntry) (left : Left) : Type 0 where
+  pub deals : Deals c (dealt_all old.manner c (behind (length stream) (stream ++ piece))) old new log log' (is_on left)
+  pub goes : 0 < new.room → OnGoes left (stream ++ piece)
 
 -- what is sent where the client may wait for leave
 abbrev pub body_said : ℕ → Bool → Turn → Turn
@@ -94,35 +102,48 @@ dead_said c heard.Whole t = t
 dead_said c (heard.Bad fixed) t = replied c (reply.Fixed fixed) true false t
 
 -- a step of the definition at an event: which connections are open behind it is told too
-pub record Meets (op : Run → Run) (lines' : List Line) (conns : List (ℕ × List ℕ)) (rooms rooms' : List Room) (asks asks' : ℕ) (outs outs' : List Outcome) (log log' : List LogEntry) : Type 0 where
+pub record Meets (op : Run → Run) (lines' : List Line) (conns : List (ℕ × List ℕ)) (old new : DeskState) (log log' : List LogEntry) : Type 0 where
   pub conns' : List (ℕ × List ℕ)
-  pub kept : 0 < asks' → AreKept lines' conns'
+  pub kept : 0 < new.room → AreKept lines' conns'
   pub live : AreOpen lines' log'
   pub quiet : events_in log' ≡ events_in log
   pub outcomes : List Outcome
   pub sends : List (Option ℕ)
   pub starved : List Bool
   pub calls : List Call
-  pub gained : outs' ≡ outs ++ outcomes
+  pub gained : new.outcomes ≡ old.outcomes ++ outcomes
   pub shown : sends_in log' ≡ sends_in log ++ sends
   pub runs : (n : ℕ) (os : List Outcome) (ss : List (Option ℕ)) (bs : List Bool) (cs : List Call)
-      → op (run conns n (course rooms asks (outcomes ++ os) (sends ++ ss) (starved ++ bs) cs log)) ≡ run conns' n (course rooms' asks' os ss bs (cs ++ calls) log')
+      → op (run conns n (course old.rooms old.room (outcomes ++ os) (sends ++ ss) (starved ++ bs) cs log)) ≡ run conns' n (course new.rooms new.room os ss bs (cs ++ calls) log')
+
+-- the same, whatever came on the connections that were open before
+abbrev pub MeetsAll : (Run → Run) → List Line → List Line → DeskState → DeskState → List LogEntry → List LogEntry → Type 0
+MeetsAll op lines lines' old new log log' = (conns : List (ℕ × List ℕ)) → AreKept lines conns → Meets op lines' conns old new log log'
+
+-- the stated numbers of asks and of events
+pub record Stated : Type 0 where
+  pub asks : ℕ
+  pub events : ℕ
 
 -- a whole luck
-abbrev pub luck_of : ℕ → ℕ → List Outcome → List (Option ℕ) → List Bool → Luck
-luck_of asks events outcomes sends starved = record { asks = asks; events = events; outcomes = outcomes; sends = sends; starved = starved }
+abbrev pub luck_of : Stated → List Outcome → List (Option ℕ) → List Bool → Luck
+luck_of stated outcomes sends starved = record { asks = stated.asks; events = stated.events; outcomes = outcomes; sends = sends; starved = starved }
 
--- The log of a whole call. It is the log of the definition for the rooms at entry, the events that it shows, and the stated numbers,
--- the outcomes that were gained, the sends as the log shows them, and what constant replies starved. No outcome is left over, the
--- rooms are those at the end of the definition's run, and as many asks are left as the desk has room for.
-pub record Serves (m : Manner) (rooms rooms' : List Room) (asks asks' events : ℕ) (outs outs' : List Outcome) (log : List LogEntry) : Type 0 where
+-- as many asks as the desk has room for
+abbrev pub stated_at : DeskState → ℕ → Stated
+stated_at desk events = record { asks = desk.room; events = events }
+
+-- The log of a whole call that takes so many events at most. It is the log of the definition for the rooms at entry, the events that it
+-- shows, and the stated numbers, the outcomes that were gained, the sends as the log shows them, and what constant replies starved. No
+-- outcome is left over, the rooms are those at the end of the definition's run, and as many asks are left as the desk has room for.
+pub record Serves (old new : DeskState) (events : ℕ) (log : List LogEntry) : Type 0 where
   pub outcomes : List Outcome
   pub starved : List Bool
-  pub gained : outs' ≡ outs ++ outcomes
-  pub told : log ≡ log_of m rooms (events_in log) (luck_of asks events outcomes (sends_in log) starved)
-  pub ended : rooms' ≡ end_of m rooms (events_in log) (luck_of asks events outcomes (sends_in log) starved)
-  pub none_left : (run_of m rooms (events_in log) (luck_of asks events outcomes (sends_in log) starved)).course.outcomes ≡ []
-  pub asks_left : (run_of m rooms (events_in log) (luck_of asks events outcomes (sends_in log) starved)).course.asks ≡ asks'
+  pub gained : new.outcomes ≡ old.outcomes ++ outcomes
+  pub told : log ≡ log_of old.manner old.rooms (events_in log) (luck_of (stated_at old events) outcomes (sends_in log) starved)
+  pub ended : new.rooms ≡ end_of old.manner old.rooms (events_in log) (luck_of (stated_at old events) outcomes (sends_in log) starved)
+  pub none_left : (run_of old.manner old.rooms (events_in log) (luck_of (stated_at old events) outcomes (sends_in log) starved)).course.outcomes ≡ []
+  pub asks_left : (run_of old.manner old.rooms (events_in log) (luck_of (stated_at old events) outcomes (sends_in log) starved)).course.asks ≡ new.room
 
 abbrev pub is_end : Arrival → Bool
 is_end (Opened c) = false
@@ -135,14 +156,18 @@ abbrev pub has_end : List LogEntry → Bool
 has_end log = list_any is_end (events_in log)
 
 -- an event that is not the end was taken, and what it leads to was done
-pub record Takes (m : Manner) (lines' : List Line) (conns : List (ℕ × List ℕ)) (rooms rooms' : List Room) (asks asks' : ℕ) (outs outs' : List Outcome) (log log' : List LogEntry) : Type 0 where
+pub record Takes (lines' : List Line) (conns : List (ℕ × List ℕ)) (old new : DeskState) (log log' : List LogEntry) : Type 0 where
   pub event : Arrival
   pub more : is_end event ≡ false
-  pub meets : Meets (met m event) lines' conns rooms rooms' asks asks' outs outs' (log ++ Heard event ∷ []) log'
+  pub meets : Meets (met old.manner event) lines' conns old new (log ++ Heard event ∷ []) log'
 
--- What is said by the fault that ends a call: the wire failed before the stated asks and events were used up; or one of these was, and
--- both were counted.
-abbrev pub IsCounted : ServeFault → Bool → List Outcome → List Outcome → ℕ → ℕ → List LogEntry → Type 0
-IsCounted fault.WireFailed told outs outs' asks' events log = (0 < asks') × (IsTrue told → length (events_in log) < events)
-IsCounted (fault.Spent requests taken) told outs outs' asks' events log =
-    (length outs' ≡ length outs + requests) × (IsTrue told → length (events_in log) ≡ taken) × (taken ≤ events) × ((asks' ≡ 0) ⊎ (taken ≡ events))
+-- the same, whatever came on the connections that were open before
+abbrev pub TakesAll : List Line → List Line → DeskState → DeskState → List LogEntry → List LogEntry → Type 0
+TakesAll lines lines' old new log log' = (conns : List (ℕ × List ℕ)) → AreKept lines conns → Takes lines' conns old new log log'
+
+-- What is said by the fault that ends a call of at most so many events: the wire failed before the stated asks and events were used up;
+-- or one of these was, and both were counted.
+abbrev pub IsCounted : ServeFault → Bool → DeskState → DeskState → ℕ → List LogEntry → Type 0
+IsCounted fault.WireFailed told old new events log = (0 < new.room) × (IsTrue told → length (events_in log) < events)
+IsCounted (fault.Spent requests taken) told old new events log =
+    (length new.outcomes ≡ length old.outcomes + requests) × (IsTrue told → length (events_in log) ≡ taken) × (taken ≤ events) × ((new.room ≡ 0) ⊎ (taken ≡ events))

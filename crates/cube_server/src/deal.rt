@@ -1,13 +1,12 @@
 // What is said on one connection, and what it leads to.
-ghost use Rattle.std.specs.Prelude.{◌≡◌, ◌<◌, ◌≤◌, ◌+◌, ◌++◌, ◌∷◌, [], ℕ, List, length, drop, IsTrue, true, false};
+ghost use Rattle.std.specs.Prelude.{◌≡◌, ◌<◌, ◌≤◌, [], ℕ, List, length, drop, IsTrue, true, false};
 ghost use Rattle.cube_io.specs.Wires.{IsSound};
-ghost use Rattle.cube_http.specs.Stream.Item.{Continue, Bad};
 ghost use Rattle.cube_http.specs.Targets.{wanted};
 ghost use Rattle.cube_server.specs.Crashes.{Endures};
-ghost use Rattle.cube_server.specs.Ears.{kept_bytes, said, Fits, Keeps, is_on, is_continue, IsBad, OnKeeps, OnLeaves, OnGoes};
-ghost use Rattle.cube_server.specs.Logs.{wanted_by, dealt_all, behind};
-ghost use Rattle.cube_server.specs.Steps.{Speaks, body_said, dead_said};
-ghost use Rattle.cube_server.specs.Steps.{Deals, MakesReply, IsPhrased};
+ghost use Rattle.cube_server.specs.Ears.{kept_bytes, said, Fits, Keeps, is_on, is_continue, IsBad, OnKeeps, OnLeaves};
+ghost use Rattle.cube_server.specs.Logs.{wanted_by, dealt_all};
+ghost use Rattle.cube_server.specs.Seen.{desk_of, OnlySends};
+ghost use Rattle.cube_server.specs.Steps.{Speaks, Deals, MakesReply, HearsPiece, IsPhrased, body_said, dead_said};
 ghost use Rattle.cube_http.specs.Responses.{has_phrase, status_of};
 
 use crate::lines::Ear;
@@ -39,15 +38,10 @@ fn reply_to<S: Store, D: Desk<S>>(
     requires fits { D.fits desk.old store.old }
     requires room { 1 ≤ D.room desk.old }
     requires phrased { IsPhrased (D.manner desk.old) }
-    ensures deals { MakesReply (D.manner desk.old) wanted.now (D.rooms desk.old) (D.rooms desk.new) (D.room desk.old) (D.room desk.new) (D.outcomes desk.old) (D.outcomes desk.new) result }
+    ensures deals { let at = desk_of D.manner D.rooms D.room D.outcomes in MakesReply wanted.now (at desk.old) (at desk.new) result }
     ensures phrase { IsTrue (has_phrase (status_of result)) }
-    ensures manner { D.manner desk.new ≡ D.manner desk.old }
     ensures fits { D.fits desk.new store.new }
-    ensures endures { Endures (D.manner desk.old) (D.within desk.old) (D.within desk.new) (D.exact desk.old) (D.exact desk.new) (S.told store.old) (S.told store.new) (S.logs store.old) (S.logs store.new)
-        (D.rooms desk.old) (D.rooms desk.new) (D.outcomes desk.old) (D.outcomes desk.new) (S.faults store.old) (S.faults store.new) }
-    ensures stored { IsTrue (S.told store.old) → S.names store.new ≡ S.names store.old }
-    ensures counted { D.room desk.new + length (D.outcomes desk.new) ≡ D.room desk.old + length (D.outcomes desk.old) }
-    ensures fewer { D.room desk.new ≤ D.room desk.old }
+    ensures endures { let at = desk_of D.manner D.rooms D.room D.outcomes in Endures (D.within desk.old) (D.within desk.new) (D.exact desk.old) (D.exact desk.new) (at desk.old) (at desk.new) (S.state store.old) (S.state store.new) }
 {
     match wanted {
         Wanted::Asked(ask) => desk.answer(alloc, store, ask),
@@ -65,15 +59,10 @@ fn make_reply<S: Store, D: Desk<S>>(
     requires fits { D.fits desk.old store.old }
     requires room { 1 ≤ D.room desk.old }
     requires phrased { IsPhrased (D.manner desk.old) }
-    ensures deals { MakesReply (D.manner desk.old) (wanted done.now) (D.rooms desk.old) (D.rooms desk.new) (D.room desk.old) (D.room desk.new) (D.outcomes desk.old) (D.outcomes desk.new) result }
+    ensures deals { let at = desk_of D.manner D.rooms D.room D.outcomes in MakesReply (wanted done.now) (at desk.old) (at desk.new) result }
     ensures phrase { IsTrue (has_phrase (status_of result)) }
-    ensures manner { D.manner desk.new ≡ D.manner desk.old }
     ensures fits { D.fits desk.new store.new }
-    ensures endures { Endures (D.manner desk.old) (D.within desk.old) (D.within desk.new) (D.exact desk.old) (D.exact desk.new) (S.told store.old) (S.told store.new) (S.logs store.old) (S.logs store.new)
-        (D.rooms desk.old) (D.rooms desk.new) (D.outcomes desk.old) (D.outcomes desk.new) (S.faults store.old) (S.faults store.new) }
-    ensures stored { IsTrue (S.told store.old) → S.names store.new ≡ S.names store.old }
-    ensures counted { D.room desk.new + length (D.outcomes desk.new) ≡ D.room desk.old + length (D.outcomes desk.old) }
-    ensures fewer { D.room desk.new ≤ D.room desk.old }
+    ensures endures { let at = desk_of D.manner D.rooms D.room D.outcomes in Endures (D.within desk.old) (D.within desk.new) (D.exact desk.old) (D.exact desk.new) (at desk.old) (at desk.new) (S.state store.old) (S.state store.new) }
 {
     match done.wanted(alloc) {
         Ok(wanted) => reply_to(alloc, desk, store, &wanted),
@@ -93,21 +82,11 @@ fn answer_request<S: Store, D: Desk<S>, W: Wire>(
     requires fits { D.fits desk.old store.old }
     requires room { 1 ≤ D.room desk.old }
     requires phrased { IsPhrased (D.manner desk.old) }
-    requires live { IsTrue (W.told wire.old) → IsSound c (W.log wire.old) }
-    ensures deals { IsTrue (W.told wire.old) → Deals c (wanted_by (D.manner desk.old) (wanted done.now) c done.now) (D.rooms desk.old) (D.rooms desk.new) (D.room desk.old) (D.room desk.new)
-        (D.outcomes desk.old) (D.outcomes desk.new) (W.log wire.old) (W.log wire.new) result }
-    ensures manner { D.manner desk.new ≡ D.manner desk.old }
+    requires live { IsTrue (W.state wire.old).told → IsSound c (W.state wire.old).log }
+    ensures deals { let at = desk_of D.manner D.rooms D.room D.outcomes in IsTrue (W.state wire.old).told → Deals c (wanted_by (D.manner desk.old) (wanted done.now) c done.now) (at desk.old) (at desk.new) (W.state wire.old).log (W.state wire.new).log result }
     ensures fits { D.fits desk.new store.new }
-    ensures endures { Endures (D.manner desk.old) (D.within desk.old) (D.within desk.new) (D.exact desk.old) (D.exact desk.new) (S.told store.old) (S.told store.new) (S.logs store.old) (S.logs store.new)
-        (D.rooms desk.old) (D.rooms desk.new) (D.outcomes desk.old) (D.outcomes desk.new) (S.faults store.old) (S.faults store.new) }
-    ensures stored { IsTrue (S.told store.old) → S.names store.new ≡ S.names store.old }
-    ensures counted { D.room desk.new + length (D.outcomes desk.new) ≡ D.room desk.old + length (D.outcomes desk.old) }
-    ensures fewer { D.room desk.new ≤ D.room desk.old }
-    ensures told { W.told wire.new ≡ W.told wire.old }
-    ensures plan { W.plan wire.new ≡ W.plan wire.old }
-    ensures names { IsTrue (W.told wire.old) → W.heard wire.new ≡ W.heard wire.old }
-    ensures faults { W.faults wire.new ≡ W.faults wire.old }
-    ensures sends { W.send_faults wire.old ≤ W.send_faults wire.new }
+    ensures endures { let at = desk_of D.manner D.rooms D.room D.outcomes in Endures (D.within desk.old) (D.within desk.new) (D.exact desk.old) (D.exact desk.new) (at desk.old) (at desk.new) (S.state store.old) (S.state store.new) }
+    ensures sending { OnlySends (W.state wire.old) (W.state wire.new) }
 {
     let reply = make_reply(alloc, desk, store, done);
     send_reply(wire, c, &reply, done.closes(), done.head_only())
@@ -125,14 +104,10 @@ fn waits(heard: Heard) -> bool
 
 // A body goes on. The client may wait for leave to send it.
 fn deal_body<W: Wire>(wire: &mut W, c: u32, body: BodyConn, waits: bool) -> Left
-    requires live { IsTrue (W.told wire.old) → IsSound c (W.log wire.old) }
-    ensures says { IsTrue (W.told wire.old) → Speaks c (body_said c waits) (W.log wire.old) (W.log wire.new) (is_on result) }
+    requires live { IsTrue (W.state wire.old).told → IsSound c (W.state wire.old).log }
+    ensures says { IsTrue (W.state wire.old).told → Speaks c (body_said c waits) (W.state wire.old).log (W.state wire.new).log (is_on result) }
     ensures keeps { OnKeeps result body }
-    ensures told { W.told wire.new ≡ W.told wire.old }
-    ensures plan { W.plan wire.new ≡ W.plan wire.old }
-    ensures names { IsTrue (W.told wire.old) → W.heard wire.new ≡ W.heard wire.old }
-    ensures faults { W.faults wire.new ≡ W.faults wire.old }
-    ensures sends { W.send_faults wire.old ≤ W.send_faults wire.new }
+    ensures sending { OnlySends (W.state wire.old) (W.state wire.new) }
 {
     if !waits {
         return Left::On(Ear::Body(body));
@@ -146,15 +121,11 @@ fn deal_body<W: Wire>(wire: &mut W, c: u32, body: BodyConn, waits: bool) -> Left
 
 // The bytes were refused.
 fn deal_dead<W: Wire>(wire: &mut W, c: u32, dead: DeadConn, heard: Heard) -> Left
-    requires live { IsTrue (W.told wire.old) → IsSound c (W.log wire.old) }
+    requires live { IsTrue (W.state wire.old).told → IsSound c (W.state wire.old).log }
     requires bad { IsBad heard }
-    ensures says { IsTrue (W.told wire.old) → Speaks c (dead_said c heard) (W.log wire.old) (W.log wire.new) false }
+    ensures says { IsTrue (W.state wire.old).told → Speaks c (dead_said c heard) (W.state wire.old).log (W.state wire.new).log false }
     ensures off { is_on result ≡ false }
-    ensures told { W.told wire.new ≡ W.told wire.old }
-    ensures plan { W.plan wire.new ≡ W.plan wire.old }
-    ensures names { IsTrue (W.told wire.old) → W.heard wire.new ≡ W.heard wire.old }
-    ensures faults { W.faults wire.new ≡ W.faults wire.old }
-    ensures sends { W.send_faults wire.old ≤ W.send_faults wire.new }
+    ensures sending { OnlySends (W.state wire.old) (W.state wire.new) }
 {
     match heard {
         Heard::Bad(fixed) => {
@@ -177,22 +148,12 @@ fn deal_done<S: Store, D: Desk<S>, W: Wire>(
     requires fits { D.fits desk.old store.old }
     requires room { 1 ≤ D.room desk.old }
     requires phrased { IsPhrased (D.manner desk.old) }
-    requires live { IsTrue (W.told wire.old) → IsSound c (W.log wire.old) }
-    ensures deals { IsTrue (W.told wire.old) → Deals c (wanted_by (D.manner desk.old) (wanted done) c done) (D.rooms desk.old) (D.rooms desk.new) (D.room desk.old) (D.room desk.new)
-        (D.outcomes desk.old) (D.outcomes desk.new) (W.log wire.old) (W.log wire.new) (is_on result) }
+    requires live { IsTrue (W.state wire.old).told → IsSound c (W.state wire.old).log }
+    ensures deals { let at = desk_of D.manner D.rooms D.room D.outcomes in IsTrue (W.state wire.old).told → Deals c (wanted_by (D.manner desk.old) (wanted done) c done) (at desk.old) (at desk.new) (W.state wire.old).log (W.state wire.new).log (is_on result) }
     ensures keeps { OnKeeps result [] }
-    ensures manner { D.manner desk.new ≡ D.manner desk.old }
     ensures fits { D.fits desk.new store.new }
-    ensures endures { Endures (D.manner desk.old) (D.within desk.old) (D.within desk.new) (D.exact desk.old) (D.exact desk.new) (S.told store.old) (S.told store.new) (S.logs store.old) (S.logs store.new)
-        (D.rooms desk.old) (D.rooms desk.new) (D.outcomes desk.old) (D.outcomes desk.new) (S.faults store.old) (S.faults store.new) }
-    ensures stored { IsTrue (S.told store.old) → S.names store.new ≡ S.names store.old }
-    ensures counted { D.room desk.new + length (D.outcomes desk.new) ≡ D.room desk.old + length (D.outcomes desk.old) }
-    ensures fewer { D.room desk.new ≤ D.room desk.old }
-    ensures told { W.told wire.new ≡ W.told wire.old }
-    ensures plan { W.plan wire.new ≡ W.plan wire.old }
-    ensures names { IsTrue (W.told wire.old) → W.heard wire.new ≡ W.heard wire.old }
-    ensures faults { W.faults wire.new ≡ W.faults wire.old }
-    ensures sends { W.send_faults wire.old ≤ W.send_faults wire.new }
+    ensures endures { let at = desk_of D.manner D.rooms D.room D.outcomes in Endures (D.within desk.old) (D.within desk.new) (D.exact desk.old) (D.exact desk.new) (at desk.old) (at desk.new) (S.state store.old) (S.state store.new) }
+    ensures sending { OnlySends (W.state wire.old) (W.state wire.new) }
 {
     if answer_request(alloc, desk, store, wire, c, &done) {
         Left::On(Ear::Head(done.next()))
@@ -214,23 +175,13 @@ fn deal<S: Store, D: Desk<S>, W: Wire>(
     requires fits { D.fits desk.old store.old }
     requires room { 1 ≤ D.room desk.old }
     requires phrased { IsPhrased (D.manner desk.old) }
-    requires live { IsTrue (W.told wire.old) → IsSound c (W.log wire.old) }
+    requires live { IsTrue (W.state wire.old).told → IsSound c (W.state wire.old).log }
     requires heard { Fits heard conn }
-    ensures deals { IsTrue (W.told wire.old) → Deals c (dealt_all (D.manner desk.old) c (said heard conn)) (D.rooms desk.old) (D.rooms desk.new) (D.room desk.old) (D.room desk.new)
-        (D.outcomes desk.old) (D.outcomes desk.new) (W.log wire.old) (W.log wire.new) (is_on result) }
+    ensures deals { let at = desk_of D.manner D.rooms D.room D.outcomes in IsTrue (W.state wire.old).told → Deals c (dealt_all (D.manner desk.old) c (said heard conn)) (at desk.old) (at desk.new) (W.state wire.old).log (W.state wire.new).log (is_on result) }
     ensures leaves { OnLeaves result conn }
-    ensures manner { D.manner desk.new ≡ D.manner desk.old }
     ensures fits { D.fits desk.new store.new }
-    ensures endures { Endures (D.manner desk.old) (D.within desk.old) (D.within desk.new) (D.exact desk.old) (D.exact desk.new) (S.told store.old) (S.told store.new) (S.logs store.old) (S.logs store.new)
-        (D.rooms desk.old) (D.rooms desk.new) (D.outcomes desk.old) (D.outcomes desk.new) (S.faults store.old) (S.faults store.new) }
-    ensures stored { IsTrue (S.told store.old) → S.names store.new ≡ S.names store.old }
-    ensures counted { D.room desk.new + length (D.outcomes desk.new) ≡ D.room desk.old + length (D.outcomes desk.old) }
-    ensures fewer { D.room desk.new ≤ D.room desk.old }
-    ensures told { W.told wire.new ≡ W.told wire.old }
-    ensures plan { W.plan wire.new ≡ W.plan wire.old }
-    ensures names { IsTrue (W.told wire.old) → W.heard wire.new ≡ W.heard wire.old }
-    ensures faults { W.faults wire.new ≡ W.faults wire.old }
-    ensures sends { W.send_faults wire.old ≤ W.send_faults wire.new }
+    ensures endures { let at = desk_of D.manner D.rooms D.room D.outcomes in Endures (D.within desk.old) (D.within desk.new) (D.exact desk.old) (D.exact desk.new) (at desk.old) (at desk.new) (S.state store.old) (S.state store.new) }
+    ensures sending { OnlySends (W.state wire.old) (W.state wire.new) }
 {
     match conn {
         Conn::Head(head) => Left::On(Ear::Head(head)),
@@ -261,23 +212,12 @@ pub fn hear_piece<S: Store, D: Desk<S>, W: Wire>(
     requires fits { D.fits desk.old store.old }
     requires room { 1 ≤ D.room desk.old }
     requires phrased { IsPhrased (D.manner desk.old) }
-    requires live { IsTrue (W.told wire.old) → IsSound c (W.log wire.old) }
-    ensures deals { IsTrue (W.told wire.old) → (stream : List ℕ) → Keeps stream (kept_bytes ear)
-        → Deals c (dealt_all (D.manner desk.old) c (behind (length stream) (stream ++ piece.now))) (D.rooms desk.old) (D.rooms desk.new) (D.room desk.old) (D.room desk.new)
-        (D.outcomes desk.old) (D.outcomes desk.new) (W.log wire.old) (W.log wire.new) (is_on result)
-        × (0 < D.room desk.new → OnGoes result (stream ++ piece.now)) }
-    ensures manner { D.manner desk.new ≡ D.manner desk.old }
+    requires live { IsTrue (W.state wire.old).told → IsSound c (W.state wire.old).log }
+    ensures deals { let at = desk_of D.manner D.rooms D.room D.outcomes in IsTrue (W.state wire.old).told → (stream : List ℕ) → Keeps stream (kept_bytes ear)
+        → HearsPiece c stream piece.now (at desk.old) (at desk.new) (W.state wire.old).log (W.state wire.new).log result }
     ensures fits { D.fits desk.new store.new }
-    ensures endures { Endures (D.manner desk.old) (D.within desk.old) (D.within desk.new) (D.exact desk.old) (D.exact desk.new) (S.told store.old) (S.told store.new) (S.logs store.old) (S.logs store.new)
-        (D.rooms desk.old) (D.rooms desk.new) (D.outcomes desk.old) (D.outcomes desk.new) (S.faults store.old) (S.faults store.new) }
-    ensures stored { IsTrue (S.told store.old) → S.names store.new ≡ S.names store.old }
-    ensures counted { D.room desk.new + length (D.outcomes desk.new) ≡ D.room desk.old + length (D.outcomes desk.old) }
-    ensures fewer { D.room desk.new ≤ D.room desk.old }
-    ensures told { W.told wire.new ≡ W.told wire.old }
-    ensures plan { W.plan wire.new ≡ W.plan wire.old }
-    ensures names { IsTrue (W.told wire.old) → W.heard wire.new ≡ W.heard wire.old }
-    ensures faults { W.faults wire.new ≡ W.faults wire.old }
-    ensures sends { W.send_faults wire.old ≤ W.send_faults wire.new }
+    ensures endures { let at = desk_of D.manner D.rooms D.room D.outcomes in Endures (D.within desk.old) (D.within desk.new) (D.exact desk.old) (D.exact desk.new) (at desk.old) (at desk.new) (S.state store.old) (S.state store.new) }
+    ensures sending { OnlySends (W.state wire.old) (W.state wire.new) }
 {
     let mut ear = ear;
     let mut rest = piece;

@@ -10,8 +10,6 @@ mod lines;
 mod pools;
 mod reply;
 mod serving;
-#[cfg(test)]
-mod tests;
 
 pub use pools::Pool;
 pub use serving::{ServeFault, serve};

@@ -1,5 +1,5 @@
 // The connections of a pool.
-ghost use Rattle.std.specs.Prelude.{◌≡◌, ◌<◌, ◌≤◌, ◌+◌, ◌++◌, ◌∷◌, [], ℕ, List, length, take, position, true, false, vec_len, vec_capacity, IfSome, IfNone, IfOk, MatchOption};
+ghost use Rattle.std.specs.Prelude.{◌≡◌, ◌<◌, ◌≤◌, ◌+◌, ◌++◌, ◌∷◌, [], length, take, position, false, vec_len, vec_capacity, IfSome, IfNone, IfOk, MatchOption};
 ghost use Rattle.cube_http.specs.Hearing.{Hears};
 ghost use Rattle.cube_http.specs.declared.connection.Heard.TheVariants as heard;
 ghost use Rattle.cube_server.specs.Ears.{kept_bytes, said_before, at_number, has, HasRoom, IsTakenOut};

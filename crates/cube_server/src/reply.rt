@@ -1,8 +1,9 @@
 // Sends on one connection.
-ghost use Rattle.std.specs.Prelude.{◌≡◌, ◌≤◌, ℕ, IsTrue, true, false};
+ghost use Rattle.std.specs.Prelude.{◌≡◌, IsTrue, true, false};
 ghost use Rattle.cube_io.specs.Wires.{IsSound};
 ghost use Rattle.cube_http.specs.Responses.{has_phrase, status_of};
 ghost use Rattle.cube_server.specs.Logs.{spoken, spoken_all, shut_if, replied};
+ghost use Rattle.cube_server.specs.Seen.{OnlySends};
 ghost use Rattle.cube_server.specs.Steps.{Speaks, body_sends};
 
 use cube_http::{body_of, write_head};
@@ -14,13 +15,9 @@ const MAX_RESPONSE_HEAD: usize = 256;
 
 /// Sends a piece. Where that fails the connection is closed. Tells whether it is open.
 pub fn send_piece<W: Wire>(wire: &mut W, c: u32, piece: &[u8]) -> bool
-    requires { IsTrue (W.told wire.old) → IsSound c (W.log wire.old) }
-    ensures says { IsTrue (W.told wire.old) → Speaks c (spoken c piece.now) (W.log wire.old) (W.log wire.new) result }
-    ensures told { W.told wire.new ≡ W.told wire.old }
-    ensures plan { W.plan wire.new ≡ W.plan wire.old }
-    ensures names { IsTrue (W.told wire.old) → W.heard wire.new ≡ W.heard wire.old }
-    ensures faults { W.faults wire.new ≡ W.faults wire.old }
-    ensures sends { W.send_faults wire.old ≤ W.send_faults wire.new }
+    requires { IsTrue (W.state wire.old).told → IsSound c (W.state wire.old).log }
+    ensures says { IsTrue (W.state wire.old).told → Speaks c (spoken c piece.now) (W.state wire.old).log (W.state wire.new).log result }
+    ensures sending { OnlySends (W.state wire.old) (W.state wire.new) }
 {
     match wire.send(c, piece) {
         Ok(()) => true,
@@ -33,13 +30,9 @@ pub fn send_piece<W: Wire>(wire: &mut W, c: u32, piece: &[u8]) -> bool
 
 // Sends a body, unless it is left out or empty. Tells whether the connection is open.
 fn send_body<W: Wire>(wire: &mut W, c: u32, body: &[u8], head_only: bool) -> bool
-    requires { IsTrue (W.told wire.old) → IsSound c (W.log wire.old) }
-    ensures says { IsTrue (W.told wire.old) → Speaks c (spoken_all c (body_sends head_only body.now)) (W.log wire.old) (W.log wire.new) result }
-    ensures told { W.told wire.new ≡ W.told wire.old }
-    ensures plan { W.plan wire.new ≡ W.plan wire.old }
-    ensures names { IsTrue (W.told wire.old) → W.heard wire.new ≡ W.heard wire.old }
-    ensures faults { W.faults wire.new ≡ W.faults wire.old }
-    ensures sends { W.send_faults wire.old ≤ W.send_faults wire.new }
+    requires { IsTrue (W.state wire.old).told → IsSound c (W.state wire.old).log }
+    ensures says { IsTrue (W.state wire.old).told → Speaks c (spoken_all c (body_sends head_only body.now)) (W.state wire.old).log (W.state wire.new).log result }
+    ensures sending { OnlySends (W.state wire.old) (W.state wire.new) }
 {
     if head_only || body.is_empty() {
         return true;
@@ -49,13 +42,9 @@ fn send_body<W: Wire>(wire: &mut W, c: u32, body: &[u8], head_only: bool) -> boo
 
 // Closes a connection that is open, where it is to be closed. Tells whether it is open.
 fn end_reply<W: Wire>(wire: &mut W, c: u32, close: bool) -> bool
-    requires { IsTrue (W.told wire.old) → IsSound c (W.log wire.old) }
-    ensures says { IsTrue (W.told wire.old) → Speaks c (shut_if close c) (W.log wire.old) (W.log wire.new) result }
-    ensures told { W.told wire.new ≡ W.told wire.old }
-    ensures plan { W.plan wire.new ≡ W.plan wire.old }
-    ensures names { IsTrue (W.told wire.old) → W.heard wire.new ≡ W.heard wire.old }
-    ensures faults { W.faults wire.new ≡ W.faults wire.old }
-    ensures sends { W.send_faults wire.old ≤ W.send_faults wire.new }
+    requires { IsTrue (W.state wire.old).told → IsSound c (W.state wire.old).log }
+    ensures says { IsTrue (W.state wire.old).told → Speaks c (shut_if close c) (W.state wire.old).log (W.state wire.new).log result }
+    ensures sending { OnlySends (W.state wire.old) (W.state wire.new) }
     ensures closed { close ≡ true → result ≡ false }
 {
     if close {
@@ -73,14 +62,10 @@ pub fn send_reply<W: Wire>(
     close: bool,
     head_only: bool,
 ) -> bool
-    requires live { IsTrue (W.told wire.old) → IsSound c (W.log wire.old) }
+    requires live { IsTrue (W.state wire.old).told → IsSound c (W.state wire.old).log }
     requires phrase { IsTrue (has_phrase (status_of reply.now)) }
-    ensures says { IsTrue (W.told wire.old) → Speaks c (replied c reply.now close head_only) (W.log wire.old) (W.log wire.new) result }
-    ensures told { W.told wire.new ≡ W.told wire.old }
-    ensures plan { W.plan wire.new ≡ W.plan wire.old }
-    ensures names { IsTrue (W.told wire.old) → W.heard wire.new ≡ W.heard wire.old }
-    ensures faults { W.faults wire.new ≡ W.faults wire.old }
-    ensures sends { W.send_faults wire.old ≤ W.send_faults wire.new }
+    ensures says { IsTrue (W.state wire.old).told → Speaks c (replied c reply.now close head_only) (W.state wire.old).log (W.state wire.new).log result }
+    ensures sending { OnlySends (W.state wire.old) (W.state wire.new) }
     ensures closed { close ≡ true → result ≡ false }
 {
     let mut buf = [0u8; MAX_RESPONSE_HEAD];

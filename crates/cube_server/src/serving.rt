@@ -1,17 +1,16 @@
 // The loop over the events of a wire.
-ghost use Rattle.std.specs.Prelude.{◌≡◌, ◌≢◌, ◌⊎◌, ◌<◌, ◌≤◌, ◌+◌, ◌++◌, ◌∷◌, [], ℕ, List, length, take, IsTrue, IsOk, OnOk, OnErr, IfErr, true, false, Ok, Err, IfSome, IfNone};
-ghost use Rattle.cube_model.specs.declared.outcome.Outcome.{Outcome};
-ghost use Rattle.cube_model.specs.Rooms.{Room};
+ghost use Rattle.std.specs.Prelude.{◌≡◌, ◌≢◌, ◌<◌, ◌≤◌, ◌++◌, ◌∷◌, [], List, length, IsTrue, OnOk, OnErr, IfErr, true, false, Ok, Err, IfSome, IfNone};
 ghost use Rattle.cube_io.specs.Causes.{Rose};
-ghost use Rattle.cube_io.specs.Desks.{Manner};
+ghost use Rattle.cube_io.specs.Told.{PlaysOn};
 ghost use Rattle.cube_io.specs.Wires.{Arrival, LogEntry, IsSound, FitsBuffer, arrival_of, events_in};
 ghost use Rattle.cube_io.specs.Wires.LogEntry.{Heard};
 ghost use Rattle.cube_io.specs.Wires.Arrival.{Opened, Came, Closed, End};
 ghost use Rattle.cube_server.specs.Crashes.{Endures};
-ghost use Rattle.cube_server.specs.Ears.{has, IsAnew, HasRoom, AreKept, AreOpen, AreOpenBut, AreOpenAt, is_last};
+ghost use Rattle.cube_server.specs.Ears.{has, IsAnew, HasRoom, AreOpen, AreOpenBut, AreOpenAt, is_last};
 ghost use Rattle.cube_server.specs.Logs.{met};
 ghost use Rattle.cube_server.specs.Pools.{IsFree};
-ghost use Rattle.cube_server.specs.Steps.{IsPhrased, IsCounted, Meets, Takes, Serves, has_end};
+ghost use Rattle.cube_server.specs.Seen.{DeskState, desk_of, OnlySends};
+ghost use Rattle.cube_server.specs.Steps.{IsPhrased, IsCounted, MeetsAll, TakesAll, Serves, has_end};
 
 use crate::deal::{Left, hear_piece};
 use crate::lines::{Ear, Lines};
@@ -62,15 +61,11 @@ fn fresh_ear(lines: &mut Lines, c: u32) -> Option<HeadConn>
 // A connection was opened: it is new, or there is no room for it.
 fn open_conn<W: Wire>(wire: &mut W, lines: &mut Lines, c: u32)
     requires room { HasRoom lines.old 0 }
-    requires live { IsTrue (W.told wire.old) → IsSound c (W.log wire.old) }
+    requires live { IsTrue (W.state wire.old).told → IsSound c (W.state wire.old).log }
     ensures room { HasRoom lines.new 0 }
-    ensures meets { IsTrue (W.told wire.old) → (conns : List (ℕ × List ℕ)) → AreKept lines.old.lines.items conns → AreOpenBut c lines.old.lines.items (W.log wire.old)
-        → (m : Manner) (rooms : List Room) (asks : ℕ) (outs : List Outcome) → Meets (met m (Opened c)) lines.new.lines.items conns rooms rooms asks asks outs outs (W.log wire.old) (W.log wire.new) }
-    ensures told { W.told wire.new ≡ W.told wire.old }
-    ensures plan { W.plan wire.new ≡ W.plan wire.old }
-    ensures names { IsTrue (W.told wire.old) → W.heard wire.new ≡ W.heard wire.old }
-    ensures faults { W.faults wire.new ≡ W.faults wire.old }
-    ensures sends { W.send_faults wire.old ≤ W.send_faults wire.new }
+    ensures meets { IsTrue (W.state wire.old).told → AreOpenBut c lines.old.lines.items (W.state wire.old).log
+        → (desk : DeskState) → MeetsAll (met desk.manner (Opened c)) lines.old.lines.items lines.new.lines.items desk desk (W.state wire.old).log (W.state wire.new).log }
+    ensures sending { OnlySends (W.state wire.old) (W.state wire.new) }
 {
     match fresh_ear(lines, c) {
         Some(head) => lines.put(c, Ear::Head(head)),
@@ -84,8 +79,8 @@ fn open_conn<W: Wire>(wire: &mut W, lines: &mut Lines, c: u32)
 fn close_conn(lines: &mut Lines, c: u32)
     requires { HasRoom lines.old 0 }
     ensures room { HasRoom lines.new 0 }
-    ensures meets { (conns : List (ℕ × List ℕ)) (log : List LogEntry) → AreKept lines.old.lines.items conns → AreOpenBut c lines.old.lines.items log
-        → (m : Manner) (rooms : List Room) (asks : ℕ) (outs : List Outcome) → Meets (met m (Closed c)) lines.new.lines.items conns rooms rooms asks asks outs outs log log }
+    ensures meets { (log : List LogEntry) → AreOpenBut c lines.old.lines.items log
+        → (desk : DeskState) → MeetsAll (met desk.manner (Closed c)) lines.old.lines.items lines.new.lines.items desk desk log log }
 {
     match lines.take(c) {
         Some(ear) => lines.give(ear.renew()),
@@ -107,23 +102,13 @@ fn hear<S: Store, D: Desk<S>, W: Wire>(
     requires room { 1 ≤ D.room desk.old }
     requires phrased { IsPhrased (D.manner desk.old) }
     requires lines { HasRoom lines.old 0 }
-    requires live { IsTrue (W.told wire.old) → AreOpen lines.old.lines.items (W.log wire.old) }
+    requires live { IsTrue (W.state wire.old).told → AreOpen lines.old.lines.items (W.state wire.old).log }
     ensures lines { HasRoom lines.new 0 }
-    ensures meets { IsTrue (W.told wire.old) → (conns : List (ℕ × List ℕ)) → AreKept lines.old.lines.items conns
-        → Meets (met (D.manner desk.old) (Came c piece.now)) lines.new.lines.items conns (D.rooms desk.old) (D.rooms desk.new) (D.room desk.old) (D.room desk.new)
-        (D.outcomes desk.old) (D.outcomes desk.new) (W.log wire.old) (W.log wire.new) }
-    ensures manner { D.manner desk.new ≡ D.manner desk.old }
+    ensures meets { let at = desk_of D.manner D.rooms D.room D.outcomes in IsTrue (W.state wire.old).told → MeetsAll (met (D.manner desk.old) (Came c piece.now)) lines.old.lines.items lines.new.lines.items
+        (at desk.old) (at desk.new) (W.state wire.old).log (W.state wire.new).log }
     ensures fits { D.fits desk.new store.new }
-    ensures endures { Endures (D.manner desk.old) (D.within desk.old) (D.within desk.new) (D.exact desk.old) (D.exact desk.new) (S.told store.old) (S.told store.new) (S.logs store.old) (S.logs store.new)
-        (D.rooms desk.old) (D.rooms desk.new) (D.outcomes desk.old) (D.outcomes desk.new) (S.faults store.old) (S.faults store.new) }
-    ensures stored { IsTrue (S.told store.old) → S.names store.new ≡ S.names store.old }
-    ensures counted { D.room desk.new + length (D.outcomes desk.new) ≡ D.room desk.old + length (D.outcomes desk.old) }
-    ensures fewer { D.room desk.new ≤ D.room desk.old }
-    ensures told { W.told wire.new ≡ W.told wire.old }
-    ensures plan { W.plan wire.new ≡ W.plan wire.old }
-    ensures names { IsTrue (W.told wire.old) → W.heard wire.new ≡ W.heard wire.old }
-    ensures faults { W.faults wire.new ≡ W.faults wire.old }
-    ensures sends { W.send_faults wire.old ≤ W.send_faults wire.new }
+    ensures endures { let at = desk_of D.manner D.rooms D.room D.outcomes in Endures (D.within desk.old) (D.within desk.new) (D.exact desk.old) (D.exact desk.new) (at desk.old) (at desk.new) (S.state store.old) (S.state store.new) }
+    ensures sending { OnlySends (W.state wire.old) (W.state wire.new) }
 {
     let Some(ear) = lines.take(c) else {
         return;
@@ -149,24 +134,14 @@ fn meet<S: Store, D: Desk<S>, W: Wire>(
     requires phrased { IsPhrased (D.manner desk.old) }
     requires lines { HasRoom lines.old 0 }
     requires buf { FitsBuffer event buf.now }
-    requires live { IsTrue (W.told wire.old) → AreOpenAt event lines.old.lines.items (W.log wire.old) }
+    requires live { IsTrue (W.state wire.old).told → AreOpenAt event lines.old.lines.items (W.state wire.old).log }
     requires more { is_last event ≡ false }
     ensures lines { HasRoom lines.new 0 }
-    ensures meets { IsTrue (W.told wire.old) → (conns : List (ℕ × List ℕ)) → AreKept lines.old.lines.items conns
-        → Meets (met (D.manner desk.old) (arrival_of event buf.now)) lines.new.lines.items conns (D.rooms desk.old) (D.rooms desk.new) (D.room desk.old) (D.room desk.new)
-        (D.outcomes desk.old) (D.outcomes desk.new) (W.log wire.old) (W.log wire.new) }
-    ensures manner { D.manner desk.new ≡ D.manner desk.old }
+    ensures meets { let at = desk_of D.manner D.rooms D.room D.outcomes in IsTrue (W.state wire.old).told → MeetsAll (met (D.manner desk.old) (arrival_of event buf.now)) lines.old.lines.items lines.new.lines.items
+        (at desk.old) (at desk.new) (W.state wire.old).log (W.state wire.new).log }
     ensures fits { D.fits desk.new store.new }
-    ensures endures { Endures (D.manner desk.old) (D.within desk.old) (D.within desk.new) (D.exact desk.old) (D.exact desk.new) (S.told store.old) (S.told store.new) (S.logs store.old) (S.logs store.new)
-        (D.rooms desk.old) (D.rooms desk.new) (D.outcomes desk.old) (D.outcomes desk.new) (S.faults store.old) (S.faults store.new) }
-    ensures stored { IsTrue (S.told store.old) → S.names store.new ≡ S.names store.old }
-    ensures counted { D.room desk.new + length (D.outcomes desk.new) ≡ D.room desk.old + length (D.outcomes desk.old) }
-    ensures fewer { D.room desk.new ≤ D.room desk.old }
-    ensures told { W.told wire.new ≡ W.told wire.old }
-    ensures plan { W.plan wire.new ≡ W.plan wire.old }
-    ensures names { IsTrue (W.told wire.old) → W.heard wire.new ≡ W.heard wire.old }
-    ensures faults { W.faults wire.new ≡ W.faults wire.old }
-    ensures sends { W.send_faults wire.old ≤ W.send_faults wire.new }
+    ensures endures { let at = desk_of D.manner D.rooms D.room D.outcomes in Endures (D.within desk.old) (D.within desk.new) (D.exact desk.old) (D.exact desk.new) (at desk.old) (at desk.new) (S.state store.old) (S.state store.new) }
+    ensures sending { OnlySends (W.state wire.old) (W.state wire.new) }
 {
     match event {
         Event::Opened(c) => open_conn(wire, lines, c),
@@ -200,25 +175,17 @@ fn take_event<S: Store, D: Desk<S>, W: Wire>(
     requires phrased { IsPhrased (D.manner desk.old) }
     requires lines { HasRoom lines.old 0 }
     requires buf { length buf.old ≡ 65536 }
-    requires live { IsTrue (W.told wire.old) → AreOpen lines.old.lines.items (W.log wire.old) }
+    requires live { IsTrue (W.state wire.old).told → AreOpen lines.old.lines.items (W.state wire.old).log }
     ensures lines { HasRoom lines.new 0 }
-    ensures takes { result ≡ Taken.More → IsTrue (W.told wire.old) → (conns : List (ℕ × List ℕ)) → AreKept lines.old.lines.items conns
-        → Takes (D.manner desk.old) lines.new.lines.items conns (D.rooms desk.old) (D.rooms desk.new) (D.room desk.old) (D.room desk.new)
-        (D.outcomes desk.old) (D.outcomes desk.new) (W.log wire.old) (W.log wire.new) }
-    ensures ended { result ≡ Taken.Ended → (desk.new ≡ desk.old) × (store.new ≡ store.old) × (IsTrue (W.told wire.old) → W.log wire.new ≡ W.log wire.old ++ Heard End ∷ []) }
-    ensures failed { result ≡ Taken.Failed → (desk.new ≡ desk.old) × (store.new ≡ store.old) × (IsTrue (W.told wire.old) → W.log wire.new ≡ W.log wire.old) × Rose (W.faults wire.old) (W.faults wire.new) }
-    ensures manner { D.manner desk.new ≡ D.manner desk.old }
+    ensures takes { let at = desk_of D.manner D.rooms D.room D.outcomes in result ≡ Taken.More → IsTrue (W.state wire.old).told → TakesAll lines.old.lines.items lines.new.lines.items
+        (at desk.old) (at desk.new) (W.state wire.old).log (W.state wire.new).log }
+    ensures ended { result ≡ Taken.Ended → (desk.new ≡ desk.old) × (store.new ≡ store.old) × (IsTrue (W.state wire.old).told → (W.state wire.new).log ≡ (W.state wire.old).log ++ Heard End ∷ []) }
+    ensures failed { result ≡ Taken.Failed → (desk.new ≡ desk.old) × (store.new ≡ store.old) × (IsTrue (W.state wire.old).told → (W.state wire.new).log ≡ (W.state wire.old).log) × Rose (W.state wire.old).faults (W.state wire.new).faults }
     ensures fits { D.fits desk.new store.new }
-    ensures endures { Endures (D.manner desk.old) (D.within desk.old) (D.within desk.new) (D.exact desk.old) (D.exact desk.new) (S.told store.old) (S.told store.new) (S.logs store.old) (S.logs store.new)
-        (D.rooms desk.old) (D.rooms desk.new) (D.outcomes desk.old) (D.outcomes desk.new) (S.faults store.old) (S.faults store.new) }
-    ensures stored { IsTrue (S.told store.old) → S.names store.new ≡ S.names store.old }
-    ensures counted { D.room desk.new + length (D.outcomes desk.new) ≡ D.room desk.old + length (D.outcomes desk.old) }
-    ensures fewer { D.room desk.new ≤ D.room desk.old }
-    ensures told { W.told wire.new ≡ W.told wire.old }
-    ensures plan { W.plan wire.new ≡ W.plan wire.old }
-    ensures names { IsTrue (W.told wire.old) → W.heard wire.new ≡ W.heard wire.old }
-    ensures steady { result ≢ Taken.Failed → W.faults wire.new ≡ W.faults wire.old }
-    ensures sends { W.send_faults wire.old ≤ W.send_faults wire.new }
+    ensures endures { let at = desk_of D.manner D.rooms D.room D.outcomes in Endures (D.within desk.old) (D.within desk.new) (D.exact desk.old) (D.exact desk.new) (at desk.old) (at desk.new) (S.state store.old) (S.state store.new) }
+    ensures plays { PlaysOn (W.state wire.old) (W.state wire.new) }
+    ensures steady { result ≢ Taken.Failed → (W.state wire.new).faults ≡ (W.state wire.old).faults }
+    ensures sends { (W.state wire.old).send_faults ≤ (W.state wire.new).send_faults }
 {
     let event = match wire.next(buf) {
         Ok(event) => event,
@@ -248,26 +215,19 @@ fn serve_lines<S: Store, D: Desk<S>, W: Wire>(
     requires lines { HasRoom lines.old 0 }
     requires none { lines.old.lines.items ≡ [] }
     requires buf { length buf.old ≡ 65536 }
-    requires log { IsTrue (W.told wire.old) → W.log wire.old ≡ [] }
+    requires log { IsTrue (W.state wire.old).told → (W.state wire.old).log ≡ [] }
     ensures lines { HasRoom lines.new 0 }
-    ensures log { IsTrue (W.told wire.old) → Serves (D.manner desk.old) (D.rooms desk.old) (D.rooms desk.new) (D.room desk.old) (D.room desk.new) events (D.outcomes desk.old) (D.outcomes desk.new) (W.log wire.new) }
-    ensures ended { IsTrue (W.told wire.old) → OnOk result ((es : List Arrival) × (events_in (W.log wire.new) ≡ es ++ End ∷ []) × (length es < events)) }
-    ensures unended { IsTrue (W.told wire.old) → OnErr result (has_end (W.log wire.new) ≡ false) }
+    ensures log { let at = desk_of D.manner D.rooms D.room D.outcomes in IsTrue (W.state wire.old).told → Serves (at desk.old) (at desk.new) events (W.state wire.new).log }
+    ensures ended { IsTrue (W.state wire.old).told → OnOk result ((es : List Arrival) × (events_in (W.state wire.new).log ≡ es ++ End ∷ []) × (length es < events)) }
+    ensures unended { IsTrue (W.state wire.old).told → OnErr result (has_end (W.state wire.new).log ≡ false) }
     ensures room { OnOk result (0 < D.room desk.new) }
-    ensures spent { IfErr result (λ fault. IsCounted fault (W.told wire.old) (D.outcomes desk.old) (D.outcomes desk.new) (D.room desk.new) events (W.log wire.new)) }
-    ensures failed { result ≡ Err ServeFault.WireFailed → Rose (W.faults wire.old) (W.faults wire.new) }
-    ensures steady { result ≢ Err ServeFault.WireFailed → W.faults wire.new ≡ W.faults wire.old }
-    ensures sends { W.send_faults wire.old ≤ W.send_faults wire.new }
-    ensures told { W.told wire.new ≡ W.told wire.old }
-    ensures plan { W.plan wire.new ≡ W.plan wire.old }
-    ensures names { IsTrue (W.told wire.old) → W.heard wire.new ≡ W.heard wire.old }
-    ensures manner { D.manner desk.new ≡ D.manner desk.old }
+    ensures spent { let at = desk_of D.manner D.rooms D.room D.outcomes in IfErr result (λ fault. IsCounted fault (W.state wire.old).told (at desk.old) (at desk.new) events (W.state wire.new).log) }
+    ensures failed { result ≡ Err ServeFault.WireFailed → Rose (W.state wire.old).faults (W.state wire.new).faults }
+    ensures steady { result ≢ Err ServeFault.WireFailed → (W.state wire.new).faults ≡ (W.state wire.old).faults }
+    ensures sends { (W.state wire.old).send_faults ≤ (W.state wire.new).send_faults }
+    ensures plays { PlaysOn (W.state wire.old) (W.state wire.new) }
     ensures fits { D.fits desk.new store.new }
-    ensures endures { Endures (D.manner desk.old) (D.within desk.old) (D.within desk.new) (D.exact desk.old) (D.exact desk.new) (S.told store.old) (S.told store.new) (S.logs store.old) (S.logs store.new)
-        (D.rooms desk.old) (D.rooms desk.new) (D.outcomes desk.old) (D.outcomes desk.new) (S.faults store.old) (S.faults store.new) }
-    ensures stored { IsTrue (S.told store.old) → S.names store.new ≡ S.names store.old }
-    ensures counted { D.room desk.new + length (D.outcomes desk.new) ≡ D.room desk.old + length (D.outcomes desk.old) }
-    ensures fewer { D.room desk.new ≤ D.room desk.old }
+    ensures endures { let at = desk_of D.manner D.rooms D.room D.outcomes in Endures (D.within desk.old) (D.within desk.new) (D.exact desk.old) (D.exact desk.new) (at desk.old) (at desk.new) (S.state store.old) (S.state store.new) }
 {
     let room = desk.left();
     let mut taken = 0u64;
@@ -308,27 +268,20 @@ pub fn serve<S: Store, D: Desk<S>, W: Wire>(
     requires events { 1 ≤ events }
     requires phrased { IsPhrased (D.manner desk.old) }
     requires pool { IsFree pool.old }
-    requires log { IsTrue (W.told wire.old) → W.log wire.old ≡ [] }
-    ensures log { IsTrue (W.told wire.old) → Serves (D.manner desk.old) (D.rooms desk.old) (D.rooms desk.new) (D.room desk.old) (D.room desk.new) events (D.outcomes desk.old) (D.outcomes desk.new) (W.log wire.new) }
+    requires log { IsTrue (W.state wire.old).told → (W.state wire.old).log ≡ [] }
+    ensures log { let at = desk_of D.manner D.rooms D.room D.outcomes in IsTrue (W.state wire.old).told → Serves (at desk.old) (at desk.new) events (W.state wire.new).log }
 
     // Ok comes exactly at the end, and a fault only before it.
-    ensures ended { IsTrue (W.told wire.old) → OnOk result ((es : List Arrival) × (events_in (W.log wire.new) ≡ es ++ End ∷ []) × (length es < events)) }
-    ensures unended { IsTrue (W.told wire.old) → OnErr result (has_end (W.log wire.new) ≡ false) }
+    ensures ended { IsTrue (W.state wire.old).told → OnOk result ((es : List Arrival) × (events_in (W.state wire.new).log ≡ es ++ End ∷ []) × (length es < events)) }
+    ensures unended { IsTrue (W.state wire.old).told → OnErr result (has_end (W.state wire.new).log ≡ false) }
     ensures room { OnOk result (0 < D.room desk.new) }
-    ensures spent { IfErr result (λ fault. IsCounted fault (W.told wire.old) (D.outcomes desk.old) (D.outcomes desk.new) (D.room desk.new) events (W.log wire.new)) }
-    ensures failed { result ≡ Err ServeFault.WireFailed → Rose (W.faults wire.old) (W.faults wire.new) }
-    ensures steady { result ≢ Err ServeFault.WireFailed → W.faults wire.new ≡ W.faults wire.old }
-    ensures sends { W.send_faults wire.old ≤ W.send_faults wire.new }
-    ensures told { W.told wire.new ≡ W.told wire.old }
-    ensures plan { W.plan wire.new ≡ W.plan wire.old }
-    ensures names { IsTrue (W.told wire.old) → W.heard wire.new ≡ W.heard wire.old }
-    ensures manner { D.manner desk.new ≡ D.manner desk.old }
+    ensures spent { let at = desk_of D.manner D.rooms D.room D.outcomes in IfErr result (λ fault. IsCounted fault (W.state wire.old).told (at desk.old) (at desk.new) events (W.state wire.new).log) }
+    ensures failed { result ≡ Err ServeFault.WireFailed → Rose (W.state wire.old).faults (W.state wire.new).faults }
+    ensures steady { result ≢ Err ServeFault.WireFailed → (W.state wire.new).faults ≡ (W.state wire.old).faults }
+    ensures sends { (W.state wire.old).send_faults ≤ (W.state wire.new).send_faults }
+    ensures plays { PlaysOn (W.state wire.old) (W.state wire.new) }
     ensures fits { D.fits desk.new store.new }
-    ensures endures { Endures (D.manner desk.old) (D.within desk.old) (D.within desk.new) (D.exact desk.old) (D.exact desk.new) (S.told store.old) (S.told store.new) (S.logs store.old) (S.logs store.new)
-        (D.rooms desk.old) (D.rooms desk.new) (D.outcomes desk.old) (D.outcomes desk.new) (S.faults store.old) (S.faults store.new) }
-    ensures stored { IsTrue (S.told store.old) → S.names store.new ≡ S.names store.old }
-    ensures counted { D.room desk.new + length (D.outcomes desk.new) ≡ D.room desk.old + length (D.outcomes desk.old) }
-    ensures fewer { D.room desk.new ≤ D.room desk.old }
+    ensures endures { let at = desk_of D.manner D.rooms D.room D.outcomes in Endures (D.within desk.old) (D.within desk.new) (D.exact desk.old) (D.exact desk.new) (at desk.old) (at desk.new) (S.state store.old) (S.state store.new) }
 {
     serve_lines(
         alloc,

@@ -1,19 +1,65 @@
 -- What a run asked for where it was to listen.
-use Rattle.std.proofs.Common.{◌≡◌, ◌++◌, ◌∷◌, ◌⊎◌, ℕ, List, [], inl, inr}
-use Rattle.std.specs.Prelude.{IfSome, IsSomeAnd}
+use Rattle.std.proofs.Common.{◌≡◌, ◌≢◌, ◌++◌, ◌∷◌, ◌⊎◌, ℕ, List, [], inl, inr, refl, sym, arith}
+use Rattle.std.specs.Prelude.{IfSome, IsSomeAnd, Result, Ok, Err}
 use Rattle.std.specs.declared.option.Option.{Option}
 use Rattle.std.specs.declared.option.Option.TheVariants.{Some, None}
-use Rattle.cube_opening.specs.Opening.{AsksAll}
+use Rattle.cube_io.specs.Seen.{FolderState, Seen}
+use Rattle.cube_opening.specs.Opening.{AsksAll, AskedFor, AsksTwo, names_of}
+use Rattle.cube_opening.specs.declared.cube_files.CubeFiles.{CubeFiles}
 use Rattle.cube_opening.specs.declared.report.Report.{Report}
+use Rattle.cube_server.specs.declared.serving.ServeFault.{ServeFault}
+use Rattle.cube_server.specs.declared.serving.ServeFault.TheVariants.{WireFailed, Spent}
+use Rattle.cube_serving.specs.Serving.{served_status}
+
+-- each of these names was asked for, or less was
+or_less : (old new : Option (List (List ℕ))) (names : List (List ℕ)) (Less : List (List ℕ) → List (List ℕ) → Type 0) → IfSome old (λ o. IsSomeAnd new (λ n. n ≡ o ++ names)) → IfSome old (λ o. IsSomeAnd new (λ n. (n ≡ o ++ names) ⊎ Less o n))
+or_less None new names Less asked = tt
+or_less (Some o) None names Less asked = absurd asked
+or_less (Some o) (Some n) names Less asked = inl asked
 
 -- each of the three files was asked for
-pub asked_all : (dims_name facts_name policy_name : List ℕ) (files : Option (List (List ℕ × List ℕ))) (old new : Option (List (List ℕ))) (before now : ℕ) (r : Report) → IfSome old (λ o. IsSomeAnd new (λ n. n ≡ o ++ dims_name ∷ facts_name ∷ policy_name ∷ []))
-    → AsksAll dims_name facts_name policy_name files old new before now r
-asked_all dims_name facts_name policy_name files None new before now r asked = tt
-asked_all dims_name facts_name policy_name files (Some o) None before now r asked = absurd asked
-asked_all dims_name facts_name policy_name files (Some o) (Some n) before now r asked = inl asked
+pub asked_all : {F : Type 0} (cube : CubeFiles) (files : Seen FolderState F) (r : Report) → AskedFor (names_of cube) files → AsksAll cube files r
+asked_all cube files r asked = or_less files.before.asked files.after.asked (names_of cube) (λ o n. AsksTwo cube files o n r) asked
 
 -- the address was asked for, or the wire failed before
 pub heard_or_failed : (address : List ℕ) (old new : List (List ℕ)) (r : Report) → (new ≡ old) ⊎ (new ≡ old ++ address ∷ []) → r.status ≡ 8 → (new ≡ old ++ address ∷ []) ⊎ ((new ≡ old) × (r.status ≡ 8))
 heard_or_failed address old new r (inl e) status = inr (e, status)
 heard_or_failed address old new r (inr e) status = inl e
+
+-- ---- the status of a serving
+
+served_not : (n : ℕ) → (n ≡ 0 → ⊥) → (n ≡ 8 → ⊥) → (n ≡ 10 → ⊥) → (end : Result (Unit {0}) ServeFault) → served_status end ≡ n → ⊥
+served_not n zero eight ten (Ok u) e = zero (sym e)
+served_not n zero eight ten (Err WireFailed) e = eight (sym e)
+served_not n zero eight ten (Err (Spent requests events)) e = ten (sym e)
+
+-- none of these is the status of one
+pub not_two : (end : Result (Unit {0}) ServeFault) → served_status end ≡ 2 → ⊥
+not_two end e = served_not 2 (λ k. omega (arith, k)) (λ k. omega (arith, k)) (λ k. omega (arith, k)) end e
+
+pub not_five : (end : Result (Unit {0}) ServeFault) → served_status end ≡ 5 → ⊥
+not_five end e = served_not 5 (λ k. omega (arith, k)) (λ k. omega (arith, k)) (λ k. omega (arith, k)) end e
+
+pub not_six : (end : Result (Unit {0}) ServeFault) → served_status end ≡ 6 → ⊥
+not_six end e = served_not 6 (λ k. omega (arith, k)) (λ k. omega (arith, k)) (λ k. omega (arith, k)) end e
+
+pub not_seven : (end : Result (Unit {0}) ServeFault) → served_status end ≡ 7 → ⊥
+not_seven end e = served_not 7 (λ k. omega (arith, k)) (λ k. omega (arith, k)) (λ k. omega (arith, k)) end e
+
+pub not_nine : (end : Result (Unit {0}) ServeFault) → served_status end ≡ 9 → ⊥
+not_nine end e = served_not 9 (λ k. omega (arith, k)) (λ k. omega (arith, k)) (λ k. omega (arith, k)) end e
+
+-- 8 is that of a wire that failed
+pub eight_failed : (end : Result (Unit {0}) ServeFault) → served_status end ≡ 8 → end ≡ Err WireFailed
+eight_failed (Ok u) e = absurd (omega (arith, e))
+eight_failed (Err WireFailed) e = refl
+eight_failed (Err (Spent requests events)) e = absurd (omega (arith, e))
+
+pub failed_eight : (end : Result (Unit {0}) ServeFault) → end ≡ Err WireFailed → served_status end ≡ 8
+failed_eight end e = rw e refl
+
+-- where the wire did not fail and not the most was taken, it is 0
+pub all_served : (end : Result (Unit {0}) ServeFault) → served_status end ≢ 10 → (end ≡ Err WireFailed → ⊥) → served_status end ≡ 0
+all_served (Ok u) some none = refl
+all_served (Err WireFailed) some none = absurd (none refl)
+all_served (Err (Spent requests events)) some none = absurd (some refl)

@@ -1,5 +1,5 @@
 -- How a script is read, and how its play ends.
-use Rattle.std.proofs.Common.{◌≡◌, ◌≤◌, ◌∙◌, refl, sym, ap, subst, ℕ, Bool, true, false, List, [], ◌∷◌, ◌++◌, length, append_assoc, Some, None, inl, inr, arith}
+use Rattle.std.proofs.Common.{◌≡◌, ◌≤◌, ◌∙◌, refl, sym, ap, subst, ℕ, Bool, true, false, List, [], ◌∷◌, ◌++◌, length, append_assoc, Some, None, inl, inr, ⊎_elim, arith}
 use Rattle.std.proofs.lemmas.Bool.Decides.{nat_tests}
 use Rattle.std.proofs.lemmas.Bool.{false≢true}
 use Rattle.std.specs.List.{list_any}
@@ -13,14 +13,18 @@ use Rattle.cube_model.specs.declared.outcome.Outcome.{Outcome}
 use Rattle.cube_io.specs.Causes.{Rose}
 use Rattle.cube_io.specs.declared.faults.Failed.{Failed as Fault}
 use Rattle.cube_io.specs.Content.{AppendsPrefix}
+use Rattle.cube_io.specs.Seen.{FolderState, SinkState, Seen}
 use Rattle.cube_io.specs.Wires.{Arrival, LogEntry, events_in, render}
 use Rattle.cube_io.specs.Wires.Arrival.{Opened, Came, Closed, End}
 use Rattle.cube_io.specs.Files.{max_file}
-use Rattle.cube_opening.specs.Opening.{fault_text, faulted, unless_long, Failed, AsksOnce, AsksAll, EndsUnopened}
+use Rattle.cube_opening.specs.Opening.{fault_text, faulted, unless_long, Failed, AsksAll, AsksTwo, EndsUnopened, names_of}
+use Rattle.cube_opening.specs.declared.cube_files.CubeFiles.{CubeFiles}
 use Rattle.cube_opening.specs.declared.report.Report.{Report}
 use Rattle.cube_script.specs.Playing.{Playing, IsPlaying, starting, started, has_torn}
 use Rattle.cube_script.specs.Scripts.{connection_of, bytes_of, came_of, event_of, words, lines, with_event, events_of, script_of}
+use Rattle.cube_script.specs.declared.script_wire.SendRoom.{SendRoom}
 use Rattle.cube_script.specs.declared.play.ScriptFault.TheVariants.{Line, NoMemory}
+use Rattle.cube_server.specs.Seen.{DeskState}
 use Rattle.cube_server.specs.Steps.{has_end, is_end}
 use Rattle.cube_server.specs.declared.serving.ServeFault.{ServeFault}
 use Rattle.cube_server.specs.declared.serving.ServeFault.TheVariants.{WireFailed, Spent}
@@ -29,14 +33,14 @@ use Rattle.cube_serving.specs.Replaying.{script_said, AsksFour, played_status, p
 
 -- ---- what a script says
 
-pub started_ok : (said : Result (List Arrival) ℕ) (w : Playing) (sends bytes : ℕ) → started said sends bytes ≡ Ok w → (script : List Arrival) × (said ≡ Ok script) × (w ≡ starting script sends bytes)
-started_ok (Ok script) w sends bytes e = (script, refl, cc)
-started_ok (Err n) w sends bytes e = cc
+pub started_ok : (said : Result (List Arrival) ℕ) (w : Playing) (most : SendRoom) → started said most ≡ Ok w → (script : List Arrival) × (said ≡ Ok script) × (w ≡ starting script most)
+started_ok (Ok script) w most e = (script, refl, cc)
+started_ok (Err n) w most e = cc
 
-pub started_err : (said : Result (List Arrival) ℕ) (n sends bytes : ℕ) → (Line n ≡ NoMemory) ⊎ (started said sends bytes ≡ Err (Line n)) → said ≡ Err n
-started_err said n sends bytes (inl e) = cc
-started_err (Ok script) n sends bytes (inr e) = cc
-started_err (Err m) n sends bytes (inr e) = cc
+pub started_err : (said : Result (List Arrival) ℕ) (n : ℕ) (most : SendRoom) → (Line n ≡ NoMemory) ⊎ (started said most ≡ Err (Line n)) → said ≡ Err n
+started_err said n most (inl e) = cc
+started_err (Ok script) n most (inr e) = cc
+started_err (Err m) n most (inr e) = cc
 
 short_said : (kind bytes : List ℕ) (said : Result (List Arrival) (List ℕ)) → length bytes ≤ max_file → unless_long kind bytes said ≡ said
 short_said kind bytes said short = tested (nat_lt max_file (length bytes))
@@ -119,41 +123,52 @@ script_more text script k = events_more 1 (lines text) script k
 -- ---- which files were asked for
 
 -- a run that ends at one of three files ends by a failure, or by a file that is refused
-pub ended_by : (d f p : List ℕ) (files : Option (List (List ℕ × List ℕ))) (before now : ℕ) (r : Report) → EndsUnopened d f p files before now r → Failed before now r ⊎ (r.status ≡ 3)
-ended_by d f p files before now r (inl (inl e)) = inl (inl e.0)
-ended_by d f p files before now r (inl (inr (inl e))) = inl (inl e.0)
-ended_by d f p files before now r (inl (inr (inr (inl e)))) = inl (inr ((e.0).0, e.1))
-ended_by d f p files before now r (inl (inr (inr (inr (inl e))))) = inl (inr ((e.0).0, e.1))
-ended_by d f p files before now r (inl (inr (inr (inr (inr (inl e)))))) = inr (e.0).0
-ended_by d f p files before now r (inl (inr (inr (inr (inr (inr e)))))) = inr (e.0).0
-ended_by d f p files before now r (inr (inl e)) = inl (inr ((e.0).0, e.1))
-ended_by d f p files before now r (inr (inr e)) = inr (e.0).0
+pub ended_by : {F : Type 0} (cube : CubeFiles) (files : Seen FolderState F) (r : Report) → EndsUnopened cube files r → Failed files r ⊎ (r.status ≡ 3)
+ended_by cube files r (inl (inl e)) = inl (inl e.0)
+ended_by cube files r (inl (inr (inl e))) = inl (inl e.0)
+ended_by cube files r (inl (inr (inr (inl e)))) = inl (inr ((e.0).0, e.1))
+ended_by cube files r (inl (inr (inr (inr (inl e))))) = inl (inr ((e.0).0, e.1))
+ended_by cube files r (inl (inr (inr (inr (inr (inl e)))))) = inr (e.0).0
+ended_by cube files r (inl (inr (inr (inr (inr (inr e)))))) = inr (e.0).0
+ended_by cube files r (inr (inl e)) = inl (inr ((e.0).0, e.1))
+ended_by cube files r (inr (inr e)) = inr (e.0).0
 
 -- where the script was not reached
-pub asks_three : (d f p s : List ℕ) (files : Option (List (List ℕ × List ℕ))) (old new : Option (List (List ℕ))) (before now : ℕ) (r : Report) → Failed before now r ⊎ (r.status ≡ 3) → AsksAll d f p files old new before now r → AsksFour d f p s files old new before now r
-asks_three d f p s files None new before now r why asks = tt
-asks_three d f p s files (Some o) None before now r why asks = asks
-asks_three d f p s files (Some o) (Some n) before now r why (inl e) = inr (inl (e, why))
-asks_three d f p s files (Some o) (Some n) before now r why (inr two) = inr (inr two)
+not_reached : (old new : Option (List (List ℕ))) (names more : List (List ℕ)) (Less : List (List ℕ) → List (List ℕ) → Type 0) (why : Type 0) → why → IfSome old (λ o. IsSomeAnd new (λ n. (n ≡ o ++ names) ⊎ Less o n))
+    → IfSome old (λ o. IsSomeAnd new (λ n. (n ≡ o ++ names ++ more) ⊎ ((n ≡ o ++ names) × why) ⊎ Less o n))
+not_reached None new names more Less why w asks = tt
+not_reached (Some o) None names more Less why w asks = asks
+not_reached (Some o) (Some n) names more Less why w (inl e) = inr (inl (e, w))
+not_reached (Some o) (Some n) names more Less why w (inr two) = inr (inr two)
 
--- where the script was asked for
-pub asks_four : (d f p s : List ℕ) (files : Option (List (List ℕ × List ℕ))) (old mid new : Option (List (List ℕ))) (before now : ℕ) (r : Report) → IfSome old (λ o. IsSomeAnd mid (λ n. n ≡ o ++ d ∷ f ∷ p ∷ [])) → IfSome mid (λ o. IsSomeAnd new (λ n. n ≡ o ++ s ∷ [])) → AsksFour d f p s files old new before now r
-asks_four d f p s files None mid new before now r three four = tt
-asks_four d f p s files (Some o) None new before now r three four = absurd three
-asks_four d f p s files (Some o) (Some n) None before now r three four = four
-asks_four d f p s files (Some o) (Some n) (Some k) before now r three four = inl (four ∙ ap (λ (x : List (List ℕ)). x ++ s ∷ []) three ∙ assoc o)
-  where
-    assoc : (o : List (List ℕ)) → (o ++ d ∷ f ∷ p ∷ []) ++ s ∷ [] ≡ o ++ d ∷ f ∷ p ∷ s ∷ []
-    assoc [] = refl
-    assoc (x ∷ o) = ap (λ (y : List (List ℕ)). x ∷ y) (assoc o)
+pub asks_three : {F : Type 0} (cube : CubeFiles) (s : List ℕ) (files : Seen FolderState F) (r : Report) → Failed files r ⊎ (r.status ≡ 3) → AsksAll cube files r → AsksFour cube s files r
+asks_three cube s files r why asks = not_reached files.before.asked files.after.asked (names_of cube) (s ∷ []) (λ o n. AsksTwo cube files o n r) (Failed files r ⊎ (r.status ≡ 3)) why asks
+
+-- where the script was asked for, behind the three files
+reached : (old mid new : Option (List (List ℕ))) (names more : List (List ℕ)) (Less : List (List ℕ) → List (List ℕ) → Type 0) → IfSome old (λ o. IsSomeAnd mid (λ n. n ≡ o ++ names)) → IfSome mid (λ o. IsSomeAnd new (λ n. n ≡ o ++ more))
+    → IfSome old (λ o. IsSomeAnd new (λ n. (n ≡ o ++ names ++ more) ⊎ Less o n))
+reached None mid new names more Less three four = tt
+reached (Some o) None new names more Less three four = absurd three
+reached (Some o) (Some n) None names more Less three four = four
+reached (Some o) (Some n) (Some k) names more Less three four = inl (four ∙ ap (λ (x : List (List ℕ)). x ++ more) three)
+
+pub asks_four : {F : Type 0} (cube : CubeFiles) (s : List ℕ) (files : Seen FolderState F) (mid : Option (List (List ℕ))) (r : Report) → IfSome files.before.asked (λ o. IsSomeAnd mid (λ n. n ≡ o ++ names_of cube)) → IfSome mid (λ o. IsSomeAnd files.after.asked (λ n. n ≡ o ++ s ∷ [])) → AsksFour cube s files r
+asks_four cube s files mid r three four = reached files.before.asked mid files.after.asked (names_of cube) (s ∷ []) (λ o n. ((n ≡ o ++ names_of cube) × (Failed files r ⊎ (r.status ≡ 3))) ⊎ AsksTwo cube files o n r) three four
 
 -- where the run ended at the script
-pub asks_script : (d f p s : List ℕ) (files : Option (List (List ℕ × List ℕ))) (old mid new : Option (List (List ℕ))) (before now : ℕ) (r : Report) → IfSome old (λ o. IsSomeAnd mid (λ n. n ≡ o ++ d ∷ f ∷ p ∷ [])) → AsksOnce s mid new before now r → AsksFour d f p s files old new before now r
-asks_script d f p s files None mid new before now r three once = tt
-asks_script d f p s files (Some o) None new before now r three once = absurd three
-asks_script d f p s files (Some o) (Some n) None before now r three once = once
-asks_script d f p s files (Some o) (Some n) (Some k) before now r three (inl four) = asks_four d f p s files (Some o) (Some n) (Some k) before now r three four
-asks_script d f p s files (Some o) (Some n) (Some k) before now r three (inr same) = inr (inl (same.0 ∙ three, inl same.1))
+once : (old mid new : Option (List (List ℕ))) (names : List (List ℕ)) (s : List ℕ) (why whys : Type 0) (Less : List (List ℕ) → List (List ℕ) → Type 0) → (why → whys) → IfSome old (λ o. IsSomeAnd mid (λ n. n ≡ o ++ names))
+    → IfSome mid (λ o. IsSomeAnd new (λ n. (n ≡ o ++ s ∷ []) ⊎ ((n ≡ o) × why))) → IfSome old (λ o. IsSomeAnd new (λ n. (n ≡ o ++ names ++ s ∷ []) ⊎ ((n ≡ o ++ names) × whys) ⊎ Less o n))
+once None mid new names s why whys Less f three four = tt
+once (Some o) None new names s why whys Less f three four = absurd three
+once (Some o) (Some n) None names s why whys Less f three four = four
+once (Some o) (Some n) (Some k) names s why whys Less f three (inl four) = inl (four ∙ ap (λ (x : List (List ℕ)). x ++ s ∷ []) three)
+once (Some o) (Some n) (Some k) names s why whys Less f three (inr same) = inr (inl (same.0 ∙ three, f same.1))
+
+pub asks_script : {F : Type 0} (cube : CubeFiles) (s : List ℕ) (files : Seen FolderState F) (mid : FolderState) (r : Report) → mid.faults ≡ files.before.faults → IfSome files.before.asked (λ o. IsSomeAnd mid.asked (λ n. n ≡ o ++ names_of cube))
+    → IfSome mid.asked (λ o. IsSomeAnd files.after.asked (λ n. (n ≡ o ++ s ∷ []) ⊎ ((n ≡ o) × ((r.status ≡ 7) ⊎ ((r.status ≡ 5) × Rose mid.faults files.after.faults))))) → AsksFour cube s files r
+asks_script cube s files mid r steady three four =
+    once files.before.asked mid.asked files.after.asked (names_of cube) s ((r.status ≡ 7) ⊎ ((r.status ≡ 5) × Rose mid.faults files.after.faults)) (Failed files r ⊎ (r.status ≡ 3)) (λ o n. AsksTwo cube files o n r)
+    (λ why. inl (⊎_elim (λ seven. inl seven) (λ x. inr (x.0, subst (λ (n : ℕ). Rose n files.after.faults) steady x.1)) why)) three four
 
 -- ---- why a play ends
 
@@ -222,10 +237,10 @@ unfailed w events end playing is quiet failed none sound e =
 
 -- ---- what is written
 
-pub writes : (done : Result (Unit {0}) Fault) (end : Result (Unit {0}) ServeFault) (log : List LogEntry) (os : List Outcome) (written written' : Option (List ℕ)) (r : Report) → r.outcomes ≡ os → OnOk done (Appends written written' (render log)) → OnErr done (AppendsPrefix written written' (render log))
-    → OnOk done ((r.status ≡ played_status (has_torn log) end) × (r.text ≡ played_text (has_torn log) end os log)) → (is_err done ≡ true → (r.status ≡ 6) × (r.text ≡ codes "output failed\n")) → Writes end log written written' r
-writes (Ok u) end log os written written' r same grows part put unput = inl (put.0, put.1 ∙ ap (λ (o : List Outcome). played_text (has_torn log) end o log) (sym same), grows)
-writes (Err e) end log os written written' r same grows part put unput = inr ((unput refl).0, (unput refl).1, part)
+pub writes : {O : Type 0} (done : Result (Unit {0}) Fault) (end : Result (Unit {0}) ServeFault) (log : List LogEntry) (os : List Outcome) (out : Seen SinkState O) (r : Report) → r.outcomes ≡ os → OnOk done (Appends out.before.written out.after.written (render log)) → OnErr done (AppendsPrefix out.before.written out.after.written (render log))
+    → OnOk done ((r.status ≡ played_status (has_torn log) end) × (r.text ≡ played_text (has_torn log) end os log)) → (is_err done ≡ true → (r.status ≡ 6) × (r.text ≡ codes "output failed\n")) → Writes end log out r
+writes (Ok u) end log os out r same grows part put unput = inl (put.0, put.1 ∙ ap (λ (o : List Outcome). played_text (has_torn log) end o log) (sym same), grows)
+writes (Err e) end log os out r same grows part put unput = inr ((unput refl).0, (unput refl).1, part)
 
 pub on_ok : {E : Type 0} {P : Type 0} (done : Result (Unit {0}) E) → P → OnOk done P
 on_ok (Ok u) p = p
@@ -254,13 +269,13 @@ finished (Ok u) torn end r P Q put err quiet some none = finish torn end r.statu
 finished (Err e) torn end r P Q put err quiet some none = absurd (quiet err)
 
 -- what `Ends` says of a log that is told
-pub ends_none : (end : Result (Unit {0}) ServeFault) (os : List Outcome) (left : ℕ) (log : List LogEntry) → Ends end true os left log → OnErr end (has_end log ≡ false)
-ends_none (Ok u) os left log e = tt
-ends_none (Err fault) os left log e = e.1 refl
+pub ends_none : (end : Result (Unit {0}) ServeFault) (old new : DeskState) (log : List LogEntry) → Ends end true old new log → OnErr end (has_end log ≡ false)
+ends_none (Ok u) old new log e = tt
+ends_none (Err fault) old new log e = e.1 refl
 
-pub ends_whole : (end : Result (Unit {0}) ServeFault) (u : Unit {0}) (os : List Outcome) (left : ℕ) (log : List LogEntry) → Ends end true os left log → end ≡ Ok u → (es : List Arrival) × (events_in log ≡ es ++ End ∷ [])
-ends_whole (Ok v) u os left log e k = let x = e.1 refl in (x.0, x.1)
-ends_whole (Err fault) u os left log e k = absurd (none k)
+pub ends_whole : (end : Result (Unit {0}) ServeFault) (u : Unit {0}) (old new : DeskState) (log : List LogEntry) → Ends end true old new log → end ≡ Ok u → (es : List Arrival) × (events_in log ≡ es ++ End ∷ [])
+ends_whole (Ok v) u old new log e k = let x = e.1 refl in (x.0, x.1)
+ends_whole (Err fault) u old new log e k = absurd (none k)
   where
     none : Err fault ≡ Ok u → ⊥
     none k = cc
@@ -268,3 +283,11 @@ ends_whole (Err fault) u os left log e k = absurd (none k)
 -- a count that was 0 and rose
 pub rose_from : (before now : ℕ) → before ≡ 0 → Rose before now → 0 < now
 rose_from before now is rose = omega (arith, is, rose)
+
+-- room for so many sends and for so many bytes of them
+room_of : ℕ → ℕ → SendRoom
+room_of sends bytes = record { sends = sends; bytes = bytes }
+
+pub same_room : (a b : SendRoom) → a.sends ≡ b.sends → a.bytes ≡ b.bytes → a ≡ b
+unfolding room_of
+same_room a b sends bytes = ap (λ (n : ℕ). room_of n a.bytes) sends ∙ ap (λ (n : ℕ). room_of b.sends n) bytes

@@ -1,8 +1,7 @@
 -- Over a world with the changes for a protected cell a served wire has the same log; and what a crash leaves meanwhile.
 use Rattle.std.proofs.Common.{◌≡◌, ◌≤◌, ◌^◌, ◌∙◌, refl, sym, ap, subst, ℕ, zero, suc, Bool, false, IsTrue, List, [], ◌∷◌, ◌++◌, cond, inl, inr, arith}
 use Rattle.std.proofs.lemmas.List.Sums.{sum_by-cons}
-use Rattle.std.specs.Prelude.{min, ◌+◌, ◌-◌, ◌<◌, Result, Ok, Err, OnOk, OnErr, IfErr, IfSome, length}
-use Rattle.std.specs.declared.option.Option.{Option}
+use Rattle.std.specs.Prelude.{min, ◌+◌, ◌-◌, ◌<◌, ◌⊎◌, Result, Ok, Err, OnOk, OnErr, IfErr, length}
 use Rattle.cube_model.specs.declared.ask.Ask.{Ask}
 use Rattle.cube_model.specs.declared.ask.Ask.TheVariants as ask
 use Rattle.cube_model.specs.declared.cell.Cell.{Cell}
@@ -21,13 +20,14 @@ use Rattle.cube_model.specs.TwoWorlds.{Extends}
 use Rattle.cube_model.specs.Verdicts.{IsAdmissible}
 use Rattle.cube_model.proofs.Filled.{cores_are_worlds}
 use Rattle.cube_model.proofs.Growth.{extends_refl, extends_trans}
-use Rattle.cube_io.specs.States.{Log, Gained}
+use Rattle.cube_io.specs.Seen.{FolderState, StoreState, Seen}
+use Rattle.cube_io.specs.States.{Gained}
 use Rattle.cube_io.specs.Wires.{LogEntry, Arrival, events_in}
 use Rattle.cube_io.specs.Wires.Arrival.{End}
 use Rattle.cube_io.specs.Causes.{Rose}
 use Rattle.cube_io.specs.Desks.{Manner}
 use Rattle.cube_io.proofs.Trails.{gained_then, gained_map}
-use Rattle.cube_journal.specs.Keeping.{Journal, IsInRecovery}
+use Rattle.cube_journal.specs.Keeping.{IsInRecovery}
 use Rattle.cube_engine.specs.Engines.{Engine, rooms_of, book_of}
 use Rattle.cube_engine.specs.Kept.{history_of, IsExact}
 use Rattle.cube_engine.specs.Steps.{manner, next_in, inner_of, inner_history}
@@ -36,13 +36,16 @@ use Rattle.cube_engine.proofs.Worlds.{room_open, other_sum, inner_grows, inner_s
 use Rattle.cube_server.specs.Alike.{SameReplies}
 use Rattle.cube_server.specs.Crashes.{after, Reaches, OnTheWay, Endures, faults_in, is_fault}
 use Rattle.cube_server.specs.Logs.{Call, Luck, calls_of, end_of}
-use Rattle.cube_server.specs.Steps.{Serves, IsCounted, has_end, sends_in, luck_of}
+use Rattle.cube_server.specs.Seen.{DeskState}
+use Rattle.cube_server.specs.Steps.{Serves, IsCounted, has_end, sends_in, luck_of, stated_at}
 use Rattle.cube_server.specs.declared.serving.ServeFault.{ServeFault}
+use Rattle.cube_server.specs.declared.serving.ServeFault.TheVariants.{WireFailed, Spent}
 use Rattle.cube_server.proofs.Likeness.{logs_are_alike}
 use Rattle.cube_talk.specs.Asks.{NoneFailed}
 use Rattle.cube_talk.specs.Talk.{max_input}
-use Rattle.cube_opening.specs.Opening.{MakesAll}
-use Rattle.cube_serving.specs.Serving.{Tells, Ends, Wired, Served}
+use Rattle.cube_opening.specs.Opening.{Make}
+use Rattle.cube_opening.specs.declared.cube_files.CubeFiles.{CubeFiles}
+use Rattle.cube_serving.specs.Serving.{Asking, asking, desk_before, Tells, Ends, Wired, Served}
 use Rattle.cube_starting.specs.Starting.{IsBetween, Survived}
 use Rattle.cube_starting.proofs.Started.{exact_of, within_of, begun}
 
@@ -128,40 +131,51 @@ ends_alone s w h last rooms events luck is ended =
     let at = ends_at s w h rooms events luck ended in
     at ∙ ap (λ (k : List Entry). alone w k) (sym (is ∙ ap first_history at))
 
-pub told : (core : Core) (policy : Policy) (h last : List Entry) (stated left : ℕ) (os : List Outcome) (log : List LogEntry) (rooms : List Room) → IsCore core → IsPolicy core.dims policy → IsAdmissible (shown core policy) h → last ≡ first_history rooms
-    → Serves (manner core.dims) (alone (world core policy) h) rooms stated left max_input [] os log → Tells core policy h last stated left os log
-told core policy h last stated left os log rooms is_core is_policy adm at served =
+-- what a served wire tells, of a desk that was asked over it
+pub told : (core : Core) (policy : Policy) (a : Asking) (behind : DeskState) (log : List LogEntry) → IsCore core → IsPolicy core.dims policy → IsAdmissible (shown core policy) a.first
+    → a.last ≡ first_history behind.rooms → behind.room ≡ a.left → behind.outcomes ≡ a.outcomes → Serves (desk_before core policy a) behind max_input log → Tells core policy a log
+told core policy a behind log is_core is_policy adm at room outcomes served =
     let s = core.dims in
     let w = world core policy in
     let ok : IsWorld w = cores_are_worlds core policy is_core is_policy.methods in
     let events = events_in log in
-    let there : rooms ≡ alone w last = ends_alone s w h last rooms events (luck_of stated max_input served.outcomes (sends_in log) served.starved) at served.ended in
-    by_alone core policy h last stated left os log ok adm (subst (λ (rs : List Room). Serves (manner s) (alone w h) rs stated left max_input [] os log) there served)
-  where
-    by_alone : (core : Core) (policy : Policy) (h last : List Entry) (stated left : ℕ) (os : List Outcome) (log : List LogEntry) → IsWorld (world core policy) → IsAdmissible (shown core policy) h
-        → Serves (manner core.dims) (alone (world core policy) h) (alone (world core policy) last) stated left max_input [] os log → Tells core policy h last stated left os log
-    by_alone core policy h last stated left os log ok adm served =
-        let s = core.dims in
-        let w = world core policy in
-        let events = events_in log in
-        let luck = luck_of stated max_input served.outcomes (sends_in log) served.starved in
-        let calls = calls_of (manner s) (alone w h) events luck in
-        let is : last ≡ steps s w.shown h calls = ap first_history (ends_at s w h (alone w last) events luck served.ended) in
-        record {
-          served = served;
-          admissible = subst (IsAdmissible w.shown) (sym is) (steps_stay s w.shown h calls adm);
-          two_worlds = λ later good ext m t within.
-              let on : Extends (steps s w.shown h calls) later = subst (λ (k : List Entry). Extends k later) is ext in
-              let alike = logs_are_alike (manner s) (alone w h) (alone (twin w m (changes w.shown later m t)) h) events luck (same_replies s w h later calls m t ok good on within) in
-              record { same_log = served.told ∙ sym alike.same_log; other_sum = other_sum w later m t ok good within };
-        }
+    let luck = luck_of (stated_at (desk_before core policy a) max_input) served.outcomes (sends_in log) served.starved in
+    let calls = calls_of (manner s) (alone w a.first) events luck in
+    let there : behind.rooms ≡ alone w a.last = ends_alone s w a.first a.last behind.rooms events luck at served.ended in
+    let is : a.last ≡ steps s w.shown a.first calls = ap first_history (ends_at s w a.first (alone w a.last) events luck (sym there ∙ served.ended)) in
+    record {
+      served = record {
+        outcomes = served.outcomes;
+        starved = served.starved;
+        gained = sym outcomes ∙ served.gained;
+        told = served.told;
+        ended = sym there ∙ served.ended;
+        none_left = served.none_left;
+        asks_left = served.asks_left ∙ room;
+      };
+      hides = record {
+        here = served.told;
+        admissible = subst (IsAdmissible w.shown) (sym is) (steps_stay s w.shown a.first calls adm);
+        hides = λ later good ext m t within.
+            let on : Extends (steps s w.shown a.first calls) later = subst (λ (k : List Entry). Extends k later) is ext in
+            let alike = logs_are_alike (manner s) (alone w a.first) (alone (twin w m (changes w.shown later m t)) a.first) events luck (same_replies s w a.first later calls m t ok good on within) in
+            record { same = served.told ∙ sym alike.same_log; other_sum = other_sum w later m t ok good within };
+      };
+    }
 
 -- ---- how a serving ended
 
-pub ends : (end : Result (Unit {0}) ServeFault) (told : Bool) (os : List Outcome) (left : ℕ) (log : List LogEntry) → (IsTrue told → OnOk end ((es : List Arrival) × (events_in log ≡ es ++ End ∷ []) × (length es < max_input)))
-    → (IsTrue told → OnErr end (has_end log ≡ false)) → OnOk end (0 < left) → IfErr end (λ fault. IsCounted fault told [] os left max_input log) → Ends end told os left log
-ends (Ok u) told os left log ended unended room spent = (room, ended)
-ends (Err fault) told os left log ended unended room spent = (spent, unended)
+pub ends : (end : Result (Unit {0}) ServeFault) (told : Bool) (old new : DeskState) (log : List LogEntry) → (IsTrue told → OnOk end ((es : List Arrival) × (events_in log ≡ es ++ End ∷ []) × (length es < max_input)))
+    → (IsTrue told → OnErr end (has_end log ≡ false)) → OnOk end (0 < new.room) → IfErr end (λ fault. IsCounted fault told old new max_input log) → Ends end told old new log
+ends (Ok u) told old new log ended unended room spent = (room, ended)
+ends (Err fault) told old new log ended unended room spent = (spent, unended)
+
+-- of a desk only what became of its asks and its room are counted
+pub ended_as : (end : Result (Unit {0}) ServeFault) (told : Bool) (old old' new new' : DeskState) (log : List LogEntry) → old.outcomes ≡ old'.outcomes → new.outcomes ≡ new'.outcomes → new.room ≡ new'.room → Ends end told old new log → Ends end told old' new' log
+ended_as (Ok u) told old old' new new' log first last room e = (subst (λ (n : ℕ). 0 < n) room e.0, e.1)
+ended_as (Err WireFailed) told old old' new new' log first last room e = ((subst (λ (n : ℕ). 0 < n) room (e.0).0, (e.0).1), e.1)
+ended_as (Err (Spent requests events)) told old old' new new' log first last room e =
+    ((ap (λ (os : List Outcome). length os) (sym last) ∙ (e.0).0 ∙ ap (λ (os : List Outcome). length os + requests) first, (e.0).1, (e.0).2, subst (λ (n : ℕ). (n ≡ 0) ⊎ (events ≡ max_input)) room (e.0).3), e.1)
 
 -- ---- what a crash leaves
 
@@ -182,12 +196,15 @@ counted_none (JournalFault ∷ os) e = absurd (omega (arith, e, one))
 counted_none (NoMemory ∷ os) e = (λ f. cc, counted_none os e)
 
 -- where the count of the store did not rise, the journal failed for none
-pub calm : (os : List Outcome) (before now : ℕ) → min (before + (faults_in os - faults_in [])) (2 ^ 64 - 1) ≤ now → ¬ Rose before now → NoneFailed os
-calm os before now risen quiet = by (faults_in os) refl
+pub calm : (first os : List Outcome) (before now : ℕ) → first ≡ [] → min (before + (faults_in os - faults_in first)) (2 ^ 64 - 1) ≤ now → ¬ Rose before now → NoneFailed os
+calm first os before now unasked risen quiet = by (faults_in os) refl
   where
+    none : faults_in first ≡ 0
+    none = ap faults_in unasked
+
     by : (n : ℕ) → faults_in os ≡ n → NoneFailed os
     by zero e = counted_none os e
-    by (suc n) e = absurd (quiet (omega (arith, risen, e)))
+    by (suc n) e = absurd (quiet (omega (arith, risen, e, none)))
 
 -- rooms on the way have a history between the first and the last
 on_the_way : (core : Core) (policy : Policy) (h : List Entry) (last here : List Room) → Reaches (manner core.dims) (alone (world core policy) h) here → Reaches (manner core.dims) here last → Extends h (first_history here) × Extends (first_history here) (first_history last)
@@ -201,49 +218,54 @@ on_the_way core policy h last here from to =
       subst (λ (rs : List Room). Extends (first_history rs) (first_history last)) (sym is) (subst (λ (rs : List Room). Extends k (first_history rs)) (sym ends) (steps_grow s w.shown k to.0)),
     )
 
--- the log of an engine that was asked over a wire
-pub kept : (core : Core) (policy : Policy) (h : List Entry) (j : Journal) (stated : ℕ) (last : Engine) (os : List Outcome) (tells tells' : Bool) (logs logs' : ℕ → Log) (faults faults' : ℕ) (old : Log)
-    → j.log ≡ 0 → IsTrue tells → IsExact core policy h (logs 0).state → Gained (IsInRecovery (history_of core policy) old.state) old (logs 0)
-    → Endures (manner core.dims) (within_of (begun core policy h j stated)) (within_of last) (exact_of (begun core policy h j stated)) (exact_of last) tells tells' logs logs' (alone (world core policy) h) (rooms_of last) [] os faults faults'
-    → Survived core policy h last.history os old (logs' 0)
-kept core policy h j stated last os tells tells' logs logs' faults faults' old zeroth are exact opened v =
-    let e = begun core policy h j stated in
-    let around : within_of e (alone (world core policy) h) 0 (logs 0).state = (sym zeroth, λ b image. inl (exact b image)) in
+-- an engine as a desk
+abbrev pub desk_at : Engine → DeskState
+desk_at e = record { manner = manner e.core.dims; rooms = rooms_of e; room = e.left; outcomes = e.outcomes }
+
+-- what an engine that was asked over a wire leaves of a store
+abbrev pub Lives : Engine → Engine → StoreState → StoreState → Type 0
+Lives e last store store' = Endures (within_of e) (within_of last) (exact_of e) (exact_of last) (desk_at e) (desk_at last) store store'
+
+-- its log, where it was asked nothing before
+pub kept : {S : Type 0} (e last : Engine) (mid : StoreState) (store : Seen StoreState S) → e.journal.log ≡ 0 → e.outcomes ≡ [] → IsTrue mid.told → IsExact e.core e.policy e.history (mid.logs 0).state
+    → Gained (IsInRecovery (history_of e.core e.policy) (store.before.logs 0).state) (store.before.logs 0) (mid.logs 0) → Lives e last mid store.after → Survived e.core e.policy e.history last.history last.outcomes store
+kept {S} e last mid store zeroth unasked are exact opened v =
+    let core = e.core in
+    let policy = e.policy in
+    let h = e.history in
+    let old = store.before.logs 0 in
+    let new = store.after.logs 0 in
+    let around : within_of e (rooms_of e) 0 (mid.logs 0).state = (sym zeroth, λ b image. inl (exact b image)) in
     record {
-      passed = gained_then (IsBetween core policy old.state h last.history) old (logs 0) (logs' 0)
-          (gained_map (IsInRecovery (history_of core policy) old.state) (IsBetween core policy old.state h last.history) old (logs 0) (λ s x. inl x) opened)
-          (gained_map (OnTheWay (manner core.dims) (within_of e) (alone (world core policy) h) (rooms_of last) 0) (IsBetween core policy old.state h last.history) (logs 0) (logs' 0)
+      passed = gained_then (IsBetween core policy old.state h last.history) old (mid.logs 0) new
+          (gained_map (IsInRecovery (history_of core policy) old.state) (IsBetween core policy old.state h last.history) old (mid.logs 0) (λ s x. inl x) opened)
+          (gained_map (OnTheWay (manner core.dims) (within_of e) (alone (world core policy) h) (rooms_of last) 0) (IsBetween core policy old.state h last.history) (mid.logs 0) new
           (λ s x. let between = on_the_way core policy h (rooms_of last) x.here x.from x.to in inr (first_history x.here, between.0, between.1, (x.there).1)) (v.passed are 0 around));
-      ends = ((v.within_stays (rooms_of last) 0 (logs' 0).state).0 (v.stays_within are 0 around)).1;
-      exact = λ none. ((v.exact_stays (rooms_of last) 0 (logs' 0).state).0 (v.stays_exact (none_counted os none) are 0 (sym zeroth, exact))).1;
+      ends = ((v.within_stays (rooms_of last) 0 new.state).0 (v.stays_within are 0 around)).1;
+      exact = λ none. ((v.exact_stays (rooms_of last) 0 new.state).0 (v.stays_exact (none_counted last.outcomes none ∙ sym (ap faults_in unasked)) are 0 (sym zeroth, exact))).1;
     }
 
 -- ---- the whole
 
+-- an engine that was opened with a history leaves what its log kept
+abbrev pub Keeps : {S : Type 0} → Core → Policy → Engine → Engine → StoreState → Seen StoreState S → Type 0
+Keeps core policy e last mid store =
+    IsTrue store.before.told → IsExact core policy e.history (mid.logs 0).state
+    → (IsTrue store.before.told → Gained (IsInRecovery (history_of core policy) (store.before.logs 0).state) (store.before.logs 0) (mid.logs 0)) → Survived core policy e.history last.history last.outcomes store
+
 -- what is known of an engine that was opened and then served a wire, in one record
-pub served : (d f p : List ℕ) (stated : ℕ) (files : Option (List (List ℕ × List ℕ))) (told mid_told : Bool) (old mid new : Log) (before opened now : ℕ) (end : Result (Unit {0}) ServeFault) (wire_told heard_told : Bool) (log : List LogEntry) (os : List Outcome) (core : Core) (policy : Policy) (e last : Engine)
-    → IfSome files (MakesAll d f p core policy) → e ≡ record { core = core; policy = policy; history = e.history; journal = e.journal; outcomes = []; left = stated } → IsRuled (book_of e) → mid_told ≡ told
-    → (IsTrue told → history_of core policy old.state.now ≡ Ok e.history) → (IsTrue told → IsExact core policy e.history mid.state) → (IsTrue told → Gained (IsInRecovery (history_of core policy) old.state) old mid) → opened ≡ before → heard_told ≡ wire_told
-    → Wired e.core e.policy e.history last.history e.left last.left last.outcomes end heard_told log
-    → (IsTrue mid_told → IsExact e.core e.policy e.history mid.state → (from : Log) → Gained (IsInRecovery (history_of e.core e.policy) from.state) from mid → Survived e.core e.policy e.history last.history last.outcomes from new)
-    → (¬ Rose opened now → NoneFailed last.outcomes) → os ≡ last.outcomes
-    → Served d f p stated files told old new before now end wire_told log os
-served d f p stated files told mid_told old mid new before opened now end wire_told heard_told log os core policy e last make is rules same_told recovered exact crash steady same_heard wired survived calm outcomes =
-    let h = e.history in
-    record {
-      core = core;
-      policy = policy;
-      history = h;
-      last = last.history;
-      left = last.left;
-      files_make = make;
-      recovered = recovered;
-      admissible = subst (λ (x : Engine). IsAdmissible (shown x.core x.policy) x.history) is rules.admissible;
-      wired = subst (λ (o : List Outcome). Wired core policy h last.history stated last.left o end wire_told log) (sym outcomes)
-          (subst (λ (b : Bool). Wired core policy h last.history stated last.left last.outcomes end b log) same_heard
-          (subst (λ (x : Engine). Wired x.core x.policy x.history last.history x.left last.left last.outcomes end heard_told log) is wired));
-      survived = λ are. subst (λ (o : List Outcome). Survived core policy h last.history o old new) (sym outcomes)
-          (subst (λ (x : Engine). IsExact x.core x.policy x.history mid.state → (from : Log) → Gained (IsInRecovery (history_of x.core x.policy) from.state) from mid → Survived x.core x.policy x.history last.history last.outcomes from new) is (survived (subst IsTrue (sym same_told) are))
-          (exact are) old (crash are));
-      none_failed = λ quiet. subst NoneFailed (sym outcomes) (calm (λ rose. quiet (subst (λ n. Rose n now) steady rose)));
-    }
+pub served : {S : Type 0} (cube : CubeFiles) (files : FolderState) (mid : StoreState) (store : Seen StoreState S) (end : Result (Unit {0}) ServeFault) (told heard_told : Bool) (log : List LogEntry) (core : Core) (policy : Policy) (e last : Engine) (stated : ℕ)
+    → Make cube files core policy → e ≡ begun core policy e.history e.journal stated → IsRuled (book_of e) → (IsTrue store.before.told → history_of core policy (store.before.logs 0).state.now ≡ Ok e.history)
+    → (IsTrue store.before.told → IsExact core policy e.history (mid.logs 0).state) → (IsTrue store.before.told → Gained (IsInRecovery (history_of core policy) (store.before.logs 0).state) (store.before.logs 0) (mid.logs 0))
+    → heard_told ≡ told → Wired e.core e.policy (asking e last) end heard_told log → Keeps e.core e.policy e last mid store
+    → mid.faults ≡ store.before.faults → (¬ Rose mid.faults store.after.faults → NoneFailed last.outcomes) → Served cube files store (asking e last) end told log
+served {S} cube files mid store end told heard_told log core policy e last stated make is rules recovered exact crash same_heard wired keeps steady calm = record {
+  core = core;
+  policy = policy;
+  files_make = make;
+  recovered = recovered;
+  admissible = subst (λ (x : Engine). IsAdmissible (shown x.core x.policy) e.history) is rules.admissible;
+  wired = subst (λ (b : Bool). Wired core policy (asking e last) end b log) same_heard (subst (λ (x : Engine). Wired x.core x.policy (asking e last) end heard_told log) is wired);
+  survived = λ are. subst (λ (x : Engine). Keeps x.core x.policy e last mid store) is keeps are (exact are) crash;
+  none_failed = λ quiet. calm (λ rose. quiet (subst (λ (n : ℕ). Rose n store.after.faults) steady rose));
+}

@@ -1,6 +1,5 @@
 -- What is written of a script that was played to a cube.
 use Rattle.std.specs.Prelude.{◌≡◌, ◌≢◌, ◌⊎◌, ℕ, Bool, true, false, List, [], ◌∷◌, ◌++◌, length, codes, decimal, if◌then◌else◌, IfSome, IsSomeAnd}
-use Rattle.std.specs.declared.option.Option.{Option}
 use Rattle.std.specs.declared.result.Result.{Result}
 use Rattle.std.specs.declared.result.Result.TheVariants.{Ok, Err}
 use Rattle.std.specs.Io.KnownBytes.{Appends}
@@ -8,16 +7,19 @@ use Rattle.cube_model.specs.declared.outcome.Outcome.{Outcome}
 use Rattle.cube_model.specs.declared.policy.Policy.{Policy}
 use Rattle.cube_model.specs.Cores.{Core}
 use Rattle.cube_io.specs.Content.{AppendsPrefix}
-use Rattle.cube_io.specs.States.{Log}
+use Rattle.cube_io.specs.Seen.{FolderState, SinkState, StoreState, Seen}
 use Rattle.cube_io.specs.Wires.{Arrival, LogEntry, events_in, render}
 use Rattle.cube_io.specs.Wires.Arrival.{End}
-use Rattle.cube_opening.specs.Opening.{fault_text, faulted, unless_long, Says, Unopened, Failed, AsksTwo, MakesAll}
+use Rattle.cube_opening.specs.Opening.{fault_text, faulted, unless_long, Says, Unopened, Failed, AsksTwo, Make, names_of}
+use Rattle.cube_opening.specs.declared.cube_files.CubeFiles.{CubeFiles}
 use Rattle.cube_opening.specs.declared.report.Report.{Report}
 use Rattle.cube_script.specs.Playing.{Playing, IsPlaying, starting, has_torn}
 use Rattle.cube_script.specs.Scripts.{script_of}
+use Rattle.cube_script.specs.declared.script_wire.SendRoom.{SendRoom}
+use Rattle.cube_script.specs.declared.script_wire.TheConstants.{MAX_SENDS, MAX_SENT_BYTES}
 use Rattle.cube_server.specs.declared.serving.ServeFault.{ServeFault}
 use Rattle.cube_server.specs.declared.serving.ServeFault.TheVariants.{WireFailed}
-use Rattle.cube_serving.specs.Serving.{Served, served_status, served_text}
+use Rattle.cube_serving.specs.Serving.{Asking, Served, served_status, served_text}
 
 -- ---- the script
 
@@ -26,35 +28,32 @@ abbrev pub script_said : List ℕ → Result (List Arrival) (List ℕ)
 script_said bytes = unless_long (codes "script") bytes (faulted (λ n. fault_text (codes "script") (codes "line " ++ decimal n)) (script_of bytes))
 
 -- the most sends of a script that go well, and the most bytes of them all
-abbrev pub max_sends : ℕ
-max_sends = 4194304
-
-abbrev pub max_sent_bytes : ℕ
-max_sent_bytes = 268435456
+abbrev pub room_for_sends : SendRoom
+room_for_sends = record { sends = MAX_SENDS; bytes = MAX_SENT_BYTES }
 
 -- a wire that is to play these events
 abbrev pub wire_of : List Arrival → Playing
-wire_of script = starting script max_sends max_sent_bytes
+wire_of script = starting script room_for_sends
 
 -- the three files make a core and a policy, and the run ended at the script
-pub record Unscripted (dims_name facts_name policy_name script_name : List ℕ) (files : Option (List (List ℕ × List ℕ))) (before now : ℕ) (r : Report) : Type 0 where
+pub record Unscripted {F : Type 0} (cube : CubeFiles) (script_name : List ℕ) (files : Seen FolderState F) (r : Report) : Type 0 where
   pub core : Core
   pub policy : Policy
-  pub files_make : IfSome files (MakesAll dims_name facts_name policy_name core policy)
-  pub unopened : Unopened script_said script_name files before now r
+  pub files_make : Make cube files.before core policy
+  pub unopened : Unopened script_said script_name files r
 
 -- All four names were asked for, in turn; where the run ended at a file, none behind it. The last may be lacking where memory ran out,
 -- or where the folder failed.
-abbrev pub AsksFour : List ℕ → List ℕ → List ℕ → List ℕ → Option (List (List ℕ × List ℕ)) → Option (List (List ℕ)) → Option (List (List ℕ)) → ℕ → ℕ → Report → Type 0
-AsksFour dims_name facts_name policy_name script_name files old new before now r =
-    IfSome old (λ o. IsSomeAnd new (λ n.
-    (n ≡ o ++ dims_name ∷ facts_name ∷ policy_name ∷ script_name ∷ [])
-    ⊎ ((n ≡ o ++ dims_name ∷ facts_name ∷ policy_name ∷ []) × (Failed before now r ⊎ (r.status ≡ 3)))
-    ⊎ AsksTwo dims_name facts_name files o n before now r))
+abbrev pub AsksFour : {F : Type 0} → CubeFiles → List ℕ → Seen FolderState F → Report → Type 0
+AsksFour cube script_name files r =
+    IfSome files.before.asked (λ o. IsSomeAnd files.after.asked (λ n.
+    (n ≡ o ++ names_of cube ++ script_name ∷ [])
+    ⊎ ((n ≡ o ++ names_of cube) × (Failed files r ⊎ (r.status ≡ 3)))
+    ⊎ AsksTwo cube files o n r))
 
 -- the script is there and is accepted
-abbrev pub HasScript : List ℕ → Option (List (List ℕ × List ℕ)) → Type 0
-HasScript script_name files = IsSomeAnd files (λ known. (script : List Arrival) × Says script_said script_name known (Ok script))
+abbrev pub HasScript : List ℕ → FolderState → Type 0
+HasScript script_name files = IsSomeAnd files.files (λ known. (script : List Arrival) × Says script_said script_name known (Ok script))
 
 -- ---- how a play ended
 
@@ -68,24 +67,27 @@ played_text overrun end os log =
     else served_text end
 
 -- the text of a log was put on the sink, and then it is said how the play ended
-abbrev pub Writes : Result (Unit {0}) ServeFault → List LogEntry → Option (List ℕ) → Option (List ℕ) → Report → Type 0
-Writes end log written written' r =
-    ((r.status ≡ played_status (has_torn log) end) × (r.text ≡ played_text (has_torn log) end r.outcomes log) × Appends written written' (render log))
-    ⊎ ((r.status ≡ 6) × (r.text ≡ codes "output failed\n") × AppendsPrefix written written' (render log))
+abbrev pub Writes : {O : Type 0} → Result (Unit {0}) ServeFault → List LogEntry → Seen SinkState O → Report → Type 0
+Writes end log out r =
+    ((r.status ≡ played_status (has_torn log) end) × (r.text ≡ played_text (has_torn log) end r.outcomes log) × Appends out.before.written out.after.written (render log))
+    ⊎ ((r.status ≡ 6) × (r.text ≡ codes "output failed\n") × AppendsPrefix out.before.written out.after.written (render log))
 
 -- ---- the whole
 
 -- The events of the script came over a wire that was served as `Served` says, and what was written is the text of its log. The wire
 -- played the script: it gave the first events of it, all of them where the end came, no send passed the room, nothing went out of a send
 -- that failed; and the wire failed only behind such a send.
-pub record Replayed (dims_name facts_name policy_name script_name : List ℕ) (stated : ℕ) (files : Option (List (List ℕ × List ℕ))) (told : Bool) (old new : Log) (before now : ℕ) (written written' : Option (List ℕ)) (r : Report) : Type 0 where
+pub record Replayed {S O : Type 0} (cube : CubeFiles) (script_name : List ℕ) (stated : ℕ) (files : FolderState) (store : Seen StoreState S) (out : Seen SinkState O) (r : Report) : Type 0 where
   pub script : List Arrival
   pub wire : Playing
+  pub asking : Asking
+  pub stated_is : asking.stated ≡ stated
+  pub outcomes_are : r.outcomes ≡ asking.outcomes
   pub end : Result (Unit {0}) ServeFault
-  pub said : IfSome files (λ known. Says script_said script_name known (Ok script))
-  pub plays : (wire.script ≡ (wire_of script).script) × (wire.most_sends ≡ max_sends) × (wire.most_bytes ≡ max_sent_bytes)
+  pub said : IfSome files.files (λ known. Says script_said script_name known (Ok script))
+  pub plays : (wire.script ≡ (wire_of script).script) × (wire.most ≡ room_for_sends)
   pub playing : IsPlaying wire
-  pub served : Served dims_name facts_name policy_name stated files told old new before now end true wire.log r.outcomes
+  pub served : Served cube files store asking end true wire.log
   pub whole : (u : Unit {0}) → end ≡ Ok u → events_in wire.log ≡ script ++ End ∷ []
   pub unfailed : has_torn wire.log ≡ false → end ≢ Err WireFailed
-  pub writes : Writes end wire.log written written' r
+  pub writes : Writes end wire.log out r

@@ -1,64 +1,68 @@
 -- What is told to the connections of a wire that a cube serves.
-use Rattle.std.specs.Prelude.{◌≡◌, ◌⊎◌, ◌<◌, ◌+◌, ◌+ℤ◌, ℕ, pos, Bool, false, IsTrue, List, [], ◌∷◌, ◌++◌, length, codes, decimal, IfSome}
-use Rattle.std.specs.declared.option.Option.{Option}
+use Rattle.std.specs.Prelude.{◌≡◌, ◌⊎◌, ◌<◌, ◌+◌, ℕ, Bool, false, IsTrue, List, [], ◌∷◌, ◌++◌, length, codes, decimal}
 use Rattle.std.specs.declared.result.Result.{Result}
 use Rattle.std.specs.declared.result.Result.TheVariants.{Ok, Err}
-use Rattle.cube_model.specs.declared.cell.Cell.{Cell}
 use Rattle.cube_model.specs.declared.entry.Entry.{Entry}
 use Rattle.cube_model.specs.declared.outcome.Outcome.{Outcome}
 use Rattle.cube_model.specs.declared.policy.Policy.{Policy}
 use Rattle.cube_model.specs.Cores.{Core, shown, world}
-use Rattle.cube_model.specs.Cubes.{World, IsIn}
-use Rattle.cube_model.specs.Protection.{protected}
 use Rattle.cube_model.specs.Rooms.{alone}
-use Rattle.cube_model.specs.Twins.{changes, twin, sum_of}
-use Rattle.cube_model.specs.TwoWorlds.{Extends}
 use Rattle.cube_model.specs.Verdicts.{IsAdmissible}
 use Rattle.cube_io.specs.Causes.{Rose}
-use Rattle.cube_io.specs.States.{Log, Gained}
+use Rattle.cube_io.specs.Seen.{FolderState, StoreState, WireState, Seen}
 use Rattle.cube_io.specs.Wires.{Arrival, LogEntry, events_in}
 use Rattle.cube_io.specs.Wires.Arrival.{End}
-use Rattle.cube_journal.specs.Keeping.{IsInRecovery}
+use Rattle.cube_engine.specs.Engines.{Engine}
+use Rattle.cube_engine.specs.Headline.{Hides}
 use Rattle.cube_engine.specs.Kept.{history_of, IsExact}
 use Rattle.cube_engine.specs.Steps.{manner}
-use Rattle.cube_opening.specs.Opening.{MakesAll}
+use Rattle.cube_opening.specs.Opening.{Make}
 use Rattle.cube_opening.specs.Reports.{IsReport}
+use Rattle.cube_opening.specs.declared.cube_files.CubeFiles.{CubeFiles}
 use Rattle.cube_opening.specs.declared.report.Report.{Report}
 use Rattle.cube_server.specs.Logs.{log_of}
-use Rattle.cube_server.specs.Steps.{Serves, IsCounted, has_end, sends_in, luck_of}
+use Rattle.cube_server.specs.Seen.{DeskState}
+use Rattle.cube_server.specs.Steps.{Serves, IsCounted, has_end, sends_in, luck_of, stated_at}
 use Rattle.cube_server.specs.declared.serving.ServeFault.{ServeFault}
 use Rattle.cube_server.specs.declared.serving.ServeFault.TheVariants.{WireFailed, Spent}
-use Rattle.cube_starting.specs.Starting.{Survived}
+use Rattle.cube_starting.specs.Starting.{Recovers, Survived}
 use Rattle.cube_talk.specs.Asks.{NoneFailed}
 use Rattle.cube_talk.specs.Talk.{max_input}
 
 -- ---- what the log of the wire tells
 
--- the world with the changes for a cell by a history
-abbrev pub twin_by : World → List Entry → ℕ → Cell → World
-twin_by w last m t = twin w m (changes w.shown last m t)
+-- Asks of a cube: the history before them and behind them, for how many there was room and is left, and what became of them.
+pub record Asking : Type 0 where
+  pub first : List Entry
+  pub last : List Entry
+  pub stated : ℕ
+  pub left : ℕ
+  pub outcomes : List Outcome
 
--- Over the other world the log is the same, by the same events, outcomes and sends, while the sum of the cell is greater by one there.
-pub record IsUnseen (core : Core) (policy : Policy) (history last : List Entry) (stated : ℕ) (os : List Outcome) (starved : List Bool) (log : List LogEntry) (m : ℕ) (t : Cell) : Type 0 where
-  pub same_log : log ≡ log_of (manner core.dims) (alone (twin_by (world core policy) last m t) history) (events_in log) (luck_of stated max_input os (sends_in log) starved)
-  pub other_sum : sum_of (twin_by (world core policy) last m t) m t ≡ sum_of (world core policy) m t +ℤ pos 1
+-- those of an engine that was asked nothing before
+abbrev pub asking : Engine → Engine → Asking
+asking old new = record { first = old.history; last = new.history; stated = old.left; left = new.left; outcomes = new.outcomes }
 
--- The log is that of the definitions, over the world with one history at its start and another at its end. The two worlds: for whatever
--- protected cell of whatever measure it is the log over the world with the changes for that cell too, by the history at the end and by
--- whatever admissible history that goes on from it.
-pub record Tells (core : Core) (policy : Policy) (history last : List Entry) (stated left : ℕ) (os : List Outcome) (log : List LogEntry) : Type 0 where
-  pub served : Serves (manner core.dims) (alone (world core policy) history) (alone (world core policy) last) stated left max_input [] os log
-  pub admissible : IsAdmissible (shown core policy) last
-  pub two_worlds : (later : List Entry) → IsAdmissible (shown core policy) later → Extends last later
-      → (m : ℕ) (t : Cell) → IsIn t (protected (shown core policy) m) → IsUnseen core policy history later stated served.outcomes served.starved log m t
+-- the cube as a desk, before the asks and behind them
+abbrev pub desk_before : Core → Policy → Asking → DeskState
+desk_before core policy a = record { manner = manner core.dims; rooms = alone (world core policy) a.first; room = a.stated; outcomes = [] }
+
+abbrev pub desk_behind : Core → Policy → Asking → DeskState
+desk_behind core policy a = record { manner = manner core.dims; rooms = alone (world core policy) a.last; room = a.left; outcomes = a.outcomes }
+
+-- The log is that of the definitions, over the world with the first history at its start and the last at its end. It hides each protected
+-- cell: over the world with the changes it would be the same, by the same events, outcomes and sends.
+pub record Tells (core : Core) (policy : Policy) (a : Asking) (log : List LogEntry) : Type 0 where
+  pub served : Serves (desk_before core policy a) (desk_behind core policy a) max_input log
+  pub hides : Hides core policy a.last (λ w. log ≡ log_of (manner core.dims) (alone w a.first) (events_in log) (luck_of (stated_at (desk_before core policy a) max_input) served.outcomes (sends_in log) served.starved))
 
 -- ---- how a serving ended
 
 -- The end came, behind fewer events than are taken at most. Or it did not: the wire failed, or the stated asks or the most events were
 -- taken, which were counted.
-abbrev pub Ends : Result (Unit {0}) ServeFault → Bool → List Outcome → ℕ → List LogEntry → Type 0
-Ends (Ok u) told os left log = (0 < left) × (IsTrue told → (es : List Arrival) × (events_in log ≡ es ++ End ∷ []) × (length es < max_input))
-Ends (Err fault) told os left log = IsCounted fault told [] os left max_input log × (IsTrue told → has_end log ≡ false)
+abbrev pub Ends : Result (Unit {0}) ServeFault → Bool → DeskState → DeskState → List LogEntry → Type 0
+Ends (Ok u) told old new log = (0 < new.room) × (IsTrue told → (es : List Arrival) × (events_in log ≡ es ++ End ∷ []) × (length es < max_input))
+Ends (Err fault) told old new log = IsCounted fault told old new max_input log × (IsTrue told → has_end log ≡ false)
 
 abbrev pub served_status : Result (Unit {0}) ServeFault → ℕ
 served_status (Ok u) = 0
@@ -70,50 +74,50 @@ served_text (Ok u) = []
 served_text (Err WireFailed) = codes "wire failed\n"
 served_text (Err (Spent requests events)) = codes "spent: " ++ decimal requests ++ codes " requests, " ++ decimal events ++ codes " events\n"
 
--- An engine served a wire, from one history to another.
-pub record Wired (core : Core) (policy : Policy) (history last : List Entry) (stated left : ℕ) (os : List Outcome) (end : Result (Unit {0}) ServeFault) (told : Bool) (log : List LogEntry) : Type 0 where
-  pub ended : Ends end told os left log
-  pub counted : left + length os ≡ stated
-  pub tells : IsTrue told → Tells core policy history last stated left os log
+-- A cube served a wire, of which this log is told where it is told.
+pub record Wired (core : Core) (policy : Policy) (a : Asking) (end : Result (Unit {0}) ServeFault) (told : Bool) (log : List LogEntry) : Type 0 where
+  pub ended : Ends end told (desk_before core policy a) (desk_behind core policy a) log
+  pub counted : a.left + length a.outcomes ≡ a.stated
+  pub tells : IsTrue told → Tells core policy a log
 
 -- ---- the whole
 
 -- A wire was served by the core that the files make, under their policy, from the history on that the journal recovers; and the journal
 -- kept what was answered. It failed for some asks only where the store's count of faults rose.
-pub record Served (dims_name facts_name policy_name : List ℕ) (stated : ℕ) (files : Option (List (List ℕ × List ℕ))) (told : Bool) (old new : Log) (before now : ℕ) (end : Result (Unit {0}) ServeFault) (wire_told : Bool) (log : List LogEntry) (os : List Outcome) : Type 0 where
+pub record Served {S : Type 0} (cube : CubeFiles) (files : FolderState) (store : Seen StoreState S) (a : Asking) (end : Result (Unit {0}) ServeFault) (told : Bool) (log : List LogEntry) : Type 0 where
   pub core : Core
   pub policy : Policy
-  pub history : List Entry
-  pub last : List Entry
-  pub left : ℕ
-  pub files_make : IfSome files (MakesAll dims_name facts_name policy_name core policy)
-  pub recovered : IsTrue told → history_of core policy old.state.now ≡ Ok history
-  pub admissible : IsAdmissible (shown core policy) history
-  pub wired : Wired core policy history last stated left os end wire_told log
-  pub survived : IsTrue told → Survived core policy history last os old new
-  pub none_failed : ¬ Rose before now → NoneFailed os
+  pub files_make : Make cube files core policy
+  pub recovered : IsTrue store.before.told → history_of core policy (store.before.logs 0).state.now ≡ Ok a.first
+  pub admissible : IsAdmissible (shown core policy) a.first
+  pub wired : Wired core policy a end told log
+  pub survived : IsTrue store.before.told → Survived core policy a.first a.last a.outcomes store
+  pub none_failed : ¬ Rose store.before.faults store.after.faults → NoneFailed a.outcomes
 
 -- The journal was opened, and nothing was served: of the log every crash leaves what recovers its history.
-pub record Unserved (dims_name facts_name policy_name : List ℕ) (files : Option (List (List ℕ × List ℕ))) (told : Bool) (old new : Log) : Type 0 where
+pub record Unserved {S : Type 0} (cube : CubeFiles) (files : FolderState) (store : Seen StoreState S) : Type 0 where
   pub core : Core
   pub policy : Policy
   pub history : List Entry
-  pub files_make : IfSome files (MakesAll dims_name facts_name policy_name core policy)
-  pub recovered : IsTrue told → history_of core policy old.state.now ≡ Ok history
-  pub passed : IsTrue told → Gained (IsInRecovery (history_of core policy) old.state) old new
-  pub exact : IsTrue told → IsExact core policy history new.state
+  pub files_make : Make cube files core policy
+  pub recovered : IsTrue store.before.told → history_of core policy (store.before.logs 0).state.now ≡ Ok history
+  pub passed : Recovers core policy store
+  pub exact : IsTrue store.before.told → IsExact core policy history (store.after.logs 0).state
 
--- the connections of a wire were served
-pub record Answered (dims_name facts_name policy_name : List ℕ) (stated : ℕ) (files : Option (List (List ℕ × List ℕ))) (told : Bool) (old new : Log) (before now : ℕ) (wire_told : Bool) (log : List LogEntry) (r : Report) : Type 0 where
+-- the connections of a wire were served, by at most so many asks
+pub record Answered {S W : Type 0} (cube : CubeFiles) (stated : ℕ) (files : FolderState) (store : Seen StoreState S) (wire : Seen WireState W) (r : Report) : Type 0 where
+  pub asking : Asking
+  pub stated_is : asking.stated ≡ stated
+  pub outcomes_are : r.outcomes ≡ asking.outcomes
   pub end : Result (Unit {0}) ServeFault
-  pub served : Served dims_name facts_name policy_name stated files told old new before now end wire_told log r.outcomes
+  pub served : Served cube files store asking end wire.before.told wire.after.log
   pub status : r.status ≡ served_status end
   pub text : r.text ≡ served_text end
 
 -- the address was asked for, and where the wire failed it may lack
-abbrev pub Hears : List ℕ → Bool → List (List ℕ) → List (List ℕ) → Report → Type 0
-Hears address told heard heard' r = IsTrue told → (heard' ≡ heard ++ address ∷ []) ⊎ ((heard' ≡ heard) × (r.status ≡ 8))
+abbrev pub Hears : {W : Type 0} → List ℕ → Seen WireState W → Report → Type 0
+Hears address wire r = IsTrue wire.before.told → (wire.after.heard ≡ wire.before.heard ++ address ∷ []) ⊎ ((wire.after.heard ≡ wire.before.heard) × (r.status ≡ 8))
 
 -- a run ended where it was to listen: the wire failed, or memory ran out
-abbrev pub Unheard : ℕ → ℕ → Report → Type 0
-Unheard before now r = (IsReport 8 (codes "wire failed\n") r × Rose before now) ⊎ IsReport 7 (codes "no memory\n") r
+abbrev pub Unheard : {W : Type 0} → Seen WireState W → Report → Type 0
+Unheard wire r = (IsReport 8 (codes "wire failed\n") r × Rose wire.before.faults wire.after.faults) ⊎ IsReport 7 (codes "no memory\n") r

@@ -3,8 +3,6 @@
 
 mod replaying;
 mod serving;
-#[cfg(test)]
-mod tests;
 
 pub use replaying::replay_cube;
 pub use serving::serve_cube;

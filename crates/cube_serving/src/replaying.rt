@@ -3,9 +3,10 @@ ghost use Rattle.std.specs.Prelude.{◌≡◌, ◌≢◌, ◌⊎◌, ◌≤◌, 
 ghost use Rattle.std.specs.List.{list_any};
 ghost use Rattle.cube_io.specs.Causes.{Rose};
 ghost use Rattle.cube_io.specs.Files.{max_file};
+ghost use Rattle.cube_io.specs.Seen.{seen};
 ghost use Rattle.cube_io.specs.Told.{OthersStay};
 ghost use Rattle.cube_io.specs.Wires.{Arrival};
-ghost use Rattle.cube_opening.specs.Opening.{Says, Unopened, EndsUnopened, AsksOnce, HasAll};
+ghost use Rattle.cube_opening.specs.Opening.{Says, Unopened, EndsUnopened, AskedFor, AsksOnce, Reads, HasAll, IsSteady};
 ghost use Rattle.cube_opening.specs.Reports.{IsReport};
 ghost use Rattle.cube_script.specs.Playing.{has_torn};
 ghost use Rattle.cube_server.specs.Steps.{is_end};
@@ -18,7 +19,7 @@ use crate::serving::{report_serving, serve_engine};
 use cube_engine::Engine;
 use cube_io::{Failed, Folder, Sink, Store};
 use cube_model::Text;
-use cube_opening::{Guarded, Opened, Report, Room, open_guarded, read_bytes};
+use cube_opening::{CubeFiles, Guarded, Opened, Report, Room, open_guarded, read_bytes};
 use cube_script::{ScriptFault, ScriptWire};
 use cube_server::{Pool, ServeFault};
 use cube_starting::open_engine;
@@ -50,13 +51,11 @@ fn open_script<F: Folder>(
     files: &mut F,
 ) -> Result<Opened<ScriptWire>, Report>
     requires { room ≡ [] }
-    ensures ok { IfOk result (λ opened. (opened.room ≡ []) × ((script : List Arrival) × (opened.value ≡ wire_of script) × (list_any is_end script ≡ false) × IfSome (F.files files.old) (λ known. Says script_said name.now known (Ok script)))) }
-    ensures err { IfErr result (λ r. Unopened script_said name.now (F.files files.old) (F.faults files.old) (F.faults files.new) r) }
-    ensures asks_ok { OnOk result (IfSome (F.asked files.old) (λ o. IsSomeAnd (F.asked files.new) (λ n. n ≡ o ++ name.now ∷ []))) }
-    ensures asks_err { IfErr result (λ r. AsksOnce name.now (F.asked files.old) (F.asked files.new) (F.faults files.old) (F.faults files.new) r) }
-    ensures files { F.files files.new ≡ F.files files.old }
-    ensures steady { OnOk result (F.faults files.new ≡ F.faults files.old) }
-    ensures steady_err { IfErr result (λ r. r.status ≢ 5 → F.faults files.new ≡ F.faults files.old) }
+    ensures ok { IfOk result (λ opened. (opened.room ≡ []) × ((script : List Arrival) × (opened.value ≡ wire_of script) × (list_any is_end script ≡ false) × IfSome (F.state files.old).files (λ known. Says script_said name.now known (Ok script)))) }
+    ensures err { IfErr result (Unopened script_said name.now (seen F.state files.old files.new)) }
+    ensures asks_ok { OnOk result (AskedFor (name.now ∷ []) (seen F.state files.old files.new)) }
+    ensures asks_err { IfErr result (AsksOnce name.now (seen F.state files.old files.new)) }
+    ensures reads { Reads (seen F.state files.old files.new) result }
 {
     let opened = match read_bytes(alloc, room, b"script", name, files) {
         Ok(opened) => opened,
@@ -104,10 +103,8 @@ fn report_play(
 pub fn replay_cube<F: Folder, S: Store, O: Sink>(
     alloc: Global,
     room: Room,
-    dims_name: &Text,
-    facts_name: &Text,
-    policy_name: &Text,
-    journal_name: &Text,
+    cube: &CubeFiles,
+    journal: &Text,
     script_name: &Text,
     stated: u64,
     files: &mut F,
@@ -116,27 +113,27 @@ pub fn replay_cube<F: Folder, S: Store, O: Sink>(
 ) -> Report
     requires room { room ≡ [] }
     requires stated { 1 ≤ stated }
-    ensures answers { (EndsUnopened dims_name.now facts_name.now policy_name.now (F.files files.old) (F.faults files.old) (F.faults files.new) result × (store.new ≡ store.old) × (out.new ≡ out.old))
-        ⊎ (Unscripted dims_name.now facts_name.now policy_name.now script_name.now (F.files files.old) (F.faults files.old) (F.faults files.new) result × (store.new ≡ store.old) × (out.new ≡ out.old))
-        ⊎ (EndsUnstarted dims_name.now facts_name.now policy_name.now (F.files files.old) (S.told store.old) (S.logs store.old 0) (S.logs store.new 0) (S.faults store.old) (S.faults store.new) result × (F.faults files.new ≡ F.faults files.old) × (out.new ≡ out.old))
-        ⊎ (Unserved dims_name.now facts_name.now policy_name.now (F.files files.old) (S.told store.old) (S.logs store.old 0) (S.logs store.new 0) × IsReport 7 (codes "no memory\n") result × (F.faults files.new ≡ F.faults files.old) × (out.new ≡ out.old))
-        ⊎ (Replayed dims_name.now facts_name.now policy_name.now script_name.now stated (F.files files.old) (S.told store.old) (S.logs store.old 0) (S.logs store.new 0) (S.faults store.old) (S.faults store.new) (O.written out.old) (O.written out.new) result × (F.faults files.new ≡ F.faults files.old)) }
-    ensures asks { AsksFour dims_name.now facts_name.now policy_name.now script_name.now (F.files files.old) (F.asked files.old) (F.asked files.new) (F.faults files.old) (F.faults files.new) result }
-    ensures names { (store.new ≡ store.old) ⊎ AsksStore journal_name.now (S.told store.old) (S.names store.old) (S.names store.new) result }
-    ensures others { OthersStay (S.told store.old) 0 (S.logs store.old) (S.logs store.new) }
-    ensures unkept { result.status ≡ 9 → Rose (S.faults store.old) (S.faults store.new) × (result.outcomes ≡ []) }
-    ensures told { S.told store.new ≡ S.told store.old }
-    ensures unreadable { result.status ≡ 5 → Rose (F.faults files.old) (F.faults files.new) }
-    ensures output { result.status ≡ 6 → Rose (O.faults out.old) (O.faults out.new) }
-    ensures steady { result.status ≢ 5 → F.faults files.new ≡ F.faults files.old }
-    ensures output_steady { result.status ≢ 6 → O.faults out.new ≡ O.faults out.old }
+    ensures answers { (EndsUnopened cube.now (seen F.state files.old files.new) result × (store.new ≡ store.old) × (out.new ≡ out.old))
+        ⊎ (Unscripted cube.now script_name.now (seen F.state files.old files.new) result × (store.new ≡ store.old) × (out.new ≡ out.old))
+        ⊎ (EndsUnstarted cube.now (F.state files.old) (seen S.state store.old store.new) result × IsSteady (seen F.state files.old files.new) × (out.new ≡ out.old))
+        ⊎ (Unserved cube.now (F.state files.old) (seen S.state store.old store.new) × IsReport 7 (codes "no memory\n") result × IsSteady (seen F.state files.old files.new) × (out.new ≡ out.old))
+        ⊎ (Replayed cube.now script_name.now stated (F.state files.old) (seen S.state store.old store.new) (seen O.state out.old out.new) result × IsSteady (seen F.state files.old files.new)) }
+    ensures asks { AsksFour cube.now script_name.now (seen F.state files.old files.new) result }
+    ensures names { (store.new ≡ store.old) ⊎ AsksStore journal.now (seen S.state store.old store.new) result }
+    ensures others { OthersStay 0 (S.state store.old) (S.state store.new) }
+    ensures unkept { result.status ≡ 9 → Rose (S.state store.old).faults (S.state store.new).faults × (result.outcomes ≡ []) }
+    ensures calls { result.status ≡ 9 → IsTrue (S.state store.old).told → (S.state store.new).calls ≤ (S.state store.old).calls + 7 }
+    ensures unreadable { result.status ≡ 5 → Rose (F.state files.old).faults (F.state files.new).faults }
+    ensures output { result.status ≡ 6 → Rose (O.state out.old).faults (O.state out.new).faults }
+    ensures steady { result.status ≢ 5 → IsSteady (seen F.state files.old files.new) }
+    ensures output_steady { result.status ≢ 6 → (O.state out.new).faults ≡ (O.state out.old).faults }
     ensures memory { result.status ≡ 7 → (result.outcomes ≡ []) × (out.new ≡ out.old) }
-    ensures complete { HasAll dims_name.now facts_name.now policy_name.now (F.files files.old) → HasScript script_name.now (F.files files.old) → HasJournal dims_name.now facts_name.now policy_name.now (F.files files.old) (S.told store.old) (S.logs store.old 0).state.now → result.status ≢ 10
-        → ¬ Rose (F.faults files.old) (F.faults files.new) → (result.outcomes ≡ [] → ¬ Rose (S.faults store.old) (S.faults store.new)) → ¬ Rose (O.faults out.old) (O.faults out.new) → (result.status ≡ 0) ⊎ (result.status ≡ 7) }
+    ensures complete { HasAll cube.now (F.state files.old) → HasScript script_name.now (F.state files.old) → HasJournal cube.now (F.state files.old) (S.state store.old) → result.status ≢ 10
+        → ¬ Rose (F.state files.old).faults (F.state files.new).faults → (result.outcomes ≡ [] → ¬ Rose (S.state store.old).faults (S.state store.new).faults) → ¬ Rose (O.state out.old).faults (O.state out.new).faults → (result.status ≡ 0) ⊎ (result.status ≡ 7) }
     ensures wire { result.status ≢ 8 }
     ensures words { result.status ≢ 2 }
 {
-    let opened = match open_guarded(alloc, room, dims_name, facts_name, policy_name, files) {
+    let opened = match open_guarded(alloc, room, cube, files) {
         Ok(opened) => opened,
         Err(report) => return report,
     };
@@ -145,15 +142,7 @@ pub fn replay_cube<F: Folder, S: Store, O: Sink>(
         Ok(played) => played,
         Err(report) => return report,
     };
-    let started = match open_engine(
-        alloc,
-        played.room,
-        core,
-        policy,
-        journal_name,
-        stated,
-        store,
-    ) {
+    let started = match open_engine(alloc, played.room, core, policy, journal, stated, store) {
         Ok(started) => started,
         Err(report) => return report,
     };

@@ -1,21 +1,20 @@
 // `serve`: the asks of connections are answered by the cube of the files.
-ghost use Rattle.std.specs.Prelude.{◌≡◌, ◌≢◌, ◌⊎◌, ◌≤◌, ◌+◌, ◌++◌, ◌∷◌, [], length, IsTrue, Err};
+ghost use Rattle.std.specs.Prelude.{◌≡◌, ◌≢◌, ◌⊎◌, ◌≤◌, ◌+◌, [], IsTrue, Err};
 ghost use Rattle.cube_io.specs.Causes.{Rose};
-ghost use Rattle.cube_io.specs.States.{Log, Gained};
-ghost use Rattle.cube_io.specs.Told.{OthersStay};
-ghost use Rattle.cube_journal.specs.Keeping.{IsInRecovery};
-ghost use Rattle.cube_engine.specs.Kept.{history_of, IsKept, IsExact};
-ghost use Rattle.cube_opening.specs.Opening.{EndsUnopened, AsksAll, HasAll};
+ghost use Rattle.cube_io.specs.Seen.{seen};
+ghost use Rattle.cube_io.specs.Told.{OthersStay, PlaysOn};
+ghost use Rattle.cube_engine.specs.Kept.{IsKept, IsExact};
+ghost use Rattle.cube_opening.specs.Opening.{EndsUnopened, AsksAll, HasAll, IsSteady};
 ghost use Rattle.cube_server.specs.Pools.{IsFree};
 ghost use Rattle.cube_server.specs.declared.serving.ServeFault.TheVariants as fault;
-ghost use Rattle.cube_serving.specs.Serving.{Wired, Unserved, Answered, Hears, Unheard, served_status, served_text};
-ghost use Rattle.cube_starting.specs.Starting.{EndsUnstarted, AsksStore, HasJournal, Survived};
+ghost use Rattle.cube_serving.specs.Serving.{asking, Wired, Unserved, Answered, Hears, Unheard, served_status, served_text};
+ghost use Rattle.cube_starting.specs.Starting.{EndsUnstarted, AsksStore, HasJournal, Recovers, Survived};
 ghost use Rattle.cube_talk.specs.Asks.{NoneFailed};
 
 use cube_engine::Engine;
 use cube_io::{Folder, Store, Wire};
 use cube_model::Text;
-use cube_opening::{Guarded, Report, Room, open_guarded, spent_room};
+use cube_opening::{CubeFiles, Guarded, Report, Room, open_guarded, spent_room};
 use cube_server::{Pool, ServeFault, serve};
 use cube_starting::open_engine;
 use std::alloc::Global;
@@ -31,26 +30,24 @@ pub(crate) fn serve_engine<S: Store, W: Wire>(
     wire: &mut W,
     pool: &mut Pool,
 ) -> Result<(), ServeFault>
-    requires attached { IsTrue (S.attached store.old) }
-    requires kept { IsTrue (S.told store.old) → IsKept engine.old.core engine.old.policy engine.old.history engine.old.journal (S.logs store.old 0).state }
+    requires attached { IsTrue (S.state store.old).attached }
+    requires kept { IsTrue (S.state store.old).told → IsKept engine.old.core engine.old.policy engine.old.history engine.old.journal ((S.state store.old).logs 0).state }
     requires log { engine.old.journal.log ≡ 0 }
     requires unasked { engine.old.outcomes ≡ [] }
     requires room { 1 ≤ engine.old.left }
     requires pool { IsFree pool.old }
-    requires quiet { IsTrue (W.told wire.old) → W.log wire.old ≡ [] }
-    ensures wired { Wired engine.old.core engine.old.policy engine.old.history engine.new.history engine.old.left engine.new.left engine.new.outcomes result (W.told wire.old) (W.log wire.new) }
-    ensures survived { IsTrue (S.told store.old) → IsExact engine.old.core engine.old.policy engine.old.history (S.logs store.old 0).state
-        → (opened : Log) → Gained (IsInRecovery (history_of engine.old.core engine.old.policy) opened.state) opened (S.logs store.old 0)
-        → Survived engine.old.core engine.old.policy engine.old.history engine.new.history engine.new.outcomes opened (S.logs store.new 0) }
-    ensures others { OthersStay (S.told store.old) 0 (S.logs store.old) (S.logs store.new) }
-    ensures calm { ¬ Rose (S.faults store.old) (S.faults store.new) → NoneFailed engine.new.outcomes }
-    ensures failed { result ≡ Err fault.WireFailed → Rose (W.faults wire.old) (W.faults wire.new) }
-    ensures steady { result ≢ Err fault.WireFailed → W.faults wire.new ≡ W.faults wire.old }
-    ensures told { S.told store.new ≡ S.told store.old }
-    ensures stored { IsTrue (S.told store.old) → S.names store.new ≡ S.names store.old }
-    ensures wire_told { W.told wire.new ≡ W.told wire.old }
-    ensures plan { W.plan wire.new ≡ W.plan wire.old }
-    ensures names { IsTrue (W.told wire.old) → W.heard wire.new ≡ W.heard wire.old }
+    requires quiet { IsTrue (W.state wire.old).told → (W.state wire.old).log ≡ [] }
+    ensures wired { Wired engine.old.core engine.old.policy (asking engine.old engine.new) result (W.state wire.old).told (W.state wire.new).log }
+    ensures survived { IsTrue (S.state store.old).told → IsExact engine.old.core engine.old.policy engine.old.history ((S.state store.old).logs 0).state
+        → (opened : S) → Recovers engine.old.core engine.old.policy (seen S.state opened store.old) → (S.state opened).told ≡ (S.state store.old).told
+        → Survived engine.old.core engine.old.policy engine.old.history engine.new.history engine.new.outcomes (seen S.state opened store.new) }
+    ensures others { OthersStay 0 (S.state store.old) (S.state store.new) }
+    ensures calm { ¬ Rose (S.state store.old).faults (S.state store.new).faults → NoneFailed engine.new.outcomes }
+    ensures failed { result ≡ Err fault.WireFailed → Rose (W.state wire.old).faults (W.state wire.new).faults }
+    ensures steady { result ≢ Err fault.WireFailed → (W.state wire.new).faults ≡ (W.state wire.old).faults }
+    ensures told { (S.state store.new).told ≡ (S.state store.old).told }
+    ensures stored { IsTrue (S.state store.old).told → (S.state store.new).names ≡ (S.state store.old).names }
+    ensures plays { PlaysOn (W.state wire.old) (W.state wire.new) }
 {
     let _rules = engine.core();
     serve(alloc, engine, store, wire, pool, MAX_EVENTS)
@@ -76,10 +73,8 @@ pub(crate) fn report_serving(room: Room, end: Result<(), ServeFault>, engine: En
 pub fn serve_cube<F: Folder, S: Store, W: Wire>(
     alloc: Global,
     room: Room,
-    dims_name: &Text,
-    facts_name: &Text,
-    policy_name: &Text,
-    journal_name: &Text,
+    cube: &CubeFiles,
+    journal: &Text,
     address: &Text,
     stated: u64,
     files: &mut F,
@@ -88,42 +83,33 @@ pub fn serve_cube<F: Folder, S: Store, W: Wire>(
 ) -> Report
     requires room { room ≡ [] }
     requires stated { 1 ≤ stated }
-    requires quiet { IsTrue (W.told wire.old) → W.log wire.old ≡ [] }
-    ensures answers { (EndsUnopened dims_name.now facts_name.now policy_name.now (F.files files.old) (F.faults files.old) (F.faults files.new) result × (store.new ≡ store.old) × (wire.new ≡ wire.old))
-        ⊎ (EndsUnstarted dims_name.now facts_name.now policy_name.now (F.files files.old) (S.told store.old) (S.logs store.old 0) (S.logs store.new 0) (S.faults store.old) (S.faults store.new) result × (F.faults files.new ≡ F.faults files.old) × (wire.new ≡ wire.old))
-        ⊎ (Unserved dims_name.now facts_name.now policy_name.now (F.files files.old) (S.told store.old) (S.logs store.old 0) (S.logs store.new 0) × Unheard (W.faults wire.old) (W.faults wire.new) result × (F.faults files.new ≡ F.faults files.old) × (IsTrue (W.told wire.old) → W.log wire.new ≡ []))
-        ⊎ (Answered dims_name.now facts_name.now policy_name.now stated (F.files files.old) (S.told store.old) (S.logs store.old 0) (S.logs store.new 0) (S.faults store.old) (S.faults store.new) (W.told wire.old) (W.log wire.new) result × (F.faults files.new ≡ F.faults files.old)) }
-    ensures asks { AsksAll dims_name.now facts_name.now policy_name.now (F.files files.old) (F.asked files.old) (F.asked files.new) (F.faults files.old) (F.faults files.new) result }
-    ensures names { (store.new ≡ store.old) ⊎ AsksStore journal_name.now (S.told store.old) (S.names store.old) (S.names store.new) result }
-    ensures heard { (wire.new ≡ wire.old) ⊎ Hears address.now (W.told wire.old) (W.heard wire.old) (W.heard wire.new) result }
-    ensures others { OthersStay (S.told store.old) 0 (S.logs store.old) (S.logs store.new) }
-    ensures unkept { result.status ≡ 9 → Rose (S.faults store.old) (S.faults store.new) × (result.outcomes ≡ []) }
-    ensures told { S.told store.new ≡ S.told store.old }
-    ensures wire_told { W.told wire.new ≡ W.told wire.old }
-    ensures unreadable { result.status ≡ 5 → Rose (F.faults files.old) (F.faults files.new) }
-    ensures unheard { result.status ≡ 8 → Rose (W.faults wire.old) (W.faults wire.new) }
-    ensures steady { result.status ≢ 5 → F.faults files.new ≡ F.faults files.old }
-    ensures wire_steady { result.status ≢ 8 → W.faults wire.new ≡ W.faults wire.old }
-    ensures memory { result.status ≡ 7 → (result.outcomes ≡ []) × (IsTrue (W.told wire.old) → W.log wire.new ≡ []) }
-    ensures complete { HasAll dims_name.now facts_name.now policy_name.now (F.files files.old) → HasJournal dims_name.now facts_name.now policy_name.now (F.files files.old) (S.told store.old) (S.logs store.old 0).state.now → result.status ≢ 10
-        → ¬ Rose (F.faults files.old) (F.faults files.new) → (result.outcomes ≡ [] → ¬ Rose (S.faults store.old) (S.faults store.new)) → ¬ Rose (W.faults wire.old) (W.faults wire.new) → (result.status ≡ 0) ⊎ (result.status ≡ 7) }
+    requires quiet { IsTrue (W.state wire.old).told → (W.state wire.old).log ≡ [] }
+    ensures answers { (EndsUnopened cube.now (seen F.state files.old files.new) result × (store.new ≡ store.old) × (wire.new ≡ wire.old))
+        ⊎ (EndsUnstarted cube.now (F.state files.old) (seen S.state store.old store.new) result × IsSteady (seen F.state files.old files.new) × (wire.new ≡ wire.old))
+        ⊎ (Unserved cube.now (F.state files.old) (seen S.state store.old store.new) × Unheard (seen W.state wire.old wire.new) result × IsSteady (seen F.state files.old files.new) × (IsTrue (W.state wire.old).told → (W.state wire.new).log ≡ []))
+        ⊎ (Answered cube.now stated (F.state files.old) (seen S.state store.old store.new) (seen W.state wire.old wire.new) result × IsSteady (seen F.state files.old files.new)) }
+    ensures asks { AsksAll cube.now (seen F.state files.old files.new) result }
+    ensures names { (store.new ≡ store.old) ⊎ AsksStore journal.now (seen S.state store.old store.new) result }
+    ensures heard { (wire.new ≡ wire.old) ⊎ Hears address.now (seen W.state wire.old wire.new) result }
+    ensures others { OthersStay 0 (S.state store.old) (S.state store.new) }
+    ensures unkept { result.status ≡ 9 → Rose (S.state store.old).faults (S.state store.new).faults × (result.outcomes ≡ []) }
+    ensures calls { result.status ≡ 9 → IsTrue (S.state store.old).told → (S.state store.new).calls ≤ (S.state store.old).calls + 7 }
+    ensures unreadable { result.status ≡ 5 → Rose (F.state files.old).faults (F.state files.new).faults }
+    ensures unheard { result.status ≡ 8 → Rose (W.state wire.old).faults (W.state wire.new).faults }
+    ensures steady { result.status ≢ 5 → IsSteady (seen F.state files.old files.new) }
+    ensures wire_steady { result.status ≢ 8 → (W.state wire.new).faults ≡ (W.state wire.old).faults }
+    ensures memory { result.status ≡ 7 → (result.outcomes ≡ []) × (IsTrue (W.state wire.old).told → (W.state wire.new).log ≡ []) }
+    ensures complete { HasAll cube.now (F.state files.old) → HasJournal cube.now (F.state files.old) (S.state store.old) → result.status ≢ 10
+        → ¬ Rose (F.state files.old).faults (F.state files.new).faults → (result.outcomes ≡ [] → ¬ Rose (S.state store.old).faults (S.state store.new).faults) → ¬ Rose (W.state wire.old).faults (W.state wire.new).faults → (result.status ≡ 0) ⊎ (result.status ≡ 7) }
     ensures output { result.status ≢ 6 }
     ensures words { result.status ≢ 2 }
 {
-    let opened = match open_guarded(alloc, room, dims_name, facts_name, policy_name, files) {
+    let opened = match open_guarded(alloc, room, cube, files) {
         Ok(opened) => opened,
         Err(report) => return report,
     };
     let Guarded { core, policy } = opened.value;
-    let started = match open_engine(
-        alloc,
-        opened.room,
-        core,
-        policy,
-        journal_name,
-        stated,
-        store,
-    ) {
+    let started = match open_engine(alloc, opened.room, core, policy, journal, stated, store) {
         Ok(started) => started,
         Err(report) => return report,
     };

@@ -1,14 +1,12 @@
 // The journal of a command: the store is attached, and an engine starts over its log 0.
 ghost use Rattle.std.specs.Prelude.{◌≡◌, ◌⊎◌, ◌≤◌, ◌+◌, ◌++◌, ◌∷◌, decimal, length, [], IsTrue, IfOk, IfErr, OnOk, Ok, codes};
 ghost use Rattle.cube_model.specs.Policies.{IsPolicy};
-ghost use Rattle.cube_io.specs.States.{Gained};
-ghost use Rattle.cube_io.specs.Told.{OthersStay};
-ghost use Rattle.cube_journal.specs.Keeping.{IsInRecovery};
+ghost use Rattle.cube_io.specs.Seen.{seen};
 ghost use Rattle.cube_engine.specs.Engines.{book_of};
 ghost use Rattle.cube_engine.specs.Kept.{history_of, IsKept, IsExact};
 ghost use Rattle.cube_engine.specs.Worlds.{IsRuled};
 ghost use Rattle.cube_opening.specs.Reports.{IsReport, NoRoom};
-ghost use Rattle.cube_starting.specs.Starting.{journal_text as journal_words, journal_status as status_for, Unstarted, AsksStore};
+ghost use Rattle.cube_starting.specs.Starting.{journal_text as journal_words, journal_status as status_for, IsCalm, Unstarted, AsksStore, Opens, Recovers};
 
 use cube_core::Core;
 use cube_engine::{Engine, EngineFault};
@@ -83,18 +81,16 @@ pub fn open_engine<S: Store>(
     ensures engine { IfOk result (λ opened. opened.value ≡ record { core = core; policy = policy; history = opened.value.history; journal = opened.value.journal; outcomes = []; left = stated }) }
     ensures rules { IfOk result (λ opened. IsRuled (book_of opened.value)) }
     ensures log { IfOk result (λ opened. opened.value.journal.log ≡ 0) }
-    ensures attached { OnOk result (IsTrue (S.attached store.new)) }
-    ensures history { IsTrue (S.told store.old) → IfOk result (λ opened. history_of core policy (S.logs store.old 0).state.now ≡ Ok opened.value.history) }
-    ensures kept { IsTrue (S.told store.old) → IfOk result (λ opened. IsKept core policy opened.value.history opened.value.journal (S.logs store.new 0).state) }
-    ensures exact { IsTrue (S.told store.old) → IfOk result (λ opened. IsExact core policy opened.value.history (S.logs store.new 0).state) }
-    ensures crash { IsTrue (S.told store.old) → Gained (IsInRecovery (history_of core policy) (S.logs store.old 0).state) (S.logs store.old 0) (S.logs store.new 0) }
-    ensures err { IfErr result (λ r. Unstarted core policy (S.told store.old) (S.logs store.old 0).state.now (S.faults store.old) (S.faults store.new) r) }
-    ensures steady { OnOk result (S.faults store.new ≡ S.faults store.old) }
-    ensures told { S.told store.new ≡ S.told store.old }
-    ensures names { OnOk result (IsTrue (S.told store.old) → S.names store.new ≡ S.names store.old ++ name.now ∷ []) }
-    ensures names_err { IfErr result (λ r. AsksStore name.now (S.told store.old) (S.names store.old) (S.names store.new) r) }
-    ensures others { OthersStay (S.told store.old) 0 (S.logs store.old) (S.logs store.new) }
-    ensures calls { IsTrue (S.told store.old) → S.calls store.new ≤ S.calls store.old + 7 }
+    ensures attached { OnOk result (IsTrue (S.state store.new).attached) }
+    ensures history { IsTrue (S.state store.old).told → IfOk result (λ opened. history_of core policy ((S.state store.old).logs 0).state.now ≡ Ok opened.value.history) }
+    ensures kept { IsTrue (S.state store.old).told → IfOk result (λ opened. IsKept core policy opened.value.history opened.value.journal ((S.state store.new).logs 0).state) }
+    ensures exact { IsTrue (S.state store.old).told → IfOk result (λ opened. IsExact core policy opened.value.history ((S.state store.new).logs 0).state) }
+    ensures crash { Recovers core policy (seen S.state store.old store.new) }
+    ensures err { IfErr result (Unstarted core policy (seen S.state store.old store.new)) }
+    ensures steady { OnOk result (IsCalm (seen S.state store.old store.new)) }
+    ensures names { OnOk result (IsTrue (S.state store.old).told → (S.state store.new).names ≡ (S.state store.old).names ++ name.now ∷ []) }
+    ensures names_err { IfErr result (AsksStore name.now (seen S.state store.old store.new)) }
+    ensures opens { Opens (seen S.state store.old store.new) }
 {
     match store.attach(name) {
         Ok(()) => {}

@@ -4,6 +4,7 @@ use Rattle.std.specs.declared.option.Option.{Option}
 use Rattle.std.specs.Str.Lines.{lines}
 use Rattle.std.proofs.lemmas.Bool.Decides.{nat_tests}
 use Rattle.cube_facts.specs.Flat.{Flat}
+use Rattle.cube_io.specs.Seen.{SourceState, SinkState, Seen}
 use Rattle.cube_io.proofs.Told.{appends_same}
 use Rattle.cube_talk.specs.Lines.{ended_lines}
 use Rattle.cube_talk.specs.Sums.{Answers, answers, talk, max_lines, is_done, Says, Talked}
@@ -12,6 +13,7 @@ use Rattle.cube_talk.specs.Talk.{up_to, Puts, Goes, Conversed}
 use Rattle.cube_talk.specs.declared.sums.Sums.{Sums}
 use Rattle.cube_talk.specs.declared.talk.Ending.{Ending}
 use Rattle.cube_talk.specs.declared.talk.Ending.TheVariants.{Ended, InputFailed, OutputFailed, NoMemory, Spent}
+use Rattle.cube_talk.specs.declared.talk.TalkEnd.{TalkEnd}
 use Rattle.cube_talk.proofs.Kept.{up_to_all, up_to_long, take_past, below}
 use Rattle.cube_talk.proofs.Spoken.{broken_before}
 
@@ -70,12 +72,12 @@ said_of Spent flat x y text said first more w w' zero_lines is split a put (inr 
     inr (rw (sym ended) (omega (arith, a.counted, zero_lines)), open_yet y open_, full_input, appends_same w w' said (answers flat (ended_lines text)) (a.text_is ∙ rw (is, ended) refl) put)
 
 -- a talk by sums is the talk over the rows
-pub talked : {S : Type 0} (ending : Ending) (flat : Flat) (x y : Sums) (s t : S) (bytes : ℕ) (left left' w w' : Option (List ℕ)) → x.lines ≡ 0 → x.flat ≡ flat
-    → Conversed (λ (x : Sums) (s : S) (ls : List (List ℕ)) (y : Sums) (t : S) (text : List ℕ). Answers x y ls text × (t ≡ s)) x y s t (is_done y) ending bytes left left' w w'
-    → Talked flat ending y.lines bytes left left' w w'
-talked ending flat x y s t bytes left left' w w' zero_lines is c = record {
+pub talked : {S I O : Type 0} (end : TalkEnd) (flat : Flat) (x y : Sums) (s t : S) (input : Seen SourceState I) (out : Seen SinkState O) → x.lines ≡ 0 → x.flat ≡ flat
+    → Conversed (λ (x : Sums) (s : S) (ls : List (List ℕ)) (y : Sums) (t : S) (text : List ℕ). Answers x y ls text × (t ≡ s)) x y s t (is_done y) end input out
+    → Talked flat end y.lines input out
+talked end flat x y s t input out zero_lines is c = record {
   text = c.text;
   taken = c.taken;
   counted = c.counted;
-  said = said_of ending flat x y c.text c.said c.first c.more w w' zero_lines is c.split c.answered.0 c.puts c.goes;
+  said = said_of end.ending flat x y c.text c.said c.first c.more out.before.written out.after.written zero_lines is c.split c.answered.0 c.puts c.goes;
 }

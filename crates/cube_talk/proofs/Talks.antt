@@ -5,6 +5,7 @@ use Rattle.std.specs.Str.Lines.{strip_carriage_return, lines, lines_of_parts}
 use Rattle.std.specs.Io.KnownBytes.{Appends, Consumes}
 use Rattle.std.proofs.lemmas.List.{map-append, length-take-le}
 use Rattle.std.proofs.lemmas.Bool.Decides.{nat_tests}
+use Rattle.cube_io.specs.Seen.{SourceState, SinkState, Seen}
 use Rattle.cube_io.proofs.Told.{consumes_then, consumes_none, appends_then, appends_none}
 use Rattle.cube_talk.specs.Lines.{front, last_part, parts, ended_lines, open_line}
 use Rattle.cube_talk.specs.Talk.{up_to, kept_bytes, max_input, IsKept, Puts, Goes, Conversed}
@@ -20,7 +21,7 @@ use Rattle.cube_talk.proofs.Spoken.{broken_behind}
 -- ---- lines
 
 -- the line that is open, by whether it is empty
-abbrev last_lines : List ℕ → List (List ℕ)
+abbrev pub last_lines : List ℕ → List (List ℕ)
 last_lines line = if length line == 0 then [] else line ∷ []
 
 -- the lines of a text are its ended lines, and its open line where that isn't empty
@@ -29,7 +30,7 @@ lines_by_parts [] h = absurd h
 lines_by_parts (x ∷ []) h = refl
 lines_by_parts (x ∷ y ∷ more) h = ap (λ (l : List (List ℕ)). strip_carriage_return x ∷ l) (lines_by_parts (y ∷ more) tt)
 
-lines_are : (text : List ℕ) → lines text ≡ ended_lines text ++ last_lines (open_line text)
+pub lines_are : (text : List ℕ) → lines text ≡ ended_lines text ++ last_lines (open_line text)
 lines_are text = lines_by_parts (parts text) (some_parts text)
 
 -- behind a text, more bytes end lines with what was open
@@ -104,15 +105,16 @@ goes_on NoMemory text first more done lacks h = tt
 goes_on Spent text first more done lacks h = inl h
 
 -- the talk ends in one more piece
-pub piece_ends : {A B : Type 0} (sp : Speech A B) (e : Ending) (done lacks : Bool) (a a' a'' : A) (b b' b'' : B) (left mid left' w x y : Option (List ℕ)) (carry piece : List ℕ) (bytes n : ℕ)
-    → (s : Stands sp.says a a' b b' left mid w x carry bytes) → Consumes mid left' piece → n ≡ length piece → HeardSome sp.says (Puts e x y) a' a'' b' b'' (open_line s.text) piece → Stops e done lacks
-    → Conversed sp.says a a'' b b'' done e (bytes + n) left left' w y
-piece_ends sp e done lacks a a' a'' b b' b'' left mid left' w x y carry piece bytes n s read long h stops =
+pub piece_ends : {A B I O : Type 0} (sp : Speech A B) (e : Ending) (done lacks : Bool) (a a' a'' : A) (b b' b'' : B) (input : Seen SourceState I) (out : Seen SinkState O) (mid x : Option (List ℕ)) (carry piece : List ℕ) (bytes n : ℕ)
+    → (s : Stands sp.says a a' b b' input.before.left mid out.before.written x carry bytes) → Consumes mid input.after.left piece → n ≡ length piece
+    → HeardSome sp.says (Puts e x out.after.written) a' a'' b' b'' (open_line s.text) piece → Stops e done lacks
+    → Conversed sp.says a a'' b b'' done (record { ending = e; bytes = bytes + n }) input out
+piece_ends sp e done lacks a a' a'' b b' b'' input out mid x carry piece bytes n s read long h stops =
     let first = map strip_carriage_return h.first in
     let last = last_lines (open_line (s.text ++ piece)) in
     record {
       text = s.text ++ piece;
-      taken = consumes_then left mid left' s.text piece s.taken read;
+      taken = consumes_then input.before.left mid input.after.left s.text piece s.taken read;
       counted = rw (length-append s.text piece) (omega (arith, s.counted, long));
       first = ended_lines s.text ++ first;
       more = map strip_carriage_return h.more ++ last;
@@ -122,7 +124,7 @@ piece_ends sp e done lacks a a' a'' b b' b'' left mid left' w x y carry piece by
           ∙ simp append_assoc;
       said = s.said ++ h.text;
       answered = sp.onward a a' a'' b b' b'' (ended_lines s.text) first s.said h.text s.answered h.answered;
-      puts = puts_then e w x y s.said h.text s.put h.went;
+      puts = puts_then e out.before.written x out.after.written s.said h.text s.put h.went;
       goes = goes_on e (s.text ++ piece) (ended_lines s.text ++ first) (map strip_carriage_return h.more ++ last) done lacks stops;
     }
 
@@ -130,11 +132,12 @@ piece_ends sp e done lacks a a' a'' b b' b'' left mid left' w x y carry piece by
 taken_none : (left mid left' : Option (List ℕ)) (text : List ℕ) → Consumes left mid text → Consumes mid left' [] → Consumes left left' text
 taken_none left mid left' text h k = subst (λ (l : List ℕ). Consumes left left' l) (append-nil text) (consumes_then left mid left' text [] h k)
 
-pub input_failed : {A B : Type 0} (sp : Speech A B) (done : Bool) (a a' : A) (b b' : B) (left mid left' w x : Option (List ℕ)) (carry : List ℕ) (bytes : ℕ) → Stands sp.says a a' b b' left mid w x carry bytes
-    → Consumes mid left' [] → done ≡ false → bytes < max_input → Conversed sp.says a a' b b' done InputFailed bytes left left' w x
-input_failed sp done a a' b b' left mid left' w x carry bytes s read going short = record {
+pub input_failed : {A B I O : Type 0} (sp : Speech A B) (done : Bool) (a a' : A) (b b' : B) (input : Seen SourceState I) (out : Seen SinkState O) (mid : Option (List ℕ)) (carry : List ℕ) (bytes : ℕ)
+    → Stands sp.says a a' b b' input.before.left mid out.before.written out.after.written carry bytes
+    → Consumes mid input.after.left [] → done ≡ false → bytes < max_input → Conversed sp.says a a' b b' done (record { ending = InputFailed; bytes = bytes }) input out
+input_failed sp done a a' b b' input out mid carry bytes s read going short = record {
   text = s.text;
-  taken = taken_none left mid left' s.text s.taken read;
+  taken = taken_none input.before.left mid input.after.left s.text s.taken read;
   counted = s.counted;
   first = ended_lines s.text;
   more = last_lines (open_line s.text);
@@ -145,9 +148,10 @@ input_failed sp done a a' b b' left mid left' w x carry bytes s read going short
   goes = (refl, going, omega (arith, s.counted, short));
 }
 
-pub input_spent : {A B : Type 0} (sp : Speech A B) (done : Bool) (a a' : A) (b b' : B) (left left' w x : Option (List ℕ)) (carry : List ℕ) (bytes : ℕ) → Stands sp.says a a' b b' left left' w x carry bytes
-    → done ≡ false → bytes ≡ max_input → Conversed sp.says a a' b b' done Spent bytes left left' w x
-input_spent sp done a a' b b' left left' w x carry bytes s going full = record {
+pub input_spent : {A B I O : Type 0} (sp : Speech A B) (done : Bool) (a a' : A) (b b' : B) (input : Seen SourceState I) (out : Seen SinkState O) (carry : List ℕ) (bytes : ℕ)
+    → Stands sp.says a a' b b' input.before.left input.after.left out.before.written out.after.written carry bytes
+    → done ≡ false → bytes ≡ max_input → Conversed sp.says a a' b b' done (record { ending = Spent; bytes = bytes }) input out
+input_spent sp done a a' b b' input out carry bytes s going full = record {
   text = s.text;
   taken = s.taken;
   counted = s.counted;
@@ -172,22 +176,24 @@ pub record Finished {A B : Type 0} (says : A → B → List (List ℕ) → A →
   pub others : e ≢ InputFailed
 
 -- the last line was answered
-last_answered : {A B : Type 0} (sp : Speech A B) (e : Ending) (done : Bool) (a a' a'' : A) (b b' b'' : B) (left mid left' w x y : Option (List ℕ)) (carry : List ℕ) (bytes : ℕ) → (s : Stands sp.says a a' b b' left mid w x carry bytes)
-    → Consumes mid left' [] → (length carry == 0) ≡ false → HeardLine sp.says (Puts e x y) a' a'' b' b'' carry → Goes e s.text (ended_lines s.text ++ open_line s.text ∷ []) [] done → Conversed sp.says a a'' b b'' done e bytes left left' w y
-last_answered sp e done a a' a'' b b' b'' left mid left' w x y carry bytes s read some h goes =
+last_answered : {A B I O : Type 0} (sp : Speech A B) (e : Ending) (done : Bool) (a a' a'' : A) (b b' b'' : B) (input : Seen SourceState I) (out : Seen SinkState O) (mid x : Option (List ℕ)) (carry : List ℕ) (bytes : ℕ)
+    → (s : Stands sp.says a a' b b' input.before.left mid out.before.written x carry bytes)
+    → Consumes mid input.after.left [] → (length carry == 0) ≡ false → HeardLine sp.says (Puts e x out.after.written) a' a'' b' b'' carry → Goes e s.text (ended_lines s.text ++ open_line s.text ∷ []) [] done
+    → Conversed sp.says a a'' b b'' done (record { ending = e; bytes = bytes }) input out
+last_answered sp e done a a' a'' b b' b'' input out mid x carry bytes s read some h goes =
     let some_line : (length (open_line s.text) == 0) ≡ false = sym (kept_empty carry (open_line s.text) s.kept.kept) ∙ some in
     let line : last_lines (open_line s.text) ≡ open_line s.text ∷ [] = rw some_line refl in
     let one = answered_front sp a' a'' b' b'' (open_line s.text) h.text (subst (λ (k : List ℕ). sp.says a' b' (k ∷ []) a'' b'' h.text) s.kept.kept h.answered) in
     record {
       text = s.text;
-      taken = taken_none left mid left' s.text s.taken read;
+      taken = taken_none input.before.left mid input.after.left s.text s.taken read;
       counted = s.counted;
       first = ended_lines s.text ++ open_line s.text ∷ [];
       more = [];
       split = lines_are s.text ∙ ap (λ (l : List (List ℕ)). ended_lines s.text ++ l) line ∙ sym (append-nil (ended_lines s.text ++ open_line s.text ∷ []));
       said = s.said ++ h.text;
       answered = sp.onward a a' a'' b b' b'' (ended_lines s.text) (open_line s.text ∷ []) s.said h.text s.answered one;
-      puts = puts_then e w x y s.said h.text s.put h.went;
+      puts = puts_then e out.before.written x out.after.written s.said h.text s.put h.went;
       goes = goes;
     }
 
@@ -195,42 +201,43 @@ some_bytes : (c : ℕ) (cs : List ℕ) → (length (c ∷ cs) == 0) ≡ false
 some_bytes c cs = grind (arith, nat_tests)
 
 -- what was answered where the input ended
-pub finished : {A B : Type 0} (sp : Speech A B) (e : Ending) (done : Bool) (a a' a'' : A) (b b' b'' : B) (left mid left' w x y : Option (List ℕ)) (carry : List ℕ) (bytes : ℕ) → Stands sp.says a a' b b' left mid w x carry bytes
-    → Consumes mid left' [] → bytes < max_input → Finished sp.says e done a' a'' b' b'' carry x y → Conversed sp.says a a'' b b'' done e bytes left left' w y
-finished sp e done a a' a'' b b' b'' left mid left' w x y [] bytes s read short f =
+pub finished : {A B I O : Type 0} (sp : Speech A B) (e : Ending) (done : Bool) (a a' a'' : A) (b b' b'' : B) (input : Seen SourceState I) (out : Seen SinkState O) (mid x : Option (List ℕ)) (carry : List ℕ) (bytes : ℕ)
+    → Stands sp.says a a' b b' input.before.left mid out.before.written x carry bytes
+    → Consumes mid input.after.left [] → bytes < max_input → Finished sp.says e done a' a'' b' b'' carry x out.after.written → Conversed sp.says a a'' b b'' done (record { ending = e; bytes = bytes }) input out
+finished sp e done a a' a'' b b' b'' input out mid x [] bytes s read short f =
     let (ee, ea, eb, ey) = f.none refl in
     let none : (length (open_line s.text) == 0) ≡ true = sym (kept_empty [] (open_line s.text) s.kept.kept) in
     let line : last_lines (open_line s.text) ≡ [] = rw none refl in
-    rw (ee, ea, eb, ey) (record {
+    rw (ee, ea, eb) (record {
       text = s.text;
-      taken = taken_none left mid left' s.text s.taken read;
+      taken = taken_none input.before.left mid input.after.left s.text s.taken read;
       counted = s.counted;
       first = ended_lines s.text;
       more = [];
       split = lines_are s.text ∙ ap (λ (l : List (List ℕ)). ended_lines s.text ++ l) line;
       said = s.said;
       answered = s.answered;
-      puts = s.put;
+      puts = subst (λ (y : Option (List ℕ)). Appends out.before.written y s.said) (sym ey) s.put;
       goes = (refl, f.ended ee, omega (arith, s.counted, short));
     })
-finished sp Ended done a a' a'' b b' b'' left mid left' w x y (c ∷ cs) bytes s read short f =
-    last_answered sp Ended done a a' a'' b b' b'' left mid left' w x y (c ∷ cs) bytes s read (some_bytes c cs) (f.said (λ e. cc) (λ e. cc)) (refl, f.ended refl, omega (arith, s.counted, short))
-finished sp OutputFailed done a a' a'' b b' b'' left mid left' w x y (c ∷ cs) bytes s read short f =
-    last_answered sp OutputFailed done a a' a'' b b' b'' left mid left' w x y (c ∷ cs) bytes s read (some_bytes c cs) (f.said (λ e. cc) (λ e. cc)) tt
-finished sp Spent done a a' a'' b b' b'' left mid left' w x y (c ∷ cs) bytes s read short f =
-    last_answered sp Spent done a a' a'' b b' b'' left mid left' w x y (c ∷ cs) bytes s read (some_bytes c cs) (f.said (λ e. cc) (λ e. cc)) (inl (f.spent refl))
-finished sp NoMemory done a a' a'' b b' b'' left mid left' w x y (c ∷ cs) bytes s read short f =
+finished sp Ended done a a' a'' b b' b'' input out mid x (c ∷ cs) bytes s read short f =
+    last_answered sp Ended done a a' a'' b b' b'' input out mid x (c ∷ cs) bytes s read (some_bytes c cs) (f.said (λ e. cc) (λ e. cc)) (refl, f.ended refl, omega (arith, s.counted, short))
+finished sp OutputFailed done a a' a'' b b' b'' input out mid x (c ∷ cs) bytes s read short f =
+    last_answered sp OutputFailed done a a' a'' b b' b'' input out mid x (c ∷ cs) bytes s read (some_bytes c cs) (f.said (λ e. cc) (λ e. cc)) tt
+finished sp Spent done a a' a'' b b' b'' input out mid x (c ∷ cs) bytes s read short f =
+    last_answered sp Spent done a a' a'' b b' b'' input out mid x (c ∷ cs) bytes s read (some_bytes c cs) (f.said (λ e. cc) (λ e. cc)) (inl (f.spent refl))
+finished sp NoMemory done a a' a'' b b' b'' input out mid x (c ∷ cs) bytes s read short f =
     let (ea, eb, put) = f.memory refl in
     rw (ea, eb) (record {
       text = s.text;
-      taken = taken_none left mid left' s.text s.taken read;
+      taken = taken_none input.before.left mid input.after.left s.text s.taken read;
       counted = s.counted;
       first = ended_lines s.text;
       more = last_lines (open_line s.text);
       split = lines_are s.text;
       said = s.said;
       answered = s.answered;
-      puts = subst (λ (l : List ℕ). Appends w y l) (append-nil s.said) (appends_then w x y s.said [] s.put put);
+      puts = subst (λ (l : List ℕ). Appends out.before.written out.after.written l) (append-nil s.said) (appends_then out.before.written x out.after.written s.said [] s.put put);
       goes = tt;
     })
-finished sp InputFailed done a a' a'' b b' b'' left mid left' w x y (c ∷ cs) bytes s read short f = absurd (f.others refl)
+finished sp InputFailed done a a' a'' b b' b'' input out mid x (c ∷ cs) bytes s read short f = absurd (f.others refl)

@@ -5,6 +5,7 @@ use Rattle.cube_model.specs.declared.outcome.Outcome.{Outcome}
 use Rattle.cube_model.specs.Rooms.{Room}
 use Rattle.cube_io.specs.Causes.{Rose}
 use Rattle.cube_io.specs.Desks.{Manner}
+use Rattle.cube_talk.specs.Moments.{Moment}
 use Rattle.cube_talk.specs.Replies.{reply_text}
 use Rattle.cube_talk.specs.Asks.{is_too_long, too_large, ask_of, asks_in, up_to_asks, said, rooms_behind, NoneFailed, Answers}
 
@@ -122,50 +123,48 @@ rises_before a b c later rose = omega (arith, rose, later)
 
 -- ---- the laws
 
-pub none : (m : Manner) (rooms : List Room) (os : List Outcome) (room faults : ℕ) → Answers m m rooms rooms os os room room faults faults [] []
-none m rooms os room faults = record {
+pub none : (x : Moment) → Answers x x [] []
+none x = record {
   manner = refl;
   added = [];
-  outcomes_are = sym (append-nil os);
+  outcomes_are = sym (append-nil x.outcomes);
   matched = refl;
   rooms_are = refl;
   text_is = refl;
   room_left = omega arith;
-  within = up_to_none room;
+  within = up_to_none x.room;
   later = omega arith;
   calm = λ e. tt;
 }
 
-pub onward : (m m' m'' : Manner) (rooms rooms' rooms'' : List Room) (os os' os'' : List Outcome) (room room' room'' faults faults' faults'' : ℕ) (first more : List (List ℕ)) (text behind : List ℕ)
-    → Answers m m' rooms rooms' os os' room room' faults faults' first text → Answers m' m'' rooms' rooms'' os' os'' room' room'' faults' faults'' more behind
-    → Answers m m'' rooms rooms'' os os'' room room'' faults faults'' (first ++ more) (text ++ behind)
-onward m m' m'' rooms rooms' rooms'' os os' os'' room room' room'' faults faults' faults'' first more text behind h k =
-    let over : rooms_behind m' rooms' more k.added ≡ rooms_behind m (rooms_behind m rooms first h.added) more k.added =
-    ap (λ (n : Manner). rooms_behind n rooms' more k.added) h.manner ∙ ap (λ (r : List Room). rooms_behind m r more k.added) h.rooms_are in
-    let said_over : said m' rooms' more k.added ≡ said m (rooms_behind m rooms first h.added) more k.added =
-    ap (λ (n : Manner). said n rooms' more k.added) h.manner ∙ ap (λ (r : List Room). said m r more k.added) h.rooms_are in
+pub onward : (x y z : Moment) (first more : List (List ℕ)) (text behind : List ℕ) → Answers x y first text → Answers y z more behind → Answers x z (first ++ more) (text ++ behind)
+onward x y z first more text behind h k =
+    let over : rooms_behind y.manner y.rooms more k.added ≡ rooms_behind x.manner (rooms_behind x.manner x.rooms first h.added) more k.added =
+    ap (λ (m : Manner). rooms_behind m y.rooms more k.added) h.manner ∙ ap (λ (r : List Room). rooms_behind x.manner r more k.added) h.rooms_are in
+    let said_over : said y.manner y.rooms more k.added ≡ said x.manner (rooms_behind x.manner x.rooms first h.added) more k.added =
+    ap (λ (m : Manner). said m y.rooms more k.added) h.manner ∙ ap (λ (r : List Room). said x.manner r more k.added) h.rooms_are in
     record {
       manner = k.manner ∙ h.manner;
       added = h.added ++ k.added;
-      outcomes_are = k.outcomes_are ∙ ap (λ (l : List Outcome). l ++ k.added) h.outcomes_are ∙ append_assoc os h.added k.added;
+      outcomes_are = k.outcomes_are ∙ ap (λ (l : List Outcome). l ++ k.added) h.outcomes_are ∙ append_assoc x.outcomes h.added k.added;
       matched = rw (length-append, asks_append first more) (omega (arith, h.matched, k.matched));
-      rooms_are = k.rooms_are ∙ over ∙ sym (rooms_append m first more k.added rooms h.added h.matched);
-      text_is = ap (λ (l : List ℕ). l ++ behind) h.text_is ∙ ap (λ (l : List ℕ). said m rooms first h.added ++ l) (k.text_is ∙ said_over) ∙ sym (said_append m first more k.added rooms h.added h.matched);
+      rooms_are = k.rooms_are ∙ over ∙ sym (rooms_append x.manner first more k.added x.rooms h.added h.matched);
+      text_is = ap (λ (l : List ℕ). l ++ behind) h.text_is ∙ ap (λ (l : List ℕ). said x.manner x.rooms first h.added ++ l) (k.text_is ∙ said_over) ∙ sym (said_append x.manner first more k.added x.rooms h.added h.matched);
       room_left = rw (asks_append first more) (omega (arith, h.room_left, k.room_left));
-      within = up_to_over room room' first more h.within (sym h.room_left) ∙ ap (λ (l : List (List ℕ)). first ++ l) k.within;
+      within = up_to_over x.room y.room first more h.within (sym h.room_left) ∙ ap (λ (l : List (List ℕ)). first ++ l) k.within;
       later = omega (arith, h.later, k.later);
-      calm = λ none. none_failed_append h.added k.added (h.calm (λ rose. none (rises_on faults faults' faults'' rose k.later))) (k.calm (λ rose. none (rises_before faults faults' faults'' h.later rose)));
+      calm = λ none. none_failed_append h.added k.added
+          (h.calm (λ rose. none (rises_on x.store.faults y.store.faults z.store.faults rose k.later)))
+          (k.calm (λ rose. none (rises_before x.store.faults y.store.faults z.store.faults h.later rose)));
     }
 
-pub none_adds : (m : Manner) (rooms : List Room) (os : List Outcome) (room faults : ℕ) → (none m rooms os room faults).added ≡ []
+pub none_adds : (x : Moment) → (none x).added ≡ []
 unfolding none
-none_adds m rooms os room faults = refl
+none_adds x = refl
 
-pub onward_adds : (m m' m'' : Manner) (rooms rooms' rooms'' : List Room) (os os' os'' : List Outcome) (room room' room'' faults faults' faults'' : ℕ) (first more : List (List ℕ)) (text behind : List ℕ)
-    (h : Answers m m' rooms rooms' os os' room room' faults faults' first text) (k : Answers m' m'' rooms' rooms'' os' os'' room' room'' faults' faults'' more behind)
-    → (onward m m' m'' rooms rooms' rooms'' os os' os'' room room' room'' faults faults' faults'' first more text behind h k).added ≡ h.added ++ k.added
+pub onward_adds : (x y z : Moment) (first more : List (List ℕ)) (text behind : List ℕ) (h : Answers x y first text) (k : Answers y z more behind) → (onward x y z first more text behind h k).added ≡ h.added ++ k.added
 unfolding onward
-onward_adds m m' m'' rooms rooms' rooms'' os os' os'' room room' room'' faults faults' faults'' first more text behind h k = refl
+onward_adds x y z first more text behind h k = refl
 
 pub too_long : (line : List ℕ) → 65536 < length line → is_too_long line ≡ true
 too_long line h = grind (arith, nat_tests)
@@ -178,9 +177,8 @@ has_room : (room : ℕ) (line : List ℕ) → up_to_asks room (line ∷ []) ≡ 
 has_room zero line e = cc
 has_room (suc n) line e = omega arith
 
-pub alike : (m m' : Manner) (rooms rooms' : List Room) (os os' : List Outcome) (room room' faults faults' : ℕ) (line other text : List ℕ) → 65536 < length line → 65536 < length other
-    → Answers m m' rooms rooms' os os' room room' faults faults' (line ∷ []) text → Answers m m' rooms rooms' os os' room room' faults faults' (other ∷ []) text
-alike m m' rooms rooms' os os' room room' faults faults' line other text h k a =
+pub alike : (x y : Moment) (line other text : List ℕ) → 65536 < length line → 65536 < length other → Answers x y (line ∷ []) text → Answers x y (other ∷ []) text
+alike x y line other text h k a =
     let l = too_long line h in
     let o = too_long other k in
     record {
@@ -188,15 +186,14 @@ alike m m' rooms rooms' os os' room room' faults faults' line other text h k a =
       added = a.added;
       outcomes_are = a.outcomes_are;
       matched = a.matched ∙ asks_long line [] l ∙ sym (asks_long other [] o);
-      rooms_are = a.rooms_are ∙ rooms_long m rooms line [] a.added l ∙ sym (rooms_long m rooms other [] a.added o);
-      text_is = a.text_is ∙ said_long m rooms line [] a.added l ∙ sym (said_long m rooms other [] a.added o);
+      rooms_are = a.rooms_are ∙ rooms_long x.manner x.rooms line [] a.added l ∙ sym (rooms_long x.manner x.rooms other [] a.added o);
+      text_is = a.text_is ∙ said_long x.manner x.rooms line [] a.added l ∙ sym (said_long x.manner x.rooms other [] a.added o);
       room_left = rw (asks_long other [] o) (rw (asks_long line [] l) at a.room_left);
-      within = within_one room other (has_room room line a.within);
+      within = within_one x.room other (has_room x.room line a.within);
       later = a.later;
       calm = a.calm;
     }
 
-pub alike_adds : (m m' : Manner) (rooms rooms' : List Room) (os os' : List Outcome) (room room' faults faults' : ℕ) (line other text : List ℕ) (h : 65536 < length line) (k : 65536 < length other)
-    (a : Answers m m' rooms rooms' os os' room room' faults faults' (line ∷ []) text) → (alike m m' rooms rooms' os os' room room' faults faults' line other text h k a).added ≡ a.added
+pub alike_adds : (x y : Moment) (line other text : List ℕ) (h : 65536 < length line) (k : 65536 < length other) (a : Answers x y (line ∷ []) text) → (alike x y line other text h k a).added ≡ a.added
 unfolding alike
-alike_adds m m' rooms rooms' os os' room room' faults faults' line other text h k a = refl
+alike_adds x y line other text h k a = refl

@@ -15,7 +15,9 @@ use Rattle.cube_model.specs.Rooms.{Room}
 use Rattle.cube_io.specs.Causes.{Rose}
 use Rattle.cube_io.specs.Content.{AppendsPrefix}
 use Rattle.cube_io.specs.Desks.{Manner}
+use Rattle.cube_io.specs.Seen.{SourceState, SinkState, Seen}
 use Rattle.cube_talk.specs.Lines.{ended_lines}
+use Rattle.cube_talk.specs.Moments.{Moment}
 use Rattle.cube_talk.specs.Replies.{reply_text}
 use Rattle.cube_talk.specs.Talk.{max_line, max_input}
 use Rattle.cube_talk.specs.declared.talk.Ending.{Ending}
@@ -81,17 +83,17 @@ NoneFailed (o ∷ os) = (o ≢ outcome.JournalFault) × NoneFailed os
 
 -- These lines were answered by this text, each ask with one outcome; all of them came while there was room. The journal failed for
 -- some of them only where the store's count of faults rose.
-pub record Answers (m m' : Manner) (rooms rooms' : List Room) (outcomes outcomes' : List Outcome) (room room' faults faults' : ℕ) (ls : List (List ℕ)) (text : List ℕ) : Type 0 where
-  pub manner : m' ≡ m
+pub record Answers (before after : Moment) (ls : List (List ℕ)) (text : List ℕ) : Type 0 where
+  pub manner : after.manner ≡ before.manner
   pub added : List Outcome
-  pub outcomes_are : outcomes' ≡ outcomes ++ added
+  pub outcomes_are : after.outcomes ≡ before.outcomes ++ added
   pub matched : length added ≡ asks_in ls
-  pub rooms_are : rooms' ≡ rooms_behind m rooms ls added
-  pub text_is : text ≡ said m rooms ls added
-  pub room_left : room' + asks_in ls ≡ room
-  pub within : up_to_asks room ls ≡ ls
-  pub later : faults ≤ faults'
-  pub calm : ¬ Rose faults faults' → NoneFailed added
+  pub rooms_are : after.rooms ≡ rooms_behind before.manner before.rooms ls added
+  pub text_is : text ≡ said before.manner before.rooms ls added
+  pub room_left : after.room + asks_in ls ≡ before.room
+  pub within : up_to_asks before.room ls ≡ ls
+  pub later : before.store.faults ≤ after.store.faults
+  pub calm : ¬ Rose before.store.faults after.store.faults → NoneFailed added
 
 -- ---- the whole
 
@@ -110,14 +112,21 @@ Says OutputFailed m rooms stated os text old new = AppendsPrefix old new (talk m
 Says NoMemory m rooms stated os text old new = ⊥
 Says Spent m rooms stated os text old new = IsSpent m rooms stated os text old new
 
--- Of the bytes that were taken of an input, the talk of a desk with these rooms and this room for asks was written. The first of the
--- lines were answered, and each ask among them has an outcome.
-pub record Talked (m : Manner) (rooms : List Room) (stated : ℕ) (ending : Ending) (os : List Outcome) (bytes : ℕ) (left left' written written' : Option (List ℕ)) : Type 0 where
+-- What was talked: how many asks were stated, how it ended, what became of the asks, and how many bytes were taken.
+pub record Talk : Type 0 where
+  pub stated : ℕ
+  pub ending : Ending
+  pub outcomes : List Outcome
+  pub bytes : ℕ
+
+-- Of the bytes that were taken of an input, the talk of a desk with these rooms was written. The first of the lines were answered, and
+-- each ask among them has an outcome.
+pub record Talked {I O : Type 0} (m : Manner) (rooms : List Room) (t : Talk) (input : Seen SourceState I) (out : Seen SinkState O) : Type 0 where
   pub text : List ℕ
-  pub taken : Consumes left left' text
-  pub counted : bytes ≡ length text
+  pub taken : Consumes input.before.left input.after.left text
+  pub counted : t.bytes ≡ length text
   pub first : List (List ℕ)
   pub more : List (List ℕ)
   pub split : lines text ≡ first ++ more
-  pub matched : length os ≡ asks_in first
-  pub says : Says ending m rooms stated os text written written'
+  pub matched : length t.outcomes ≡ asks_in first
+  pub says : Says t.ending m rooms t.stated t.outcomes text out.before.written out.after.written

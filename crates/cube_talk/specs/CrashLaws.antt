@@ -3,11 +3,12 @@ use Rattle.std.proofs.Common.{◌≡◌, ◌<◌, ◌≤◌, ℕ, Bool, IsTrue, 
 use Rattle.cube_model.specs.declared.outcome.Outcome.{Outcome}
 use Rattle.cube_model.specs.Rooms.{Room}
 use Rattle.cube_io.specs.Desks.{Manner}
-use Rattle.cube_io.specs.States.{State, Log}
+use Rattle.cube_io.specs.States.{State}
 use Rattle.cube_io.proofs.Trails.{gained_none, gained_then, gained_map}
 use Rattle.cube_talk.specs.AskLaws.{by_test, asks_long, asks_one, asks_append, rooms_long, rooms_one, rooms_append, too_long, none, none_adds, onward, onward_adds, alike, alike_adds}
-use Rattle.cube_talk.specs.Asks.{is_too_long, ask_of, asks_in, rooms_behind, NoneFailed}
+use Rattle.cube_talk.specs.Asks.{is_too_long, ask_of, asks_in, rooms_behind, NoneFailed, Answers}
 use Rattle.cube_talk.specs.Crashes.{IsOnTheWay, IsSame, IsPassed, Survives, Serves}
+use Rattle.cube_talk.specs.Moments.{Moment}
 
 -- ---- relations on the states of logs
 
@@ -93,79 +94,61 @@ way_alike m rooms here line other os l o w = by_first w.first w.split w.are
 
 -- ---- the laws
 
-survives_none : (m : Manner) (rooms : List Room) (exact within : List Room → ℕ → State → Type 0) (told : Bool) (names : List (List ℕ)) (logs : ℕ → Log) → Survives m rooms rooms [] exact exact within within told told names names logs logs []
-survives_none m rooms exact within told names logs = record {
+survives_none : (x : Moment) → Survives x x [] []
+survives_none x = record {
   told_stays = refl;
   names_stay = λ t. refl;
-  exact_stays = same_refl exact;
-  within_stays = same_refl within;
-  passed = λ t log w. gained_none (IsPassed m rooms [] [] within log) (logs log) (logs log) refl;
+  exact_stays = same_refl x.exact;
+  within_stays = same_refl x.within;
+  passed = λ t log w. gained_none (IsPassed x.manner x.rooms [] [] x.within log) (x.store.logs log) (x.store.logs log) refl;
   ends_within = λ t log w. w;
   ends_exact = λ t none log e. e;
   others = λ t log no. refl;
 }
 
-survives_onward : (m m' : Manner) (rooms rooms' rooms'' : List Room) (os ps : List Outcome) (exact exact' exact'' within within' within'' : List Room → ℕ → State → Type 0) (told told' told'' : Bool) (names names' names'' : List (List ℕ)) (logs logs' logs'' : ℕ → Log) (first more : List (List ℕ))
-    → m' ≡ m → rooms' ≡ rooms_behind m rooms first os → length os ≡ asks_in first
-    → Survives m rooms rooms' os exact exact' within within' told told' names names' logs logs' first
-    → Survives m' rooms' rooms'' ps exact' exact'' within' within'' told' told'' names' names'' logs' logs'' more
-    → Survives m rooms rooms'' (os ++ ps) exact exact'' within within'' told told'' names names'' logs logs'' (first ++ more)
-survives_onward m m' rooms rooms' rooms'' os ps exact exact' exact'' within within' within'' told told' told'' names names' names'' logs logs' logs'' first more same there e h k =
-    let tells : IsTrue told → IsTrue told' = λ t. subst (λ (b : Bool). IsTrue b) (sym h.told_stays) t in
+survives_onward : (x y z : Moment) (first more : List (List ℕ)) {text : List ℕ} (ps : List Outcome) (a : Answers x y first text) → Survives x y first a.added → Survives y z more ps → Survives x z (first ++ more) (a.added ++ ps)
+survives_onward x y z first more ps a h k =
+    let tells : IsTrue x.store.told → IsTrue y.store.told = λ t. subst (λ (b : Bool). IsTrue b) (sym h.told_stays) t in
+    let all = λ (log : ℕ). IsPassed x.manner x.rooms (first ++ more) (a.added ++ ps) x.within log in
     record {
       told_stays = k.told_stays ∙ h.told_stays;
       names_stay = λ t. k.names_stay (tells t) ∙ h.names_stay t;
-      exact_stays = same_then exact exact' exact'' h.exact_stays k.exact_stays;
-      within_stays = same_then within within' within'' h.within_stays k.within_stays;
-      passed = λ t log w. gained_then (IsPassed m rooms (first ++ more) (os ++ ps) within log) (logs log) (logs' log) (logs'' log)
-          (gained_map (IsPassed m rooms first os within log) (IsPassed m rooms (first ++ more) (os ++ ps) within log) (logs log) (logs' log)
-          (λ s x. (x.0, way_first m rooms x.0 first more os ps e x.1, x.2)) (h.passed t log w))
-          (gained_map (IsPassed m' rooms' more ps within' log) (IsPassed m rooms (first ++ more) (os ++ ps) within log) (logs' log) (logs'' log)
-          (λ s x. (x.0, way_second m m' rooms rooms' x.0 first more os ps same there e x.1, (h.within_stays x.0 log s).0 x.2)) (k.passed (tells t) log (h.ends_within t log w)));
+      exact_stays = same_then x.exact y.exact z.exact h.exact_stays k.exact_stays;
+      within_stays = same_then x.within y.within z.within h.within_stays k.within_stays;
+      passed = λ t log w. gained_then (all log) (x.store.logs log) (y.store.logs log) (z.store.logs log)
+          (gained_map (IsPassed x.manner x.rooms first a.added x.within log) (all log) (x.store.logs log) (y.store.logs log)
+          (λ s p. (p.0, way_first x.manner x.rooms p.0 first more a.added ps a.matched p.1, p.2)) (h.passed t log w))
+          (gained_map (IsPassed y.manner y.rooms more ps y.within log) (all log) (y.store.logs log) (z.store.logs log)
+          (λ s p. (p.0, way_second x.manner y.manner x.rooms y.rooms p.0 first more a.added ps a.manner a.rooms_are a.matched p.1, (h.within_stays p.0 log s).0 p.2)) (k.passed (tells t) log (h.ends_within t log w)));
       ends_within = λ t log w. k.ends_within (tells t) log (h.ends_within t log w);
-      ends_exact = λ t none log x. k.ends_exact (tells t) (none_behind os ps none) log (h.ends_exact t (none_before os ps none) log x);
-      others = λ t log no. k.others (tells t) log (λ r s x. no r s ((h.within_stays r log s).0 x)) ∙ h.others t log no;
+      ends_exact = λ t none log e. k.ends_exact (tells t) (none_behind a.added ps none) log (h.ends_exact t (none_before a.added ps none) log e);
+      others = λ t log no. k.others (tells t) log (λ r s p. no r s ((h.within_stays r log s).0 p)) ∙ h.others t log no;
     }
 
-survives_alike : (m : Manner) (rooms rooms' : List Room) (os : List Outcome) (exact exact' within within' : List Room → ℕ → State → Type 0) (told told' : Bool) (names names' : List (List ℕ)) (logs logs' : ℕ → Log) (line other : List ℕ) → 65536 < length line → 65536 < length other
-    → Survives m rooms rooms' os exact exact' within within' told told' names names' logs logs' (line ∷ []) → Survives m rooms rooms' os exact exact' within within' told told' names names' logs logs' (other ∷ [])
-survives_alike m rooms rooms' os exact exact' within within' told told' names names' logs logs' line other h k v = record {
+survives_alike : (x y : Moment) (line other : List ℕ) (os : List Outcome) → 65536 < length line → 65536 < length other → Survives x y (line ∷ []) os → Survives x y (other ∷ []) os
+survives_alike x y line other os h k v = record {
   told_stays = v.told_stays;
   names_stay = v.names_stay;
   exact_stays = v.exact_stays;
   within_stays = v.within_stays;
-  passed = λ t log w. gained_map (IsPassed m rooms (line ∷ []) os within log) (IsPassed m rooms (other ∷ []) os within log) (logs log) (logs' log)
-      (λ s x. (x.0, way_alike m rooms x.0 line other os (too_long line h) (too_long other k) x.1, x.2)) (v.passed t log w);
+  passed = λ t log w. gained_map (IsPassed x.manner x.rooms (line ∷ []) os x.within log) (IsPassed x.manner x.rooms (other ∷ []) os x.within log) (x.store.logs log) (y.store.logs log)
+      (λ s p. (p.0, way_alike x.manner x.rooms p.0 line other os (too_long line h) (too_long other k) p.1, p.2)) (v.passed t log w);
   ends_within = v.ends_within;
   ends_exact = v.ends_exact;
   others = v.others;
 }
 
-pub serves_none : (m : Manner) (rooms : List Room) (os : List Outcome) (room faults : ℕ) (exact within : List Room → ℕ → State → Type 0) (told : Bool) (names : List (List ℕ)) (logs : ℕ → Log)
-    → Serves m m rooms rooms os os room room faults faults exact exact within within told told names names logs logs [] []
-serves_none m rooms os room faults exact within told names logs = (
-  none m rooms os room faults,
-  subst (λ (added : List Outcome). Survives m rooms rooms added exact exact within within told told names names logs logs []) (sym (none_adds m rooms os room faults)) (survives_none m rooms exact within told names logs),
+pub serves_none : (x : Moment) → Serves x x [] []
+serves_none x = (none x, subst (λ (added : List Outcome). Survives x x [] added) (sym (none_adds x)) (survives_none x))
+
+pub serves_onward : (x y z : Moment) (first more : List (List ℕ)) (text behind : List ℕ) → Serves x y first text → Serves y z more behind → Serves x z (first ++ more) (text ++ behind)
+serves_onward x y z first more text behind h k = (
+  onward x y z first more text behind h.0 k.0,
+  subst (λ (added : List Outcome). Survives x z (first ++ more) added) (sym (onward_adds x y z first more text behind h.0 k.0)) (survives_onward x y z first more (k.0).added h.0 h.1 k.1),
 )
 
-pub serves_onward : (m m' m'' : Manner) (rooms rooms' rooms'' : List Room) (os os' os'' : List Outcome) (room room' room'' faults faults' faults'' : ℕ) (exact exact' exact'' within within' within'' : List Room → ℕ → State → Type 0)
-    (told told' told'' : Bool) (names names' names'' : List (List ℕ)) (logs logs' logs'' : ℕ → Log) (first more : List (List ℕ)) (text behind : List ℕ)
-    → Serves m m' rooms rooms' os os' room room' faults faults' exact exact' within within' told told' names names' logs logs' first text
-    → Serves m' m'' rooms' rooms'' os' os'' room' room'' faults' faults'' exact' exact'' within' within'' told' told'' names' names'' logs' logs'' more behind
-    → Serves m m'' rooms rooms'' os os'' room room'' faults faults'' exact exact'' within within'' told told'' names names'' logs logs'' (first ++ more) (text ++ behind)
-serves_onward m m' m'' rooms rooms' rooms'' os os' os'' room room' room'' faults faults' faults'' exact exact' exact'' within within' within'' told told' told'' names names' names'' logs logs' logs'' first more text behind h k = (
-  onward m m' m'' rooms rooms' rooms'' os os' os'' room room' room'' faults faults' faults'' first more text behind h.0 k.0,
-  subst (λ (added : List Outcome). Survives m rooms rooms'' added exact exact'' within within'' told told'' names names'' logs logs'' (first ++ more))
-      (sym (onward_adds m m' m'' rooms rooms' rooms'' os os' os'' room room' room'' faults faults' faults'' first more text behind h.0 k.0))
-      (survives_onward m m' rooms rooms' rooms'' (h.0).added (k.0).added exact exact' exact'' within within' within'' told told' told'' names names' names'' logs logs' logs'' first more (h.0).manner (h.0).rooms_are (h.0).matched h.1 k.1),
-)
-
-pub serves_alike : (m m' : Manner) (rooms rooms' : List Room) (os os' : List Outcome) (room room' faults faults' : ℕ) (exact exact' within within' : List Room → ℕ → State → Type 0) (told told' : Bool) (names names' : List (List ℕ)) (logs logs' : ℕ → Log) (line other text : List ℕ)
-    → 65536 < length line → 65536 < length other
-    → Serves m m' rooms rooms' os os' room room' faults faults' exact exact' within within' told told' names names' logs logs' (line ∷ []) text → Serves m m' rooms rooms' os os' room room' faults faults' exact exact' within within' told told' names names' logs logs' (other ∷ []) text
-serves_alike m m' rooms rooms' os os' room room' faults faults' exact exact' within within' told told' names names' logs logs' line other text h k v = (
-  alike m m' rooms rooms' os os' room room' faults faults' line other text h k v.0,
-  subst (λ (added : List Outcome). Survives m rooms rooms' added exact exact' within within' told told' names names' logs logs' (other ∷ []))
-      (sym (alike_adds m m' rooms rooms' os os' room room' faults faults' line other text h k v.0))
-      (survives_alike m rooms rooms' (v.0).added exact exact' within within' told told' names names' logs logs' line other h k v.1),
+pub serves_alike : (x y : Moment) (line other text : List ℕ) → 65536 < length line → 65536 < length other → Serves x y (line ∷ []) text → Serves x y (other ∷ []) text
+serves_alike x y line other text h k v = (
+  alike x y line other text h k v.0,
+  subst (λ (added : List Outcome). Survives x y (other ∷ []) added) (sym (alike_adds x y line other text h k v.0)) (survives_alike x y line other (v.0).added h k v.1),
 )

@@ -1,10 +1,13 @@
 -- What a crash may leave of a log while a desk answers the lines of `ask`.
-use Rattle.std.specs.Prelude.{◌≡◌, ◌↔◌, ℕ, Bool, IsTrue, List, ◌++◌}
+use Rattle.std.specs.Prelude.{◌≡◌, ◌↔◌, ℕ, IsTrue, List, ◌++◌}
 use Rattle.cube_io.specs.Desks.{Manner, ForeignStay}
-use Rattle.cube_io.specs.States.{State, Log, Gained}
+use Rattle.cube_io.specs.Seen.{SourceState, SinkState, Seen}
+use Rattle.cube_io.specs.States.{State, Gained}
 use Rattle.cube_model.specs.declared.outcome.Outcome.{Outcome}
 use Rattle.cube_model.specs.Rooms.{Room}
-use Rattle.cube_talk.specs.Asks.{rooms_behind, NoneFailed, Answers}
+use Rattle.cube_talk.specs.Asks.{rooms_behind, NoneFailed, Answers, Talked}
+use Rattle.cube_talk.specs.Moments.{Moment}
+use Rattle.cube_talk.specs.declared.talk.TalkEnd.{TalkEnd}
 
 -- rooms on the way: those behind the first of the lines
 pub record IsOnTheWay (m : Manner) (rooms : List Room) (ls : List (List ℕ)) (os : List Outcome) (here : List Room) : Type 0 where
@@ -23,18 +26,24 @@ IsPassed m rooms ls os within log s = (here : List Room) × IsOnTheWay m rooms l
 
 -- While these lines were answered, every crash left the histories of some rooms on the way, one alone or with one more request; behind
 -- them those of the last, and just those where the journal never failed. Logs that keep no room's history stayed.
-pub record Survives (m : Manner) (rooms rooms' : List Room) (os : List Outcome) (exact exact' within within' : List Room → ℕ → State → Type 0) (told told' : Bool) (names names' : List (List ℕ)) (logs logs' : ℕ → Log) (ls : List (List ℕ)) : Type 0 where
-  pub told_stays : told' ≡ told
-  pub names_stay : IsTrue told → names' ≡ names
-  pub exact_stays : IsSame exact' exact
-  pub within_stays : IsSame within' within
-  pub passed : IsTrue told → (log : ℕ) → within rooms log (logs log).state → Gained (IsPassed m rooms ls os within log) (logs log) (logs' log)
-  pub ends_within : IsTrue told → (log : ℕ) → within rooms log (logs log).state → within' rooms' log (logs' log).state
-  pub ends_exact : IsTrue told → NoneFailed os → (log : ℕ) → exact rooms log (logs log).state → exact' rooms' log (logs' log).state
-  pub others : ForeignStay told within logs logs'
+pub record Survives (before after : Moment) (ls : List (List ℕ)) (os : List Outcome) : Type 0 where
+  pub told_stays : after.store.told ≡ before.store.told
+  pub names_stay : IsTrue before.store.told → after.store.names ≡ before.store.names
+  pub exact_stays : IsSame after.exact before.exact
+  pub within_stays : IsSame after.within before.within
+  pub passed : IsTrue before.store.told → (log : ℕ) → before.within before.rooms log (before.store.logs log).state
+      → Gained (IsPassed before.manner before.rooms ls os before.within log) (before.store.logs log) (after.store.logs log)
+  pub ends_within : IsTrue before.store.told → (log : ℕ) → before.within before.rooms log (before.store.logs log).state → after.within after.rooms log (after.store.logs log).state
+  pub ends_exact : IsTrue before.store.told → NoneFailed os → (log : ℕ) → before.exact before.rooms log (before.store.logs log).state → after.exact after.rooms log (after.store.logs log).state
+  pub others : ForeignStay before.within before.store after.store
 
 -- some lines were answered, and a crash in between left what it may
-abbrev pub Serves : Manner → Manner → List Room → List Room → List Outcome → List Outcome → ℕ → ℕ → ℕ → ℕ → (List Room → ℕ → State → Type 0) → (List Room → ℕ → State → Type 0) → (List Room → ℕ → State → Type 0) → (List Room → ℕ → State → Type 0)
-    → Bool → Bool → List (List ℕ) → List (List ℕ) → (ℕ → Log) → (ℕ → Log) → List (List ℕ) → List ℕ → Type 0
-Serves m m' rooms rooms' os os' room room' faults faults' exact exact' within within' told told' names names' logs logs' ls text =
-    (a : Answers m m' rooms rooms' os os' room room' faults faults' ls text) × Survives m rooms rooms' a.added exact exact' within within' told told' names names' logs logs' ls
+abbrev pub Serves : Moment → Moment → List (List ℕ) → List ℕ → Type 0
+Serves before after ls text = (a : Answers before after ls text) × Survives before after ls a.added
+
+-- The lines of an input were answered: the talk of the desk was written, its rooms are those behind the lines that were answered, and a
+-- crash in between left what it may.
+pub record TalkedOver {I O : Type 0} (before after : Moment) (end : TalkEnd) (input : Seen SourceState I) (out : Seen SinkState O) : Type 0 where
+  pub talked : Talked before.manner before.rooms (record { stated = before.room; ending = end.ending; outcomes = after.outcomes; bytes = end.bytes }) input out
+  pub rooms_are : after.rooms ≡ rooms_behind before.manner before.rooms talked.first after.outcomes
+  pub survives : Survives before after talked.first after.outcomes

@@ -4,6 +4,7 @@ pub mod Piece
 pub mod Replies
 pub mod Sums
 pub mod SumLaws
+pub mod Moments
 pub mod Asks
 pub mod AskLaws
 pub mod Crashes

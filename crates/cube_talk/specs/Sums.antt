@@ -6,6 +6,7 @@ use Rattle.std.specs.Str.Lines.{lines}
 use Rattle.std.specs.Io.KnownBytes.{Appends, Consumes}
 use Rattle.cube_text.specs.Units.{units_text}
 use Rattle.cube_io.specs.Content.{AppendsPrefix}
+use Rattle.cube_io.specs.Seen.{SourceState, SinkState, Seen}
 use Rattle.cube_facts.specs.Flat.{Flat, reply_of}
 use Rattle.cube_facts.specs.declared.flat.FlatReply.{FlatReply}
 use Rattle.cube_facts.specs.declared.flat.FlatReply.TheVariants as reply
@@ -14,6 +15,7 @@ use Rattle.cube_talk.specs.Talk.{max_line, max_input, up_to}
 use Rattle.cube_talk.specs.declared.sums.Sums.{Sums}
 use Rattle.cube_talk.specs.declared.talk.Ending.{Ending}
 use Rattle.cube_talk.specs.declared.talk.Ending.TheVariants.{Ended, InputFailed, OutputFailed, NoMemory, Spent}
+use Rattle.cube_talk.specs.declared.talk.TalkEnd.{TalkEnd}
 
 -- the most lines that are answered
 abbrev pub max_lines : ℕ
@@ -67,9 +69,9 @@ Says flat OutputFailed text count old new = AppendsPrefix old new (talk flat tex
 Says flat NoMemory text count old new = (first : List (List ℕ)) × (more : List (List ℕ)) × (up_to max_lines (lines text) ≡ first ++ more) × Appends old new (answers flat first)
 Says flat Spent text count old new = IsSpent flat text count old new
 
--- Of the bytes that were taken of an input, the talk was written.
-pub record Talked (flat : Flat) (ending : Ending) (count bytes : ℕ) (left left' written written' : Option (List ℕ)) : Type 0 where
+-- Of the bytes that were taken of an input, the talk was written, over so many lines.
+pub record Talked {I O : Type 0} (flat : Flat) (end : TalkEnd) (count : ℕ) (input : Seen SourceState I) (out : Seen SinkState O) : Type 0 where
   pub text : List ℕ
-  pub taken : Consumes left left' text
-  pub counted : bytes ≡ length text
-  pub said : Says flat ending text count written written'
+  pub taken : Consumes input.before.left input.after.left text
+  pub counted : end.bytes ≡ length text
+  pub said : Says flat end.ending text count out.before.written out.after.written

@@ -3,10 +3,13 @@ use Rattle.std.specs.Prelude.{◌≡◌, ◌⊎◌, ⊤, ℕ, ◌^◌, ◌<◌, 
 use Rattle.std.specs.declared.option.Option.{Option}
 use Rattle.std.specs.Str.Lines.{lines}
 use Rattle.std.specs.Io.KnownBytes.{Appends, Consumes}
+use Rattle.cube_io.specs.Causes.{Rose}
 use Rattle.cube_io.specs.Content.{AppendsPrefix}
+use Rattle.cube_io.specs.Seen.{SourceState, SinkState, Seen}
 use Rattle.cube_talk.specs.Lines.{is_feed, ended_lines}
 use Rattle.cube_talk.specs.declared.talk.Ending.{Ending}
 use Rattle.cube_talk.specs.declared.talk.Ending.TheVariants.{Ended, InputFailed, OutputFailed, NoMemory, Spent}
+use Rattle.cube_talk.specs.declared.talk.TalkEnd.{TalkEnd}
 
 -- the most bytes of a line that is looked into
 abbrev pub max_line : ℕ
@@ -43,6 +46,11 @@ Puts OutputFailed written written' text = AppendsPrefix written written' text
 Puts NoMemory written written' text = Appends written written' text
 Puts Spent written written' text = Appends written written' text
 
+-- a count of faults rose where this happened, and stayed elsewhere
+pub record RoseWhere (happened : Type 0) (before now : ℕ) : Type 0 where
+  pub rose : happened → Rose before now
+  pub steady : ¬ happened → now ≡ before
+
 -- Which lines were answered, by how the talk ended: where the input came to its end, all of them; where a read failed, the ended
 -- ones; and no more are where who answers is done, or where so many bytes were taken.
 abbrev pub Goes : Ending → List ℕ → List (List ℕ) → List (List ℕ) → Bool → Type 0
@@ -53,14 +61,14 @@ Goes NoMemory text first more done = ⊤
 Goes Spent text first more done = (done ≡ true) ⊎ ((first ≡ ended_lines text) × (done ≡ false) × (length text ≡ max_input))
 
 -- Of the bytes that were taken of an input, the first lines were answered. Who answers, and a store, went from one state to another.
-pub record Conversed {A B : Type 0} (says : A → B → List (List ℕ) → A → B → List ℕ → Type 0) (a a' : A) (b b' : B) (done : Bool) (ending : Ending) (bytes : ℕ) (left left' written written' : Option (List ℕ)) : Type 0 where
+pub record Conversed {A B I O : Type 0} (says : A → B → List (List ℕ) → A → B → List ℕ → Type 0) (a a' : A) (b b' : B) (done : Bool) (end : TalkEnd) (input : Seen SourceState I) (out : Seen SinkState O) : Type 0 where
   pub text : List ℕ
-  pub taken : Consumes left left' text
-  pub counted : bytes ≡ length text
+  pub taken : Consumes input.before.left input.after.left text
+  pub counted : end.bytes ≡ length text
   pub first : List (List ℕ)
   pub more : List (List ℕ)
   pub split : lines text ≡ first ++ more
   pub said : List ℕ
   pub answered : says a b first a' b' said
-  pub puts : Puts ending written written' said
-  pub goes : Goes ending text first more done
+  pub puts : Puts end.ending out.before.written out.after.written said
+  pub goes : Goes end.ending text first more done

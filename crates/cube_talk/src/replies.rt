@@ -1,5 +1,5 @@
 // What is said to the lines of an input.
-ghost use Rattle.std.specs.Prelude.{◌≡◌, ◌≤◌, ◌<◌, ◌^◌, ◌+◌, ◌++◌, ◌∷◌, [], length, take, decimal, IsOk, OnOk, OnErr};
+ghost use Rattle.std.specs.Prelude.{◌≡◌, ◌≤◌, ◌<◌, ◌+◌, ◌++◌, [], length, take, IsOk, OnOk, OnErr};
 ghost use Rattle.std.specs.Io.KnownBytes.{Appends};
 ghost use Rattle.cube_io.specs.Causes.{HasCause};
 ghost use Rattle.cube_io.specs.Content.{AppendsPrefix};
@@ -75,10 +75,10 @@ impl Replies {
 
     /// Writes all that waits.
     pub fn flush<O: Sink>(&mut self, out: &mut O) -> Result<(), Failed>
-        ensures ok { OnOk result ((self.new ≡ []) × Appends (O.written out.old) (O.written out.new) self.old) }
-        ensures err { OnErr result (AppendsPrefix (O.written out.old) (O.written out.new) self.old) }
+        ensures ok { OnOk result ((self.new ≡ []) × Appends (O.state out.old).written (O.state out.new).written self.old) }
+        ensures err { OnErr result (AppendsPrefix (O.state out.old).written (O.state out.new).written self.old) }
         ensures empty { self.old ≡ [] → IsOk result }
-        ensures cause { HasCause (O.faults out.old) (O.faults out.new) result }
+        ensures cause { HasCause (O.state out.old).faults (O.state out.new).faults result }
     {
         out.put(self.waiting.as_slice())?;
         self.waiting.clear();
@@ -88,9 +88,9 @@ impl Replies {
     // Says some bytes.
     #[tactic(auto, using(crate::proofs::Spoken::spoke_kept, crate::proofs::Spoken::spoke_put, crate::proofs::Spoken::broken_before, crate::proofs::Spoken::broken_behind))]
     fn put<O: Sink>(&mut self, out: &mut O, bytes: &[u8]) -> Result<(), Failed>
-        ensures ok { OnOk result (Spoke bytes.now self.old self.new (O.written out.old) (O.written out.new)) }
-        ensures err { OnErr result (AppendsPrefix (O.written out.old) (O.written out.new) (self.old ++ bytes.now)) }
-        ensures cause { HasCause (O.faults out.old) (O.faults out.new) result }
+        ensures ok { OnOk result (Spoke bytes.now self.old self.new (O.state out.old).written (O.state out.new).written) }
+        ensures err { OnErr result (AppendsPrefix (O.state out.old).written (O.state out.new).written (self.old ++ bytes.now)) }
+        ensures cause { HasCause (O.state out.old).faults (O.state out.new).faults result }
     {
         if self.waiting.extend_from_slice(bytes).is_ok() {
             return Ok(());
@@ -100,9 +100,9 @@ impl Replies {
     }
 
     fn put_reply<O: Sink>(&mut self, out: &mut O, reply: &Reply) -> Result<(), Failed>
-        ensures ok { OnOk result (Spoke (reply_text reply.now) self.old self.new (O.written out.old) (O.written out.new)) }
-        ensures err { OnErr result (AppendsPrefix (O.written out.old) (O.written out.new) (self.old ++ reply_text reply.now)) }
-        ensures cause { HasCause (O.faults out.old) (O.faults out.new) result }
+        ensures ok { OnOk result (Spoke (reply_text reply.now) self.old self.new (O.state out.old).written (O.state out.new).written) }
+        ensures err { OnErr result (AppendsPrefix (O.state out.old).written (O.state out.new).written (self.old ++ reply_text reply.now)) }
+        ensures cause { HasCause (O.state out.old).faults (O.state out.new).faults result }
     {
         let body = body_of(reply);
         let mut head = [0u8; HEAD];
@@ -114,9 +114,9 @@ impl Replies {
 
     /// Says what is said to a line.
     pub fn say<O: Sink>(&mut self, out: &mut O, said: &Said) -> Result<(), Failed>
-        ensures ok { OnOk result (Spoke (said_text said.now) self.old self.new (O.written out.old) (O.written out.new)) }
-        ensures err { OnErr result (AppendsPrefix (O.written out.old) (O.written out.new) (self.old ++ said_text said.now)) }
-        ensures cause { HasCause (O.faults out.old) (O.faults out.new) result }
+        ensures ok { OnOk result (Spoke (said_text said.now) self.old self.new (O.state out.old).written (O.state out.new).written) }
+        ensures err { OnErr result (AppendsPrefix (O.state out.old).written (O.state out.new).written (self.old ++ said_text said.now)) }
+        ensures cause { HasCause (O.state out.old).faults (O.state out.new).faults result }
     {
         match said {
             Said::Text(text) => self.put(out, text.as_slice()),

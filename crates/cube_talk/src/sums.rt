@@ -1,8 +1,9 @@
 // The lines of `sum`, each of which is answered by the sum of the rows that match it.
-ghost use Rattle.std.specs.Prelude.{◌≡◌, ◌≢◌, [], ⊤, true, refl, IfOk};
+ghost use Rattle.std.specs.Prelude.{◌≡◌, [], ⊤, true, refl, IfOk};
 ghost use Rattle.std.proofs.Common.{◌∙◌};
-ghost use Rattle.cube_io.specs.Causes.{Rose};
+ghost use Rattle.cube_io.specs.Seen.{seen};
 ghost use Rattle.cube_talk.specs.Sums.{Answers, answer, shown, is_done, Talked};
+ghost use Rattle.cube_talk.specs.Talk.{RoseWhere};
 ghost use Rattle.cube_talk.specs.SumLaws.{none, onward, alike};
 
 use crate::carry::Carry;
@@ -86,12 +87,10 @@ pub fn converse_by_sums<S: Store, I: Source, O: Sink>(
     out: &mut O,
 ) -> (TalkEnd, u64)
     requires { carry ≡ [] }
-    ensures talked { Talked flat result.0.ending result.1 result.0.bytes (I.left input.old) (I.left input.new) (O.written out.old) (O.written out.new) }
-    ensures ended { result.0.ending ≡ Ending.Ended → I.ended input.new ≡ true }
-    ensures input { result.0.ending ≡ Ending.InputFailed → Rose (I.faults input.old) (I.faults input.new) }
-    ensures output { result.0.ending ≡ Ending.OutputFailed → Rose (O.faults out.old) (O.faults out.new) }
-    ensures input_steady { result.0.ending ≢ Ending.InputFailed → I.faults input.new ≡ I.faults input.old }
-    ensures output_steady { result.0.ending ≢ Ending.OutputFailed → O.faults out.new ≡ O.faults out.old }
+    ensures talked { Talked flat result.0 result.1 (seen I.state input.old input.new) (seen O.state out.old out.new) }
+    ensures ended { result.0.ending ≡ Ending.Ended → (I.state input.new).ended ≡ true }
+    ensures input { RoseWhere (result.0.ending ≡ Ending.InputFailed) (I.state input.old).faults (I.state input.new).faults }
+    ensures output { RoseWhere (result.0.ending ≡ Ending.OutputFailed) (O.state out.old).faults (O.state out.new).faults }
     ensures store { store.new ≡ store.old }
 {
     let mut sums = Sums { flat, lines: 0 };

@@ -4,8 +4,9 @@ ghost use Rattle.std.specs.Str.Lines.{strip_carriage_return};
 ghost use Rattle.std.specs.Io.KnownBytes.{Appends, Consumes};
 ghost use Rattle.cube_io.specs.Causes.{Rose, HasCause};
 ghost use Rattle.cube_io.specs.Content.{AppendsPrefix};
+ghost use Rattle.cube_io.specs.Seen.{seen};
 ghost use Rattle.cube_talk.specs.Lines.{is_feed};
-ghost use Rattle.cube_talk.specs.Talk.{IsKept, Spoke, Puts, Conversed};
+ghost use Rattle.cube_talk.specs.Talk.{IsKept, Spoke, Puts, RoseWhere, Conversed};
 ghost use Rattle.cube_talk.specs.Piece.{Says, HeardLine, HeardAll, HeardSome, PutsBy, Follows, Stops};
 
 use crate::carry::Carry;
@@ -79,12 +80,11 @@ fn answer_line<S: Store, R: Responder<S>, O: Sink>(
 ) -> Heard
     requires stands { R.stands responder.old store.old }
     requires going { R.done responder.old ≡ false }
-    ensures said { result ≢ Heard.NoMemory → HeardLine R.says (Says result replies.old replies.new (O.written out.old) (O.written out.new)) responder.old responder.new store.old store.new line.now }
+    ensures said { result ≢ Heard.NoMemory → HeardLine R.says (Says result replies.old replies.new (O.state out.old).written (O.state out.new).written) responder.old responder.new store.old store.new line.now }
     ensures memory { result ≡ Heard.NoMemory → (responder.new ≡ responder.old) × (store.new ≡ store.old) × (replies.new ≡ replies.old) × (out.new ≡ out.old) × (R.lacks ≡ true) }
     ensures going { result ≡ Heard.All → R.done responder.new ≡ false }
     ensures spent { result ≡ Heard.Spent → R.done responder.new ≡ true }
-    ensures failed { result ≡ Heard.OutputFailed → Rose (O.faults out.old) (O.faults out.new) }
-    ensures steady { result ≢ Heard.OutputFailed → O.faults out.new ≡ O.faults out.old }
+    ensures faults { RoseWhere (result ≡ Heard.OutputFailed) (O.state out.old).faults (O.state out.new).faults }
     ensures stands { R.stands responder.new store.new }
 {
     let said = match responder.answer(alloc, store, line) {
@@ -114,14 +114,13 @@ fn answer_piece<S: Store, R: Responder<S>, O: Sink>(
     requires stands { R.stands responder.old store.old }
     requires going { R.done responder.old ≡ false }
     ensures all { result ≡ Heard.All → (open_part : List ℕ) → IsKept carry.old open_part
-        → HeardAll R.says (Says result replies.old replies.new (O.written out.old) (O.written out.new)) responder.old responder.new store.old store.new open_part piece.now carry.new }
+        → HeardAll R.says (Says result replies.old replies.new (O.state out.old).written (O.state out.new).written) responder.old responder.new store.old store.new open_part piece.now carry.new }
     ensures some { result ≢ Heard.All → (open_part : List ℕ) → IsKept carry.old open_part
-        → HeardSome R.says (Says result replies.old replies.new (O.written out.old) (O.written out.new)) responder.old responder.new store.old store.new open_part piece.now }
+        → HeardSome R.says (Says result replies.old replies.new (O.state out.old).written (O.state out.new).written) responder.old responder.new store.old store.new open_part piece.now }
     ensures going { result ≡ Heard.All → R.done responder.new ≡ false }
     ensures spent { result ≡ Heard.Spent → R.done responder.new ≡ true }
     ensures memory { result ≡ Heard.NoMemory → R.lacks ≡ true }
-    ensures failed { result ≡ Heard.OutputFailed → Rose (O.faults out.old) (O.faults out.new) }
-    ensures steady { result ≢ Heard.OutputFailed → O.faults out.new ≡ O.faults out.old }
+    ensures faults { RoseWhere (result ≡ Heard.OutputFailed) (O.state out.old).faults (O.state out.new).faults }
     ensures stands { R.stands responder.new store.new }
 {
     let mut rest = piece;
@@ -144,12 +143,12 @@ fn answer_piece<S: Store, R: Responder<S>, O: Sink>(
 // Writes what waits behind lines that were answered so far. Says how the talk ends, if it does.
 #[tactic(auto, using(crate::proofs::Spoken::spoke_flushed, crate::proofs::Spoken::spoke_half))]
 fn settle<O: Sink>(heard: Heard, replies: &mut Replies, out: &mut O) -> Option<Ending>
-    ensures puts { (start : Option (List ℕ)) (text : List ℕ) → Says heard [] replies.old start (O.written out.old) text → PutsBy result start (O.written out.new) text }
+    ensures puts { (start : Option (List ℕ)) (text : List ℕ) → Says heard [] replies.old start (O.state out.old).written text → PutsBy result start (O.state out.new).written text }
     ensures follows { Follows heard result }
     ensures empty { result ≡ None → replies.new ≡ [] }
     ensures quiet { replies.old ≡ [] → heard ≢ Heard.OutputFailed → result ≢ Some Ending.OutputFailed }
-    ensures failed { result ≡ Some Ending.OutputFailed → ((heard ≡ Heard.OutputFailed) × (out.new ≡ out.old)) ⊎ ((heard ≢ Heard.OutputFailed) × Rose (O.faults out.old) (O.faults out.new)) }
-    ensures steady { result ≢ Some Ending.OutputFailed → (heard ≢ Heard.OutputFailed) × (O.faults out.new ≡ O.faults out.old) }
+    ensures failed { result ≡ Some Ending.OutputFailed → ((heard ≡ Heard.OutputFailed) × (out.new ≡ out.old)) ⊎ ((heard ≢ Heard.OutputFailed) × Rose (O.state out.old).faults (O.state out.new).faults) }
+    ensures steady { result ≢ Some Ending.OutputFailed → (heard ≢ Heard.OutputFailed) × ((O.state out.new).faults ≡ (O.state out.old).faults) }
 {
     if heard == Heard::OutputFailed {
         return Some(Ending::OutputFailed);
@@ -179,13 +178,12 @@ fn hear_piece<S: Store, R: Responder<S>, O: Sink>(
     requires going { R.done responder.old ≡ false }
     requires empty { replies.old ≡ [] }
     ensures all { result ≡ None → (open_part : List ℕ) → IsKept carry.old open_part
-        → HeardAll R.says (Appends (O.written out.old) (O.written out.new)) responder.old responder.new store.old store.new open_part piece.now carry.new }
+        → HeardAll R.says (Appends (O.state out.old).written (O.state out.new).written) responder.old responder.new store.old store.new open_part piece.now carry.new }
     ensures some { IfSome result (λ ending. (open_part : List ℕ) → IsKept carry.old open_part
-        → HeardSome R.says (Puts ending (O.written out.old) (O.written out.new)) responder.old responder.new store.old store.new open_part piece.now) }
+        → HeardSome R.says (Puts ending (O.state out.old).written (O.state out.new).written) responder.old responder.new store.old store.new open_part piece.now) }
     ensures stops { IfSome result (λ ending. Stops ending (R.done responder.new) R.lacks) }
     ensures going { result ≡ None → (R.done responder.new ≡ false) × (replies.new ≡ []) }
-    ensures failed { result ≡ Some Ending.OutputFailed → Rose (O.faults out.old) (O.faults out.new) }
-    ensures steady { result ≢ Some Ending.OutputFailed → O.faults out.new ≡ O.faults out.old }
+    ensures faults { RoseWhere (result ≡ Some Ending.OutputFailed) (O.state out.old).faults (O.state out.new).faults }
     ensures stands { R.stands responder.new store.new }
 {
     let heard = answer_piece(alloc, responder, store, piece, carry, replies, out);
@@ -204,10 +202,10 @@ fn read_piece<I: Source>(input: &mut I, buf: &mut [u8], most: u64) -> Result<usi
     requires room { 0 < length buf.old }
     requires some { 0 < most }
     ensures bound { IfOk result (λ n. (n ≤ length buf.new) × (n ≤ most)) }
-    ensures bytes { IfOk result (λ n. Consumes (I.left input.old) (I.left input.new) (take n buf.new)) }
-    ensures end { result ≡ Ok 0 → I.ended input.new ≡ true }
-    ensures err { OnErr result (Consumes (I.left input.old) (I.left input.new) []) }
-    ensures cause { HasCause (I.faults input.old) (I.faults input.new) result }
+    ensures bytes { IfOk result (λ n. Consumes (I.state input.old).left (I.state input.new).left (take n buf.new)) }
+    ensures end { result ≡ Ok 0 → (I.state input.new).ended ≡ true }
+    ensures err { OnErr result (Consumes (I.state input.old).left (I.state input.new).left []) }
+    ensures cause { HasCause (I.state input.old).faults (I.state input.new).faults result }
 {
     let room = if most < buf.len() as u64 {
         most as usize
@@ -230,13 +228,12 @@ fn finish<S: Store, R: Responder<S>, O: Sink>(
     requires going { R.done responder.old ≡ false }
     requires empty { replies.old ≡ [] }
     ensures none { carry.now ≡ [] → (result ≡ Ending.Ended) × (responder.new ≡ responder.old) × (store.new ≡ store.old) × (out.new ≡ out.old) }
-    ensures said { carry.now ≢ [] → result ≢ Ending.NoMemory → HeardLine R.says (Puts result (O.written out.old) (O.written out.new)) responder.old responder.new store.old store.new carry.now }
-    ensures memory { result ≡ Ending.NoMemory → (responder.new ≡ responder.old) × (store.new ≡ store.old) × Appends (O.written out.old) (O.written out.new) [] × (R.lacks ≡ true) }
+    ensures said { carry.now ≢ [] → result ≢ Ending.NoMemory → HeardLine R.says (Puts result (O.state out.old).written (O.state out.new).written) responder.old responder.new store.old store.new carry.now }
+    ensures memory { result ≡ Ending.NoMemory → (responder.new ≡ responder.old) × (store.new ≡ store.old) × Appends (O.state out.old).written (O.state out.new).written [] × (R.lacks ≡ true) }
     ensures ended { result ≡ Ending.Ended → R.done responder.new ≡ false }
     ensures spent { result ≡ Ending.Spent → R.done responder.new ≡ true }
     ensures others { result ≢ Ending.InputFailed }
-    ensures failed { result ≡ Ending.OutputFailed → Rose (O.faults out.old) (O.faults out.new) }
-    ensures steady { result ≢ Ending.OutputFailed → O.faults out.new ≡ O.faults out.old }
+    ensures faults { RoseWhere (result ≡ Ending.OutputFailed) (O.state out.old).faults (O.state out.new).faults }
     ensures stands { R.stands responder.new store.new }
 {
     if carry.as_slice().is_empty() {
@@ -261,13 +258,11 @@ pub fn converse<S: Store, R: Responder<S>, I: Source, O: Sink>(
     requires carry { carry ≡ [] }
     requires stands { R.stands responder.old store.old }
     requires going { R.done responder.old ≡ false }
-    ensures conversed { Conversed R.says responder.old responder.new store.old store.new (R.done responder.new) result.ending result.bytes (I.left input.old) (I.left input.new) (O.written out.old) (O.written out.new) }
-    ensures ended { result.ending ≡ Ending.Ended → I.ended input.new ≡ true }
+    ensures conversed { Conversed R.says responder.old responder.new store.old store.new (R.done responder.new) result (seen I.state input.old input.new) (seen O.state out.old out.new) }
+    ensures ended { result.ending ≡ Ending.Ended → (I.state input.new).ended ≡ true }
     ensures memory { result.ending ≡ Ending.NoMemory → R.lacks ≡ true }
-    ensures input { result.ending ≡ Ending.InputFailed → Rose (I.faults input.old) (I.faults input.new) }
-    ensures output { result.ending ≡ Ending.OutputFailed → Rose (O.faults out.old) (O.faults out.new) }
-    ensures input_steady { result.ending ≢ Ending.InputFailed → I.faults input.new ≡ I.faults input.old }
-    ensures output_steady { result.ending ≢ Ending.OutputFailed → O.faults out.new ≡ O.faults out.old }
+    ensures input { RoseWhere (result.ending ≡ Ending.InputFailed) (I.state input.old).faults (I.state input.new).faults }
+    ensures output { RoseWhere (result.ending ≡ Ending.OutputFailed) (O.state out.old).faults (O.state out.new).faults }
     ensures stands { R.stands responder.new store.new }
 {
     let mut buf = [0u8; PIECE];

@@ -6,7 +6,7 @@ use Rattle.std.specs.Str.Parse.{digits_value}
 use Rattle.cube_text.specs.Units.{is_digits}
 use Rattle.cube_words.specs.declared.words.Command.{Command}
 use Rattle.cube_words.specs.declared.words.Command.TheVariants as command
-use Rattle.cube_words.specs.declared.ordered.CubeFiles.{CubeFiles}
+use Rattle.cube_opening.specs.declared.cube_files.CubeFiles.{CubeFiles}
 use Rattle.cube_words.specs.declared.ordered.Making.{Making}
 use Rattle.cube_words.specs.declared.ordered.Orders.{Orders}
 use Rattle.cube_words.specs.declared.ordered.Orders.TheVariants as orders

@@ -5,6 +5,6 @@ mod ordered;
 mod words;
 mod worked;
 
-pub use ordered::{CubeFiles, Making, Orders};
+pub use ordered::{Making, Orders};
 pub use words::{Setting, Usage, orders_of};
 pub use worked::{worked_makings, worked_requests};

@@ -11,18 +11,8 @@ use crate::words::{
     Command, Setting, USUAL_REQUESTS, number_in, requests_in, size_in, value_behind,
 };
 use cube_model::{NoMemory, Text};
+use cube_opening::CubeFiles;
 use std::alloc::Global;
-
-/// The files that make a cube and its policy, by their names.
-#[derive(Debug, Drop)]
-pub struct CubeFiles {
-    /// The dimension file.
-    pub dims: Text,
-    /// The fact file.
-    pub facts: Text,
-    /// The policy file.
-    pub policy: Text,
-}
 
 /// What a cube is made of.
 #[derive(Clone, Copy, Debug, PartialEq, Eq)]

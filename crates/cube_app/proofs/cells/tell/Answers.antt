@@ -1,5 +1,6 @@
 use Rattle.std.proofs.Common.{inr, subst}
 use Rattle.cube_engine.specs.Engines.{Engine}
+use Rattle.cube_io.specs.Seen.{seen}
 use Rattle.cube_opening.proofs.Accepted.{all_accepted}
 use Rattle.cube_app.specs.Cells.{Tells, cell_text}
 use Rattle.cube_app.proofs.cells.tell.Goals as goal
@@ -10,8 +11,7 @@ returns-clause-answers g c =
     let policy = c.in-Ok.opened.value.policy in
     let engine = c.in-Ok-open_engine.started.value in
     let text = λ (e : Engine). cell_text c.args.is_twin e.core e.policy e.history c.args.cell.now in
-    let written = g.O.Sink.written c.args.out.now in
-    let written' = g.O.Sink.written c.put_told.new.out in
+    let out = seen g.O.Sink.state c.args.out.now c.put_told.new.out in
     let tells = c.put_told.ensures.tells (text engine) c.told_of-told.ensures.ok c.told_of-told.ensures.err in
     inr (inr (
       record {
@@ -20,14 +20,12 @@ returns-clause-answers g c =
         history = engine.history;
         files_make = c.in-Ok.ensures.ok.1;
         recovered = c.in-Ok-open_engine.ensures.history;
-        tells = subst (λ (e : Engine). Tells (text e) written written' c.put_told.result) c.in-Ok-open_engine.ensures.engine tells;
+        tells = subst (λ (e : Engine). Tells (text e) out c.put_told.result) c.in-Ok-open_engine.ensures.engine tells;
         passed = c.in-Ok-open_engine.ensures.crash;
         exact = c.in-Ok-open_engine.ensures.exact;
       },
-      c.in-Ok.ensures.steady,
+      c.in-Ok.ensures.reads.steady,
     ))
 
 pub returns-in-Err-clause-complete : goal.returns-in-Err-clause-complete
-returns-in-Err-clause-complete g c = λ all kept told files store out.
-    let before = g.F.Folder.faults c.args.files.now in
-    inr (all_accepted c.args.cube.now.dims c.args.cube.now.facts c.args.cube.now.policy (g.F.Folder.files c.args.files.now) before (g.F.Folder.faults c.open_guarded.new.files) c.in-Err.report c.in-Err.ensures.err all files)
+returns-in-Err-clause-complete g c = λ all kept told files store out. inr (all_accepted c.args.cube.now (seen g.F.Folder.state c.args.files.now c.open_guarded.new.files) c.in-Err.report c.in-Err.ensures.err all files)

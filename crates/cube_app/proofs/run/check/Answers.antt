@@ -1,5 +1,6 @@
 use Rattle.std.proofs.Common.{◌∙◌, inl, inr, subst}
 use Rattle.cube_opening.specs.Reports.{Prints}
+use Rattle.cube_io.specs.Seen.{seen}
 use Rattle.cube_opening.proofs.Accepted.{all_accepted}
 use Rattle.cube_app.proofs.run.check.Goals as goal
 
@@ -9,12 +10,10 @@ returns-in-Ok-check_text-clause-checks g c = inr (
     core = c.in-Ok.opened.value.core;
     policy = c.in-Ok.opened.value.policy;
     files_make = c.in-Ok.ensures.ok.1;
-    printed = inl (subst (λ text. Prints text (g.O.Sink.written c.args.out.now) (g.O.Sink.written c.print.new.out) c.print.result) (c.as_slice.ensures ∙ c.in-Ok-check_text.ensures) c.print.ensures.prints);
+    printed = inl (subst (λ text. Prints text (seen g.O.Sink.state c.args.out.now c.print.new.out) c.print.result) (c.as_slice.ensures ∙ c.in-Ok-check_text.ensures) c.print.ensures.prints);
   },
-  c.in-Ok.ensures.steady,
+  c.in-Ok.ensures.reads.steady,
 )
 
 pub returns-in-Err-clause-complete : goal.returns-in-Err-clause-complete
-returns-in-Err-clause-complete g c = λ all files out.
-    let before = g.F.Folder.faults c.args.files.now in
-    inr (all_accepted c.args.cube.now.dims c.args.cube.now.facts c.args.cube.now.policy (g.F.Folder.files c.args.files.now) before (g.F.Folder.faults c.open_guarded.new.files) c.in-Err.report c.in-Err.ensures.err all files)
+returns-in-Err-clause-complete g c = λ all files out. inr (all_accepted c.args.cube.now (seen g.F.Folder.state c.args.files.now c.open_guarded.new.files) c.in-Err.report c.in-Err.ensures.err all files)

@@ -57,7 +57,7 @@ returns-in-Sum g c =
         wire_steady = λ no. refl;
       };
       ordered = x.words;
-      others = λ told k other. ap (λ s. g.S.Store.logs s k) x.store;
+      others = λ told k other. ap (λ s. (g.S.Store.state s).logs k) x.store;
     })
 
 pub returns-in-Check : goal.returns-in-Check
@@ -140,7 +140,7 @@ pub returns-in-Serve : goal.returns-in-Serve
 returns-in-Serve g c =
     let x = c.serve_cube.ensures in
     obeyed_as c.args.orders (orders.Serve c.in-Serve.cube c.in-Serve.journal c.in-Serve.address c.in-Serve.stated) c.in-Serve.is (record {
-      does = record { answers = x.answers; asks = x.asks; named = x.names; listened = x.heard; memory = x.memory; complete = x.complete };
+      does = record { answers = x.answers; asks = x.asks; named = x.names; few_calls = x.calls; listened = x.heard; memory = x.memory; complete = x.complete };
       leaves = (refl, refl);
       causes = record {
         unreadable = λ is. inl (x.unreadable is, refl);
@@ -159,7 +159,7 @@ pub returns-in-Replay : goal.returns-in-Replay
 returns-in-Replay g c =
     let x = c.replay_cube.ensures in
     obeyed_as c.args.orders (orders.Replay c.in-Replay.cube c.in-Replay.journal c.in-Replay.script c.in-Replay.stated) c.in-Replay.is (record {
-      does = record { answers = x.answers; asks = x.asks; named = x.names; memory = x.memory; complete = x.complete };
+      does = record { answers = x.answers; asks = x.asks; named = x.names; few_calls = x.calls; memory = x.memory; complete = x.complete };
       leaves = (refl, refl);
       causes = record {
         unreadable = λ is. inl (x.unreadable is, refl);

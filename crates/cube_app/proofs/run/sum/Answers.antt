@@ -5,12 +5,11 @@ pub returns-clause-answers : goal.returns-clause-answers
 returns-clause-answers g c = inr (
   record {
     flat = c.in-Ok.opened.value;
-    ending = c.converse_by_sums-lines.result.0.ending;
+    end = c.converse_by_sums-lines.result.0;
     lines = c.converse_by_sums-lines.result.1;
-    bytes = c.converse_by_sums-lines.result.0.bytes;
     file = c.in-Ok.ensures.ok.1;
     reported = c.report_talk.ensures;
     talked = c.converse_by_sums-lines.ensures.talked;
   },
-  c.in-Ok.ensures.steady,
+  c.in-Ok.ensures.reads.steady,
 )

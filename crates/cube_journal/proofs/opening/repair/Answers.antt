@@ -7,7 +7,7 @@ pub begin-requires-clause-starts : goal.begin-requires-clause-starts
 begin-requires-clause-starts g c = c.requires.begins (no_lines c.args.bytes.now c.ended_len-end.result c.if-end-eq0.true c.ended_len-end.ensures.rest)
 
 pub returns-in-Ok-clause-trail : goal.returns-in-Ok-clause-trail
-returns-in-Ok-clause-trail g c = λ told. restores_begun c.args.head.now c.args.bytes.now (g.S.Store.logs c.args.store.now c.args.log) (g.S.Store.logs c.begin.new.store c.args.log) (no_lines c.args.bytes.now c.ended_len-end.result c.if-end-eq0.true c.ended_len-end.ensures.rest) (c.begin.ensures.trail told)
+returns-in-Ok-clause-trail g c = λ told. restores_begun c.args.head.now c.args.bytes.now ((g.S.Store.state c.args.store.now).logs c.args.log) ((g.S.Store.state c.begin.new.store).logs c.args.log) (no_lines c.args.bytes.now c.ended_len-end.result c.if-end-eq0.true c.ended_len-end.ensures.rest) (c.begin.ensures.trail told)
 
 pub returns-in-Ok-clause-ok : goal.returns-in-Ok-clause-ok
 returns-in-Ok-clause-ok g c = λ told. c.in-Ok.ensures.ok told ∙ ap settled (sym (kept_begun c.args.head.now c.args.bytes.now (no_lines c.args.bytes.now c.ended_len-end.result c.if-end-eq0.true c.ended_len-end.ensures.rest)))
@@ -16,12 +16,12 @@ pub returns-in-Ok-clause-kept : goal.returns-in-Ok-clause-kept
 returns-in-Ok-clause-kept g c = let e = kept_begun c.args.head.now c.args.bytes.now (no_lines c.args.bytes.now c.ended_len-end.result c.if-end-eq0.true c.ended_len-end.ensures.rest) in rw e (search rules)
 
 pub returns-in-Err-clause-trail : goal.returns-in-Err-clause-trail
-returns-in-Err-clause-trail g c = λ told. restores_begun c.args.head.now c.args.bytes.now (g.S.Store.logs c.args.store.now c.args.log) (g.S.Store.logs c.begin.new.store c.args.log) (no_lines c.args.bytes.now c.ended_len-end.result c.if-end-eq0.true c.ended_len-end.ensures.rest) (c.begin.ensures.trail told)
+returns-in-Err-clause-trail g c = λ told. restores_begun c.args.head.now c.args.bytes.now ((g.S.Store.state c.args.store.now).logs c.args.log) ((g.S.Store.state c.begin.new.store).logs c.args.log) (no_lines c.args.bytes.now c.ended_len-end.result c.if-end-eq0.true c.ended_len-end.ensures.rest) (c.begin.ensures.trail told)
 
 pub returns-in-Ok-settle-clause-trail : goal.returns-in-Ok-settle-clause-trail
 returns-in-Ok-settle-clause-trail g c =
     let some : 0 < c.ended_len-end.result = omega (arith, c.if-end-eq0.false) in
-    λ told. restores_kept c.args.head.now c.args.bytes.now (g.S.Store.logs c.args.store.now c.args.log) (g.S.Store.logs c.settle.new.store c.args.log) (some_lines c.args.bytes.now c.ended_len-end.result some c.ended_len-end.ensures.within c.ended_len-end.ensures.ended) (c.settle.ensures.trail told)
+    λ told. restores_kept c.args.head.now c.args.bytes.now ((g.S.Store.state c.args.store.now).logs c.args.log) ((g.S.Store.state c.settle.new.store).logs c.args.log) (some_lines c.args.bytes.now c.ended_len-end.result some c.ended_len-end.ensures.within c.ended_len-end.ensures.ended) (c.settle.ensures.trail told)
 
 pub returns-in-Ok-settle-clause-ok : goal.returns-in-Ok-settle-clause-ok
 returns-in-Ok-settle-clause-ok g c =
@@ -37,4 +37,4 @@ returns-in-Ok-settle-clause-kept g c =
 pub returns-in-Err-settle-clause-trail : goal.returns-in-Err-settle-clause-trail
 returns-in-Err-settle-clause-trail g c =
     let some : 0 < c.ended_len-end.result = omega (arith, c.if-end-eq0.false) in
-    λ told. restores_kept c.args.head.now c.args.bytes.now (g.S.Store.logs c.args.store.now c.args.log) (g.S.Store.logs c.settle.new.store c.args.log) (some_lines c.args.bytes.now c.ended_len-end.result some c.ended_len-end.ensures.within c.ended_len-end.ensures.ended) (c.settle.ensures.trail told)
+    λ told. restores_kept c.args.head.now c.args.bytes.now ((g.S.Store.state c.args.store.now).logs c.args.log) ((g.S.Store.state c.settle.new.store).logs c.args.log) (some_lines c.args.bytes.now c.ended_len-end.result some c.ended_len-end.ensures.within c.ended_len-end.ensures.ended) (c.settle.ensures.trail told)

@@ -6,7 +6,7 @@ use Rattle.cube_script.proofs.render.put_log.Goals as goal
 
 pub returns-in_err-put_entry-clause-err : goal.returns-in_err-put_entry-clause-err
 returns-in_err-put_entry-clause-err g c =
-    let x : AppendsPrefix (g.O.Sink.written c.args.out.now) (g.O.Sink.written c.put_entry.new.out) (render c.args.scroll.now.log) =
+    let x : AppendsPrefix (g.O.Sink.state c.args.out.now).written (g.O.Sink.state c.put_entry.new.out).written (render c.args.scroll.now.log) =
     entry_broken c.args.scroll.now.log c.entries.place _ _ _ _ c.entry-note.ensures c.entries.invariant.put c.in_err-put_entry.ensures.err in
     search rules
 

@@ -5,6 +5,6 @@ use Rattle.cube_script.proofs.render.put_log.Given as goal
 
 abbrev pub invariant-entries : goal.invariant-entries
 invariant-entries g l = record {
-  put : Appends (g.O.Sink.written l.initial.out) (g.O.Sink.written l.out) (render (take l.place l.scroll.log));
-  steady : g.O.Sink.faults l.out ≡ g.O.Sink.faults l.initial.out;
+  put : Appends (g.O.Sink.state l.initial.out).written (g.O.Sink.state l.out).written (render (take l.place l.scroll.log));
+  steady : (g.O.Sink.state l.out).faults ≡ (g.O.Sink.state l.initial.out).faults;
 }

@@ -3,17 +3,15 @@ use Rattle.cube_http.specs.Stream.Item.{Whole}
 use Rattle.cube_server.proofs.deal.deal.Goals as goal
 
 pub returns-in-Head-clause-deals : goal.returns-in-Head-clause-deals
-returns-in-Head-clause-deals g c = λ told. rw c.in-Head.is (none_dealt (g.D.Desk.manner c.args.desk.now) c.args.c (g.D.Desk.rooms c.args.desk.now) (g.D.Desk.room c.args.desk.now) (g.D.Desk.outcomes c.args.desk.now) (g.W.Wire.log c.args.wire.now))
+returns-in-Head-clause-deals g c = λ told. rw c.in-Head.is (none_dealt (g.D.Desk.manner c.args.desk.now) c.args.c _ _)
 
 pub returns-in-Body-clause-deals : goal.returns-in-Body-clause-deals
 returns-in-Body-clause-deals g c = λ told. let says = rw c.waits.ensures at (c.deal_body.ensures.says told) in
-    rw c.in-Body.is (body_dealt (g.D.Desk.manner c.args.desk.now) c.args.c _ (g.D.Desk.rooms c.args.desk.now) (g.D.Desk.room c.args.desk.now) (g.D.Desk.outcomes c.args.desk.now) (g.W.Wire.log c.args.wire.now) (g.W.Wire.log c.deal_body.new.wire) _ c.requires.room says)
+    rw c.in-Body.is (body_dealt (g.D.Desk.manner c.args.desk.now) c.args.c _ _ _ _ _ c.requires.room says)
 
 pub returns-in-Done-clause-deals : goal.returns-in-Done-clause-deals
-returns-in-Done-clause-deals g c = λ told.
-    rw c.in-Done.is (one_dealt (g.D.Desk.manner c.args.desk.now) c.args.c (Whole c.in-Done.done) (g.D.Desk.rooms c.args.desk.now) (g.D.Desk.rooms c.deal_done.new.desk) (g.D.Desk.room c.args.desk.now) (g.D.Desk.room c.deal_done.new.desk) (g.D.Desk.outcomes c.args.desk.now)
-    (g.D.Desk.outcomes c.deal_done.new.desk) (g.W.Wire.log c.args.wire.now) (g.W.Wire.log c.deal_done.new.wire) _ c.requires.room (c.deal_done.ensures.deals told))
+returns-in-Done-clause-deals g c = λ told. rw c.in-Done.is (one_dealt (g.D.Desk.manner c.args.desk.now) c.args.c (Whole c.in-Done.done) _ _ _ _ _ c.requires.room (c.deal_done.ensures.deals told))
 
 pub returns-in-Dead-clause-deals : goal.returns-in-Dead-clause-deals
 returns-in-Dead-clause-deals g c = λ told. let off = c.deal_dead.ensures.off in
-    rw (c.in-Dead.is, off) (dead_dealt (g.D.Desk.manner c.args.desk.now) c.args.c c.args.heard (g.D.Desk.rooms c.args.desk.now) (g.D.Desk.room c.args.desk.now) (g.D.Desk.outcomes c.args.desk.now) (g.W.Wire.log c.args.wire.now) (g.W.Wire.log c.deal_dead.new.wire) _ c.requires.room (c.deal_dead.ensures.says told))
+    rw (c.in-Dead.is, off) (dead_dealt (g.D.Desk.manner c.args.desk.now) c.args.c c.args.heard _ _ _ _ c.requires.room (c.deal_dead.ensures.says told))

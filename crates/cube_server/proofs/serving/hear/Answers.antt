@@ -5,22 +5,19 @@ use Rattle.cube_server.proofs.serving.hear.Goals as goal
 pub returns-in_default-clause-meets : goal.returns-in_default-clause-meets
 returns-in_default-clause-meets g c = λ told conns k.
     let none = c.in_default.ensures.none in
-    dropped_meets (g.D.Desk.manner c.args.desk.now) c.args.c c.args.piece.now c.args.lines.now.lines.items c.take.new.self.lines.items conns (g.D.Desk.rooms c.args.desk.now) (g.D.Desk.room c.args.desk.now) (g.D.Desk.outcomes c.args.desk.now)
-    (g.W.Wire.log c.args.wire.now) none.1 none.2 k (c.requires.live told)
+    dropped_meets (g.D.Desk.manner c.args.desk.now) c.args.c c.args.piece.now c.args.lines.now.lines.items c.take.new.self.lines.items conns _ _ none.1 none.2 k (c.requires.live told)
 
 pub hear_piece-requires-clause-live : goal.hear_piece-requires-clause-live
 hear_piece-requires-clause-live g c = λ told.
     let t = c.in-Some.ensures.some.1 in
-    taken_is_open c.args.c c.in-Some.ear t.front t.after (g.W.Wire.log c.args.wire.now) (rw t.was at (c.requires.live told))
+    taken_is_open c.args.c c.in-Some.ear t.front t.after (g.W.Wire.state c.args.wire.now).log (rw t.was at (c.requires.live told))
 
 pub returns-in-On-clause-meets : goal.returns-in-On-clause-meets
 returns-in-On-clause-meets g c = λ told conns k.
-    piece_on (g.D.Desk.manner c.args.desk.now) c.args.c c.args.piece.now c.in-Some.ear c.in-On.ear c.args.lines.now.lines.items c.take.new.self.lines.items c.put.new.self.lines.items conns (g.D.Desk.rooms c.args.desk.now) (g.D.Desk.rooms c.hear_piece.new.desk)
-    (g.D.Desk.room c.args.desk.now) (g.D.Desk.room c.hear_piece.new.desk) (g.D.Desk.outcomes c.args.desk.now) (g.D.Desk.outcomes c.hear_piece.new.desk) (g.W.Wire.log c.args.wire.now) (g.W.Wire.log c.hear_piece.new.wire)
+    piece_on c.args.c c.args.piece.now c.in-Some.ear c.in-On.ear c.args.lines.now.lines.items c.take.new.self.lines.items c.put.new.self.lines.items conns _ _ _ _
     (c.in-Some.ensures.some.1) c.put.ensures.lines k (c.requires.live told) (c.in-On.ensures.deals told)
 
 pub returns-in-Off-clause-meets : goal.returns-in-Off-clause-meets
 returns-in-Off-clause-meets g c = λ told conns k.
-    piece_off (g.D.Desk.manner c.args.desk.now) c.args.c c.args.piece.now c.in-Some.ear c.args.lines.now.lines.items c.take.new.self.lines.items c.give.new.self.lines.items conns (g.D.Desk.rooms c.args.desk.now) (g.D.Desk.rooms c.hear_piece.new.desk)
-    (g.D.Desk.room c.args.desk.now) (g.D.Desk.room c.hear_piece.new.desk) (g.D.Desk.outcomes c.args.desk.now) (g.D.Desk.outcomes c.hear_piece.new.desk) (g.W.Wire.log c.args.wire.now) (g.W.Wire.log c.hear_piece.new.wire)
-    (c.in-Some.ensures.some.1) c.give.ensures.lines k (c.requires.live told) (λ stream s. (c.in-Off.ensures.deals told stream s).0)
+    piece_off c.args.c c.args.piece.now c.in-Some.ear _ c.args.lines.now.lines.items c.take.new.self.lines.items c.give.new.self.lines.items conns _ _ _ _
+    (c.in-Some.ensures.some.1) c.give.ensures.lines k (c.requires.live told) (c.in-Off.ensures.deals told)

@@ -3,5 +3,5 @@ use Rattle.cube_server.proofs.serving.take_event.Goals as goal
 
 pub meet-requires-clause-live : goal.meet-requires-clause-live
 meet-requires-clause-live g c = λ told.
-    let was = rw c.in-Ok.ensures.told at told in
-    event_open c.in-Ok.event c.next.new.buf c.args.lines.now.lines.items (g.W.Wire.log c.args.wire.now) (g.W.Wire.log c.next.new.self) (c.requires.live was) (c.in-Ok.ensures.log was)
+    let was = rw c.in-Ok.ensures.plays.told at told in
+    event_open c.in-Ok.event c.next.new.buf c.args.lines.now.lines.items (g.W.Wire.state c.args.wire.now).log (g.W.Wire.state c.next.new.self).log (c.requires.live was) (c.in-Ok.ensures.log was)

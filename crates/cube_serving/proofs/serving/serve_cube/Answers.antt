@@ -1,27 +1,35 @@
-use Rattle.std.proofs.Common.{◌∙◌, ◌++◌, ℕ, List, codes, ap, inl, inr, subst, sym, IsTrue}
+use Rattle.std.proofs.Common.{◌∙◌, ◌++◌, ℕ, List, codes, ap, inl, inr, refl, subst, sym, IsTrue}
+use Rattle.cube_io.specs.Causes.{Rose}
+use Rattle.cube_io.specs.Seen.{seen}
+use Rattle.cube_engine.specs.Engines.{Engine}
 use Rattle.cube_opening.proofs.Accepted.{all_accepted}
-use Rattle.cube_serving.proofs.Listening.{asked_all, heard_or_failed}
+use Rattle.cube_serving.specs.Serving.{asking}
+use Rattle.cube_serving.proofs.Listening.{asked_all, heard_or_failed, not_two, not_five, not_six, not_seven, not_nine, eight_failed, failed_eight, all_served}
 use Rattle.cube_serving.proofs.Wired.{served}
 use Rattle.cube_serving.proofs.serving.serve_cube.Goals as goal
 
 pub returns-clause-answers : goal.returns-clause-answers
 returns-clause-answers g c =
-    let before = c.open_engine.new.store in
     let opened = c.in-Ok-open_engine in
+    let e = opened.started.value in
     let last = c.serve_engine-end.new.engine in
-    let store = c.args.store.now in
-    let new = c.serve_engine-end.new.store in
+    let mid = g.S.Store.state c.open_engine.new.store in
+    let store = seen g.S.Store.state c.args.store.now c.serve_engine-end.new.store in
+    let end = c.serve_engine-end.result in
+    let x = c.serve_engine-end.ensures in
     inr (inr (inr (
       record {
-        end = c.serve_engine-end.result;
-        served = served c.args.dims_name.now c.args.facts_name.now c.args.policy_name.now c.args.stated (g.F.Folder.files c.args.files.now) (g.S.Store.told store) (g.S.Store.told before) (g.S.Store.logs store 0) (g.S.Store.logs before 0) (g.S.Store.logs new 0)
-            (g.S.Store.faults store) (g.S.Store.faults before) (g.S.Store.faults new) c.serve_engine-end.result (g.W.Wire.told c.args.wire.now) (g.W.Wire.told c.listen.new.self) (g.W.Wire.log c.serve_engine-end.new.wire) c.report_serving.result.outcomes
-            c.in-Ok.opened.value.core c.in-Ok.opened.value.policy opened.started.value last c.in-Ok.ensures.ok.1 opened.ensures.engine opened.ensures.rules opened.ensures.told opened.ensures.history opened.ensures.exact opened.ensures.crash opened.ensures.steady
-            c.in-Ok-listen.ensures.told c.serve_engine-end.ensures.wired c.serve_engine-end.ensures.survived c.serve_engine-end.ensures.calm c.report_serving.ensures.outcomes;
+        asking = asking e last;
+        stated_is = ap (λ (y : Engine). y.left) opened.ensures.engine;
+        outcomes_are = c.report_serving.ensures.outcomes;
+        end = end;
+        served = served c.args.cube.now (g.F.Folder.state c.args.files.now) mid store end (g.W.Wire.state c.args.wire.now).told (g.W.Wire.state c.listen.new.self).told (g.W.Wire.state c.serve_engine-end.new.wire).log c.in-Ok.opened.value.core c.in-Ok.opened.value.policy e last c.args.stated
+            c.in-Ok.ensures.ok.1 opened.ensures.engine opened.ensures.rules opened.ensures.history opened.ensures.exact opened.ensures.crash c.in-Ok-listen.ensures.told x.wired
+            (λ told exact crash. x.survived (subst IsTrue (sym opened.ensures.opens.told) told) exact c.args.store.now crash (sym opened.ensures.opens.told)) opened.ensures.steady x.calm;
         status = c.report_serving.ensures.status;
         text = c.report_serving.ensures.text;
       },
-      c.in-Ok.ensures.steady,
+      c.in-Ok.ensures.reads.steady,
     )))
 
 pub returns-in-Err-listen-clause-answers : goal.returns-in-Err-listen-clause-answers
@@ -39,24 +47,100 @@ returns-in-Err-listen-clause-answers g c =
         exact = opened.ensures.exact;
       },
       inl ((e.0, e.1, e.2 ∙ c.with-in-Err-listen.ensures ∙ ap (λ (x : List ℕ). x ++ codes "wire failed\n") opened.ensures.room), c.in-Err-listen.ensures.cause.failed),
-      c.in-Ok.ensures.steady,
+      c.in-Ok.ensures.reads.steady,
       λ told. c.in-Err-listen.ensures.log told ∙ c.requires.quiet told,
     )))
 
 pub returns-in-Err-clause-complete : goal.returns-in-Err-clause-complete
-returns-in-Err-clause-complete g c = λ all kept some files store wire.
-    let before = g.F.Folder.faults c.args.files.now in
-    inr (all_accepted c.args.dims_name.now c.args.facts_name.now c.args.policy_name.now (g.F.Folder.files c.args.files.now) before (g.F.Folder.faults c.open_guarded.new.files) c.in-Err.report c.in-Err.ensures.err all files)
+returns-in-Err-clause-complete g c = λ all kept some files store wire. inr (all_accepted c.args.cube.now (seen g.F.Folder.state c.args.files.now c.open_guarded.new.files) c.in-Err.report c.in-Err.ensures.err all files)
 
 pub returns-clause-others : goal.returns-clause-others
-returns-clause-others g c = λ told log other. c.serve_engine-end.ensures.others (subst IsTrue (sym c.in-Ok-open_engine.ensures.told) told) log other ∙ c.in-Ok-open_engine.ensures.others told log other
+returns-clause-others g c = λ told log other. c.serve_engine-end.ensures.others (subst IsTrue (sym c.in-Ok-open_engine.ensures.opens.told) told) log other ∙ c.in-Ok-open_engine.ensures.opens.others told log other
 
 pub returns-in-Err-listen-clause-asks : goal.returns-in-Err-listen-clause-asks
-returns-in-Err-listen-clause-asks g c =
-    let files = c.args.files.now in
-    let new = c.open_guarded.new.files in
-    asked_all c.args.dims_name.now c.args.facts_name.now c.args.policy_name.now (g.F.Folder.files files) (g.F.Folder.asked files) (g.F.Folder.asked new) (g.F.Folder.faults files) (g.F.Folder.faults new) c.close-in-Err-listen.result c.in-Ok.ensures.asks_ok
+returns-in-Err-listen-clause-asks g c = asked_all c.args.cube.now (seen g.F.Folder.state c.args.files.now c.open_guarded.new.files) c.close-in-Err-listen.result c.in-Ok.ensures.asks_ok
 
 pub returns-in-Err-listen-clause-heard : goal.returns-in-Err-listen-clause-heard
 returns-in-Err-listen-clause-heard g c =
-    inr (λ told. heard_or_failed c.args.address.now (g.W.Wire.heard c.args.wire.now) (g.W.Wire.heard c.listen.new.self) c.close-in-Err-listen.result (c.in-Err-listen.ensures.heard told) c.close-in-Err-listen.ensures.0)
+    inr (λ told. heard_or_failed c.args.address.now (g.W.Wire.state c.args.wire.now).heard (g.W.Wire.state c.listen.new.self).heard c.close-in-Err-listen.result (c.in-Err-listen.ensures.heard told) c.close-in-Err-listen.ensures.0)
+
+pub returns-clause-asks : goal.returns-clause-asks
+returns-clause-asks g c = asked_all c.args.cube.now (seen g.F.Folder.state c.args.files.now c.open_guarded.new.files) c.report_serving.result c.in-Ok.ensures.asks_ok
+
+pub returns-in_default-clause-asks : goal.returns-in_default-clause-asks
+returns-in_default-clause-asks g c = asked_all c.args.cube.now (seen g.F.Folder.state c.args.files.now c.open_guarded.new.files) c.close.result c.in-Ok.ensures.asks_ok
+
+pub returns-clause-unkept : goal.returns-clause-unkept
+returns-clause-unkept g c = λ nine. absurd (not_nine c.serve_engine-end.result (sym c.report_serving.ensures.status ∙ nine))
+
+pub returns-clause-calls : goal.returns-clause-calls
+returns-clause-calls g c = λ nine. absurd (not_nine c.serve_engine-end.result (sym c.report_serving.ensures.status ∙ nine))
+
+pub returns-clause-unreadable : goal.returns-clause-unreadable
+returns-clause-unreadable g c = λ five. absurd (not_five c.serve_engine-end.result (sym c.report_serving.ensures.status ∙ five))
+
+pub returns-clause-memory : goal.returns-clause-memory
+returns-clause-memory g c = λ seven. absurd (not_seven c.serve_engine-end.result (sym c.report_serving.ensures.status ∙ seven))
+
+pub returns-clause-output : goal.returns-clause-output
+returns-clause-output g c = λ six. not_six c.serve_engine-end.result (sym c.report_serving.ensures.status ∙ six)
+
+pub returns-clause-words : goal.returns-clause-words
+returns-clause-words g c = λ two. not_two c.serve_engine-end.result (sym c.report_serving.ensures.status ∙ two)
+
+pub returns-in-Err-clause-answers : goal.returns-in-Err-clause-answers
+returns-in-Err-clause-answers g c = inl (c.in-Err.ensures.err, refl, refl)
+
+pub returns-in-Err-open_engine-clause-answers : goal.returns-in-Err-open_engine-clause-answers
+returns-in-Err-open_engine-clause-answers g c = inr (inl (
+  record {
+    core = c.in-Ok.opened.value.core;
+    policy = c.in-Ok.opened.value.policy;
+    files_make = c.in-Ok.ensures.ok.1;
+    unstarted = c.in-Err-open_engine.ensures.err;
+    passed = c.in-Err-open_engine.ensures.crash;
+  },
+  c.in-Ok.ensures.reads.steady,
+  refl,
+))
+
+pub returns-in_default-clause-answers : goal.returns-in_default-clause-answers
+returns-in_default-clause-answers g c =
+    let opened = c.in-Ok-open_engine in
+    let e = c.close.ensures in
+    inr (inr (inl (
+      record {
+        core = c.in-Ok.opened.value.core;
+        policy = c.in-Ok.opened.value.policy;
+        history = opened.started.value.history;
+        files_make = c.in-Ok.ensures.ok.1;
+        recovered = opened.ensures.history;
+        passed = opened.ensures.crash;
+        exact = opened.ensures.exact;
+      },
+      inr (e.0, e.1, e.2 ∙ c.with.ensures ∙ ap (λ (x : List ℕ). x ++ codes "no memory\n") opened.ensures.room),
+      c.in-Ok.ensures.reads.steady,
+      c.requires.quiet,
+    )))
+
+pub returns-clause-heard : goal.returns-clause-heard
+returns-clause-heard g c = inr (λ told. inl (c.serve_engine-end.ensures.plays.heard (subst IsTrue (sym c.in-Ok-listen.ensures.told) told) ∙ c.in-Ok-listen.ensures.heard told))
+
+pub returns-clause-names : goal.returns-clause-names
+returns-clause-names g c = inr (λ told. inl (c.serve_engine-end.ensures.stored (subst IsTrue (sym c.in-Ok-open_engine.ensures.opens.told) told) ∙ c.in-Ok-open_engine.ensures.names told))
+
+pub returns-clause-unheard : goal.returns-clause-unheard
+returns-clause-unheard g c = λ eight.
+    subst (λ (n : ℕ). Rose n (g.W.Wire.state c.serve_engine-end.new.wire).faults) c.in-Ok-listen.ensures.cause.steady (c.serve_engine-end.ensures.failed (eight_failed c.serve_engine-end.result (sym c.report_serving.ensures.status ∙ eight)))
+
+pub returns-clause-wire_steady : goal.returns-clause-wire_steady
+returns-clause-wire_steady g c = λ no. c.serve_engine-end.ensures.steady (λ failed. no (c.report_serving.ensures.status ∙ failed_eight c.serve_engine-end.result failed)) ∙ c.in-Ok-listen.ensures.cause.steady
+
+pub returns-clause-steady : goal.returns-clause-steady
+returns-clause-steady g c = λ no. c.in-Ok.ensures.reads.steady
+
+pub returns-clause-complete : goal.returns-clause-complete
+returns-clause-complete g c = λ all kept some files store wire.
+    let end = c.serve_engine-end.result in
+    let status = c.report_serving.ensures.status in
+    inl (status ∙ all_served end (λ ten. some (status ∙ ten)) (λ failed. wire (subst (λ (n : ℕ). Rose n (g.W.Wire.state c.serve_engine-end.new.wire).faults) c.in-Ok-listen.ensures.cause.steady (c.serve_engine-end.ensures.failed failed))))

@@ -1,6 +1,9 @@
 use Rattle.std.proofs.Common.{refl}
+use Rattle.cube_io.specs.Seen.{seen}
 use Rattle.cube_talk.proofs.SumTalk.{talked}
 use Rattle.cube_talk.proofs.sums.converse_by_sums.Goals as goal
 
 pub returns-clause-talked : goal.returns-clause-talked
-returns-clause-talked g c = talked c.converse-end.result.ending c.args.flat _ c.converse-end.new.responder c.args.store.now c.converse-end.new.store c.converse-end.result.bytes (g.I.Source.left c.args.input.now) (g.I.Source.left c.converse-end.new.input) (g.O.Sink.written c.args.out.now) (g.O.Sink.written c.converse-end.new.out) refl refl c.converse-end.ensures.conversed
+returns-clause-talked g c =
+    talked c.converse-end.result c.args.flat _ c.converse-end.new.responder c.args.store.now c.converse-end.new.store (seen g.I.Source.state c.args.input.now c.converse-end.new.input) (seen g.O.Sink.state c.args.out.now c.converse-end.new.out)
+    refl refl c.converse-end.ensures.conversed

@@ -15,13 +15,13 @@ lines-init g c =
       stands = c.requires.stands;
       going = c.requires.going;
       steady = refl;
-      progress = λ o k. progress_start (speech g) c.args.responder.now c.args.store.now o c.args.piece.now c.args.carry.now c.args.replies.now (g.O.Sink.written c.args.out.now) k;
+      progress = λ o k. progress_start (speech g) c.args.responder.now c.args.store.now o c.args.piece.now c.args.carry.now c.args.replies.now (g.O.Sink.state c.args.out.now).written k;
     }
 
 pub returns-in_default-clause-all : goal.returns-in_default-clause-all
 returns-in_default-clause-all g c = λ _ o k.
     progress_all (speech g) c.args.responder.now c.lines.responder c.args.store.now c.lines.store o c.args.piece.now c.lines.rest.now c.lines.carry c.extend.new.self c.args.replies.now c.lines.replies
-    (g.O.Sink.written c.args.out.now) (g.O.Sink.written c.lines.out) (c.lines.invariant.progress o k) c.in_default.ensures.none c.extend.ensures
+    (g.O.Sink.state c.args.out.now).written (g.O.Sink.state c.lines.out).written (c.lines.invariant.progress o k) c.in_default.ensures.none c.extend.ensures
 
 pub returns-in_default-answer_line : goal.returns-in_default-answer_line
 returns-in_default-answer_line g c =
@@ -30,14 +30,16 @@ returns-in_default-answer_line g c =
     record {
       all = λ e. absurd (c.in_default-answer_line.not-All e);
       some = λ n o k. line_some (speech g) c.answer_line.result c.args.responder.now c.lines.responder c.answer_line.new.responder c.args.store.now c.lines.store c.answer_line.new.store o c.args.piece.now c.lines.rest.now c.in-Some.line.now
-          c.in-Some.behind.now c.lines.carry c.as_slice.result.now c.args.replies.now c.lines.replies c.answer_line.new.replies (g.O.Sink.written c.args.out.now) (g.O.Sink.written c.lines.out) (g.O.Sink.written c.answer_line.new.out)
+          c.in-Some.behind.now c.lines.carry c.as_slice.result.now c.args.replies.now c.lines.replies c.answer_line.new.replies (g.O.Sink.state c.args.out.now).written (g.O.Sink.state c.lines.out).written (g.O.Sink.state c.answer_line.new.out).written
           (c.lines.invariant.progress o k) is fed kept (λ m. rw c.without_return-line.ensures at c.answer_line.ensures.said m)
-          (λ m. ((c.answer_line.ensures.memory m).0, (c.answer_line.ensures.memory m).1, (c.answer_line.ensures.memory m).2, ap g.O.Sink.written (c.answer_line.ensures.memory m).3));
+          (λ m. ((c.answer_line.ensures.memory m).0, (c.answer_line.ensures.memory m).1, (c.answer_line.ensures.memory m).2, ap (λ o. (g.O.Sink.state o).written) (c.answer_line.ensures.memory m).3));
       going = λ e. absurd (c.in_default-answer_line.not-All e);
       spent = c.answer_line.ensures.spent;
       memory = λ e. (c.answer_line.ensures.memory e).4;
-      failed = λ e. rw c.lines.invariant.steady at c.answer_line.ensures.failed e;
-      steady = λ n. c.answer_line.ensures.steady n ∙ c.lines.invariant.steady;
+      faults = record {
+        rose = λ e. rw c.lines.invariant.steady at c.answer_line.ensures.faults.rose e;
+        steady = λ n. c.answer_line.ensures.faults.steady n ∙ c.lines.invariant.steady;
+      };
       stands = c.answer_line.ensures.stands;
     }
 
@@ -48,13 +50,13 @@ lines-preserved g c =
     record {
       stands = c.in-All.ensures.stands;
       going = c.in-All.ensures.going refl;
-      steady = c.in-All.ensures.steady (λ e. cc) ∙ c.lines.invariant.steady;
+      steady = c.in-All.ensures.faults.steady (λ e. cc) ∙ c.lines.invariant.steady;
       progress = λ o k.
           let line = rw c.without_return-line.ensures at c.in-All.ensures.said (λ e. cc) in
-          go_on (speech g) c.args.responder.now c.answer_line.new.responder c.args.store.now c.answer_line.new.store o c.args.piece.now c.in-Some.behind.now c.clear.new.self c.args.replies.now c.answer_line.new.replies (g.O.Sink.written c.args.out.now)
-          (g.O.Sink.written c.answer_line.new.out)
+          go_on (speech g) c.args.responder.now c.answer_line.new.responder c.args.store.now c.answer_line.new.store o c.args.piece.now c.in-Some.behind.now c.clear.new.self c.args.replies.now c.answer_line.new.replies (g.O.Sink.state c.args.out.now).written
+          (g.O.Sink.state c.answer_line.new.out).written
           (one_more (speech g) heard.All c.args.responder.now c.lines.responder c.answer_line.new.responder c.args.store.now c.lines.store c.answer_line.new.store o c.args.piece.now c.lines.rest.now c.in-Some.line.now c.in-Some.behind.now
-          c.lines.carry c.as_slice.result.now c.args.replies.now c.lines.replies c.answer_line.new.replies (g.O.Sink.written c.args.out.now) (g.O.Sink.written c.lines.out) (g.O.Sink.written c.answer_line.new.out)
+          c.lines.carry c.as_slice.result.now c.args.replies.now c.lines.replies c.answer_line.new.replies (g.O.Sink.state c.args.out.now).written (g.O.Sink.state c.lines.out).written (g.O.Sink.state c.answer_line.new.out).written
           (c.lines.invariant.progress o k) is fed kept line)
           c.clear.ensures;
     }

@@ -7,10 +7,10 @@ abbrev pub invariant-lines : goal.invariant-lines
 invariant-lines g l = record {
   stands : g.R.Responder.stands l.responder l.store;
   going : g.R.Responder.done l.responder ≡ false;
-  steady : g.O.Sink.faults l.out ≡ g.O.Sink.faults l.initial.out;
+  steady : (g.O.Sink.state l.out).faults ≡ (g.O.Sink.state l.initial.out).faults;
   progress : (open_part : List ℕ) → IsKept l.initial.carry open_part
       → Progress g.R.Responder.says l.initial.responder l.responder l.initial.store l.store open_part l.piece l.rest l.carry l.initial.replies l.replies
-      (g.O.Sink.written l.initial.out) (g.O.Sink.written l.out);
+      (g.O.Sink.state l.initial.out).written (g.O.Sink.state l.out).written;
 }
 
 abbrev pub decreases-lines : goal.decreases-lines

@@ -1,4 +1,5 @@
 use Rattle.std.proofs.Common.{◌∙◌, refl, rules, sym, arith, take, length-take-le, ap}
+use Rattle.cube_io.specs.Seen.{seen}
 use Rattle.cube_talk.proofs.Speech.{Speech}
 use Rattle.cube_talk.proofs.Talks.{stands_start, stands_more, piece_ends, input_failed, input_spent, Finished, finished}
 use Rattle.cube_talk.proofs.talk.converse.Given.{Over}
@@ -11,7 +12,7 @@ speech g = record { says = g.R.Responder.says; silent = g.met.R.Responder.silent
 pub reads-init : goal.reads-init
 reads-init g c =
     record {
-      talks = stands_start (speech g) c.args.responder.now c.args.store.now (g.I.Source.left c.args.input.now) (g.O.Sink.written c.args.out.now) c.args.carry c.requires.carry;
+      talks = stands_start (speech g) c.args.responder.now c.args.store.now (g.I.Source.state c.args.input.now).left (g.O.Sink.state c.args.out.now).written c.args.carry c.requires.carry;
       few_bytes = search rules;
       stands = c.requires.stands;
       going = c.requires.going;
@@ -23,9 +24,11 @@ reads-init g c =
 pub returns-in-Ok-eq0-clause-conversed : goal.returns-in-Ok-eq0-clause-conversed
 returns-in-Ok-eq0-clause-conversed g c =
     let none = rw c.in-Ok-eq0.field-0-test at c.in-Ok-eq0.ensures.bytes in
+    let input = seen g.I.Source.state c.args.input.now c.read_piece.new.input in
+    let out = seen g.O.Sink.state c.args.out.now c.finish-ending.new.out in
     let f : Finished g.R.Responder.says c.finish-ending.result (g.R.Responder.done c.finish-ending.new.responder) c.reads.responder c.finish-ending.new.responder c.reads.store c.finish-ending.new.store c.reads.carry
-    (g.O.Sink.written c.reads.out) (g.O.Sink.written c.finish-ending.new.out) = record {
-      none = λ e. ((c.finish-ending.ensures.none e).0, (c.finish-ending.ensures.none e).1, (c.finish-ending.ensures.none e).2, ap g.O.Sink.written (c.finish-ending.ensures.none e).3);
+    (g.O.Sink.state c.reads.out).written (g.O.Sink.state c.finish-ending.new.out).written = record {
+      none = λ e. ((c.finish-ending.ensures.none e).0, (c.finish-ending.ensures.none e).1, (c.finish-ending.ensures.none e).2, ap (λ o. (g.O.Sink.state o).written) (c.finish-ending.ensures.none e).3);
       said = c.finish-ending.ensures.said;
       memory = λ e. ((c.finish-ending.ensures.memory e).0, (c.finish-ending.ensures.memory e).1, (c.finish-ending.ensures.memory e).2);
       ended = c.finish-ending.ensures.ended;
@@ -33,28 +36,27 @@ returns-in-Ok-eq0-clause-conversed g c =
       others = c.finish-ending.ensures.others;
     } in
     finished (speech g) c.finish-ending.result (g.R.Responder.done c.finish-ending.new.responder) c.args.responder.now c.reads.responder c.finish-ending.new.responder c.args.store.now c.reads.store c.finish-ending.new.store
-    (g.I.Source.left c.args.input.now) (g.I.Source.left c.reads.input) (g.I.Source.left c.read_piece.new.input) (g.O.Sink.written c.args.out.now) (g.O.Sink.written c.reads.out) (g.O.Sink.written c.finish-ending.new.out)
-    c.reads.carry c.reads.bytes c.reads.invariant.talks none c.reads-test.true f
+    input out (g.I.Source.state c.reads.input).left (g.O.Sink.state c.reads.out).written c.reads.carry c.reads.bytes c.reads.invariant.talks none c.reads-test.true f
 
 pub returns-in-Err-clause-conversed : goal.returns-in-Err-clause-conversed
 returns-in-Err-clause-conversed g c =
-    input_failed (speech g) (g.R.Responder.done c.reads.responder) c.args.responder.now c.reads.responder c.args.store.now c.reads.store (g.I.Source.left c.args.input.now) (g.I.Source.left c.reads.input) (g.I.Source.left c.read_piece.new.input)
-    (g.O.Sink.written c.args.out.now) (g.O.Sink.written c.reads.out) c.reads.carry c.reads.bytes c.reads.invariant.talks c.in-Err.ensures.err c.reads.invariant.going c.reads-test.true
+    input_failed (speech g) (g.R.Responder.done c.reads.responder) c.args.responder.now c.reads.responder c.args.store.now c.reads.store (seen g.I.Source.state c.args.input.now c.read_piece.new.input) (seen g.O.Sink.state c.args.out.now c.reads.out)
+    (g.I.Source.state c.reads.input).left c.reads.carry c.reads.bytes c.reads.invariant.talks c.in-Err.ensures.err c.reads.invariant.going c.reads-test.true
 
 pub reads-preserved : goal.reads-preserved
 reads-preserved g c =
     let s = c.reads.invariant.talks in
     let long = sym (length-take-le c.in-Ok.count c.read_piece.new.buf (c.in-Ok.ensures.bound).0) in
     record {
-      talks = stands_more (speech g) c.args.responder.now c.reads.responder c.hear_piece.new.responder c.args.store.now c.reads.store c.hear_piece.new.store (g.I.Source.left c.args.input.now) (g.I.Source.left c.reads.input)
-          (g.I.Source.left c.read_piece.new.input) (g.O.Sink.written c.args.out.now) (g.O.Sink.written c.reads.out) (g.O.Sink.written c.hear_piece.new.out) c.reads.carry c.hear_piece.new.carry
+      talks = stands_more (speech g) c.args.responder.now c.reads.responder c.hear_piece.new.responder c.args.store.now c.reads.store c.hear_piece.new.store (g.I.Source.state c.args.input.now).left (g.I.Source.state c.reads.input).left
+          (g.I.Source.state c.read_piece.new.input).left (g.O.Sink.state c.args.out.now).written (g.O.Sink.state c.reads.out).written (g.O.Sink.state c.hear_piece.new.out).written c.reads.carry c.hear_piece.new.carry
           (take c.in-Ok.count c.read_piece.new.buf) c.reads.bytes c.in-Ok.count s c.in-Ok.ensures.bytes long (c.hear_piece.ensures.all c.in-None.is _ s.kept);
       few_bytes = omega (arith, (c.in-Ok.ensures.bound).1, c.reads-test.true);
       stands = c.hear_piece.ensures.stands;
       going = (c.hear_piece.ensures.going c.in-None.is).0;
       empty = (c.hear_piece.ensures.going c.in-None.is).1;
       input_steady = c.in-Ok.ensures.cause.steady ∙ c.reads.invariant.input_steady;
-      output_steady = c.in-None.ensures.steady (λ e. cc) ∙ c.reads.invariant.output_steady;
+      output_steady = c.in-None.ensures.faults.steady (λ e. cc) ∙ c.reads.invariant.output_steady;
     }
 
 pub returns-in-Some-clause-conversed : goal.returns-in-Some-clause-conversed
@@ -62,10 +64,10 @@ returns-in-Some-clause-conversed g c =
     let s = c.reads.invariant.talks in
     let long = sym (length-take-le c.in-Ok.count c.read_piece.new.buf (c.in-Ok.ensures.bound).0) in
     piece_ends (speech g) c.in-Some.ending (g.R.Responder.done c.hear_piece.new.responder) g.R.Responder.lacks c.args.responder.now c.reads.responder c.hear_piece.new.responder c.args.store.now c.reads.store c.hear_piece.new.store
-    (g.I.Source.left c.args.input.now) (g.I.Source.left c.reads.input) (g.I.Source.left c.read_piece.new.input) (g.O.Sink.written c.args.out.now) (g.O.Sink.written c.reads.out) (g.O.Sink.written c.hear_piece.new.out) c.reads.carry
+    (seen g.I.Source.state c.args.input.now c.read_piece.new.input) (seen g.O.Sink.state c.args.out.now c.hear_piece.new.out) (g.I.Source.state c.reads.input).left (g.O.Sink.state c.reads.out).written c.reads.carry
     (take c.in-Ok.count c.read_piece.new.buf) c.reads.bytes c.in-Ok.count s c.in-Ok.ensures.bytes long (c.in-Some.ensures.some _ s.kept) c.in-Some.ensures.stops
 
 pub returns-clause-conversed : goal.returns-clause-conversed
 returns-clause-conversed g c =
-    input_spent (speech g) (g.R.Responder.done c.reads.responder) c.args.responder.now c.reads.responder c.args.store.now c.reads.store (g.I.Source.left c.args.input.now) (g.I.Source.left c.reads.input)
-    (g.O.Sink.written c.args.out.now) (g.O.Sink.written c.reads.out) c.reads.carry c.reads.bytes c.reads.invariant.talks c.reads.invariant.going (omega (arith, c.reads.invariant.few_bytes, c.reads-test.false))
+    input_spent (speech g) (g.R.Responder.done c.reads.responder) c.args.responder.now c.reads.responder c.args.store.now c.reads.store (seen g.I.Source.state c.args.input.now c.reads.input) (seen g.O.Sink.state c.args.out.now c.reads.out)
+    c.reads.carry c.reads.bytes c.reads.invariant.talks c.reads.invariant.going (omega (arith, c.reads.invariant.few_bytes, c.reads-test.false))

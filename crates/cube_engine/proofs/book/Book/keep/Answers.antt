@@ -24,44 +24,44 @@ invariant_of-self g c =
 pub returns-in-Ok-clause-kept : goal.returns-in-Ok-clause-kept
 returns-in-Ok-clause-kept g c =
     let x = c.self.inside in
-    let kept = subst (λ (b : Book). IsTrue (g.S.Store.told c.args.store.now) → IsKept b.core b.policy b.history b.journal (g.S.Store.logs c.args.store.now b.journal.log).state) (sym c.self.view_is) c.requires.kept in
+    let kept = subst (λ (b : Book). IsTrue (g.S.Store.state c.args.store.now).told → IsKept b.core b.policy b.history b.journal ((g.S.Store.state c.args.store.now).logs b.journal.log).state) (sym c.self.view_is) c.requires.kept in
     let holds = subst (λ (b : Book). IsWaiting b c.args.line.now) (sym c.self.view_is) c.requires.waits in
     let grown : x.holding.history ++ Asked holds.request ∷ [] ≡ c.commit.new.self.history = sym (has_entered x.holding c.commit.new.self holds.request c.commit.ensures holds.waits) in
-    subst (λ (b : Book). IsTrue (g.S.Store.told c.args.store.now) → IsKept b.core b.policy c.commit.new.self.history c.keep.new.self (g.S.Store.logs c.keep.new.store b.journal.log).state) c.self.view_is
-    (λ told. subst (λ (h : List Entry). IsKept x.holding.core x.holding.policy h c.keep.new.self (g.S.Store.logs c.keep.new.store x.journal.log).state) grown
-    (keep_done x.holding.core x.holding.policy x.holding.history x.journal c.keep.new.self (g.S.Store.logs c.args.store.now x.journal.log).state (g.S.Store.logs c.keep.new.store x.journal.log).state holds.request c.args.line.now c.core-rules.ensures.rules.dims (kept told) holds.may holds.is_line (c.keep.ensures.fits told) (c.in-Ok.ensures.ok told)))
+    subst (λ (b : Book). IsTrue (g.S.Store.state c.args.store.now).told → IsKept b.core b.policy c.commit.new.self.history c.keep.new.self ((g.S.Store.state c.keep.new.store).logs b.journal.log).state) c.self.view_is
+    (λ told. subst (λ (h : List Entry). IsKept x.holding.core x.holding.policy h c.keep.new.self ((g.S.Store.state c.keep.new.store).logs x.journal.log).state) grown
+    (keep_done x.holding.core x.holding.policy x.holding.history x.journal c.keep.new.self ((g.S.Store.state c.args.store.now).logs x.journal.log).state ((g.S.Store.state c.keep.new.store).logs x.journal.log).state holds.request c.args.line.now c.core-rules.ensures.rules.dims (kept told) holds.may holds.is_line (c.keep.ensures.fits told) (c.in-Ok.ensures.ok told)))
 
 pub returns-in-Ok-clause-exact : goal.returns-in-Ok-clause-exact
 returns-in-Ok-clause-exact g c =
     let x = c.self.inside in
-    let kept = subst (λ (b : Book). IsTrue (g.S.Store.told c.args.store.now) → IsKept b.core b.policy b.history b.journal (g.S.Store.logs c.args.store.now b.journal.log).state) (sym c.self.view_is) c.requires.kept in
+    let kept = subst (λ (b : Book). IsTrue (g.S.Store.state c.args.store.now).told → IsKept b.core b.policy b.history b.journal ((g.S.Store.state c.args.store.now).logs b.journal.log).state) (sym c.self.view_is) c.requires.kept in
     let holds = subst (λ (b : Book). IsWaiting b c.args.line.now) (sym c.self.view_is) c.requires.waits in
     let grown : x.holding.history ++ Asked holds.request ∷ [] ≡ c.commit.new.self.history = sym (has_entered x.holding c.commit.new.self holds.request c.commit.ensures holds.waits) in
-    subst (λ (b : Book). IsTrue (g.S.Store.told c.args.store.now) → IsExact b.core b.policy c.commit.new.self.history (g.S.Store.logs c.keep.new.store b.journal.log).state) c.self.view_is
-    (λ told. subst (λ (h : List Entry). IsExact x.holding.core x.holding.policy h (g.S.Store.logs c.keep.new.store x.journal.log).state) grown
-    (keep_exact x.holding.core x.holding.policy x.holding.history x.journal (g.S.Store.logs c.args.store.now x.journal.log).state (g.S.Store.logs c.keep.new.store x.journal.log).state holds.request c.args.line.now c.core-rules.ensures.rules.dims (kept told) holds.may holds.is_line (c.in-Ok.ensures.ok told)))
+    subst (λ (b : Book). IsTrue (g.S.Store.state c.args.store.now).told → IsExact b.core b.policy c.commit.new.self.history ((g.S.Store.state c.keep.new.store).logs b.journal.log).state) c.self.view_is
+    (λ told. subst (λ (h : List Entry). IsExact x.holding.core x.holding.policy h ((g.S.Store.state c.keep.new.store).logs x.journal.log).state) grown
+    (keep_exact x.holding.core x.holding.policy x.holding.history x.journal ((g.S.Store.state c.args.store.now).logs x.journal.log).state ((g.S.Store.state c.keep.new.store).logs x.journal.log).state holds.request c.args.line.now c.core-rules.ensures.rules.dims (kept told) holds.may holds.is_line (c.in-Ok.ensures.ok told)))
 
 pub returns-in-Ok-clause-crash : goal.returns-in-Ok-clause-crash
 returns-in-Ok-clause-crash g c =
     let x = c.self.inside in
-    let kept = subst (λ (b : Book). IsTrue (g.S.Store.told c.args.store.now) → IsKept b.core b.policy b.history b.journal (g.S.Store.logs c.args.store.now b.journal.log).state) (sym c.self.view_is) c.requires.kept in
+    let kept = subst (λ (b : Book). IsTrue (g.S.Store.state c.args.store.now).told → IsKept b.core b.policy b.history b.journal ((g.S.Store.state c.args.store.now).logs b.journal.log).state) (sym c.self.view_is) c.requires.kept in
     let holds = subst (λ (b : Book). IsWaiting b c.args.line.now) (sym c.self.view_is) c.requires.waits in
-    subst (λ (b : Book). IsTrue (g.S.Store.told c.args.store.now) → Gained (IsWithin b.core b.policy b.history) (g.S.Store.logs c.args.store.now b.journal.log) (g.S.Store.logs c.keep.new.store b.journal.log)) c.self.view_is
-    (λ told. keep_crash x.holding.core x.holding.policy x.holding.history x.journal (g.S.Store.logs c.args.store.now x.journal.log) (g.S.Store.logs c.keep.new.store x.journal.log) holds.request c.args.line.now c.core-rules.ensures.rules.dims (kept told) holds.may holds.is_line (c.keep.ensures.states told))
+    subst (λ (b : Book). IsTrue (g.S.Store.state c.args.store.now).told → Gained (IsWithin b.core b.policy b.history) ((g.S.Store.state c.args.store.now).logs b.journal.log) ((g.S.Store.state c.keep.new.store).logs b.journal.log)) c.self.view_is
+    (λ told. keep_crash x.holding.core x.holding.policy x.holding.history x.journal ((g.S.Store.state c.args.store.now).logs x.journal.log) ((g.S.Store.state c.keep.new.store).logs x.journal.log) holds.request c.args.line.now c.core-rules.ensures.rules.dims (kept told) holds.may holds.is_line (c.keep.ensures.states told))
 
 pub returns-in-Err-clause-kept : goal.returns-in-Err-clause-kept
 returns-in-Err-clause-kept g c =
     let x = c.self.inside in
-    let kept = subst (λ (b : Book). IsTrue (g.S.Store.told c.args.store.now) → IsKept b.core b.policy b.history b.journal (g.S.Store.logs c.args.store.now b.journal.log).state) (sym c.self.view_is) c.requires.kept in
+    let kept = subst (λ (b : Book). IsTrue (g.S.Store.state c.args.store.now).told → IsKept b.core b.policy b.history b.journal ((g.S.Store.state c.args.store.now).logs b.journal.log).state) (sym c.self.view_is) c.requires.kept in
     let holds = subst (λ (b : Book). IsWaiting b c.args.line.now) (sym c.self.view_is) c.requires.waits in
-    subst (λ (b : Book). IsTrue (g.S.Store.told c.args.store.now) → IsKept b.core b.policy c.let_go.new.self.history c.keep.new.self (g.S.Store.logs c.keep.new.store b.journal.log).state) c.self.view_is
-    (λ told. subst (λ (h : List Entry). IsKept x.holding.core x.holding.policy h c.keep.new.self (g.S.Store.logs c.keep.new.store x.journal.log).state) (sym (ap (λ (b : Holding). b.history) c.let_go.ensures))
-    (keep_failed x.holding.core x.holding.policy x.holding.history x.journal c.keep.new.self (g.S.Store.logs c.args.store.now x.journal.log).state (g.S.Store.logs c.keep.new.store x.journal.log).state holds.request c.args.line.now (kept told) holds.may holds.is_line (c.keep.ensures.fits told) (c.in-Err.ensures.err told)))
+    subst (λ (b : Book). IsTrue (g.S.Store.state c.args.store.now).told → IsKept b.core b.policy c.let_go.new.self.history c.keep.new.self ((g.S.Store.state c.keep.new.store).logs b.journal.log).state) c.self.view_is
+    (λ told. subst (λ (h : List Entry). IsKept x.holding.core x.holding.policy h c.keep.new.self ((g.S.Store.state c.keep.new.store).logs x.journal.log).state) (sym (ap (λ (b : Holding). b.history) c.let_go.ensures))
+    (keep_failed x.holding.core x.holding.policy x.holding.history x.journal c.keep.new.self ((g.S.Store.state c.args.store.now).logs x.journal.log).state ((g.S.Store.state c.keep.new.store).logs x.journal.log).state holds.request c.args.line.now (kept told) holds.may holds.is_line (c.keep.ensures.fits told) (c.in-Err.ensures.err told)))
 
 pub returns-in-Err-clause-crash : goal.returns-in-Err-clause-crash
 returns-in-Err-clause-crash g c =
     let x = c.self.inside in
-    let kept = subst (λ (b : Book). IsTrue (g.S.Store.told c.args.store.now) → IsKept b.core b.policy b.history b.journal (g.S.Store.logs c.args.store.now b.journal.log).state) (sym c.self.view_is) c.requires.kept in
+    let kept = subst (λ (b : Book). IsTrue (g.S.Store.state c.args.store.now).told → IsKept b.core b.policy b.history b.journal ((g.S.Store.state c.args.store.now).logs b.journal.log).state) (sym c.self.view_is) c.requires.kept in
     let holds = subst (λ (b : Book). IsWaiting b c.args.line.now) (sym c.self.view_is) c.requires.waits in
-    subst (λ (b : Book). IsTrue (g.S.Store.told c.args.store.now) → Gained (IsWithin b.core b.policy b.history) (g.S.Store.logs c.args.store.now b.journal.log) (g.S.Store.logs c.keep.new.store b.journal.log)) c.self.view_is
-    (λ told. keep_crash x.holding.core x.holding.policy x.holding.history x.journal (g.S.Store.logs c.args.store.now x.journal.log) (g.S.Store.logs c.keep.new.store x.journal.log) holds.request c.args.line.now c.core-rules.ensures.rules.dims (kept told) holds.may holds.is_line (c.keep.ensures.states told))
+    subst (λ (b : Book). IsTrue (g.S.Store.state c.args.store.now).told → Gained (IsWithin b.core b.policy b.history) ((g.S.Store.state c.args.store.now).logs b.journal.log) ((g.S.Store.state c.keep.new.store).logs b.journal.log)) c.self.view_is
+    (λ told. keep_crash x.holding.core x.holding.policy x.holding.history x.journal ((g.S.Store.state c.args.store.now).logs x.journal.log) ((g.S.Store.state c.keep.new.store).logs x.journal.log) holds.request c.args.line.now c.core-rules.ensures.rules.dims (kept told) holds.may holds.is_line (c.keep.ensures.states told))

@@ -22,8 +22,8 @@ returns-clause-two_worlds g c =
     let ask = c.args.ask.now in
     let told = s.result.0 in
     let o = s.result.1 in
-    let before = g.S.Store.faults c.args.store.now in
-    let now = g.S.Store.faults s.new.store in
+    let before = (g.S.Store.state c.args.store.now).faults in
+    let now = (g.S.Store.state s.new.store).faults in
     let same = c.prepare-prepared.ensures.same in
     let core : s.new.book.core ≡ x.book.core = s.ensures.core ∙ ap (λ (b : Book). b.core) same in
     let policy : s.new.book.policy ≡ x.book.policy = s.ensures.policy ∙ ap (λ (b : Book). b.policy) same in
@@ -38,7 +38,7 @@ pub returns-clause-within : goal.returns-clause-within
 returns-clause-within g c = λ told.
     let s = c.settle-reply in
     let b = c.prepare-prepared.new.book in
-    let logs = g.S.Store.logs s.new.store in
+    let logs = (g.S.Store.state s.new.store).logs in
     let dims = subst (λ (k : Core). IsDims k.dims) s.ensures.core c.core-rules.ensures.rules.core.dims in
     let within = kept_within b.core b.policy s.new.book.history s.new.book.journal (logs b.journal.log).state dims (s.ensures.kept told) in
     subst (λ (e : Engine). IsWithin e.core e.policy s.new.book.history (logs e.journal.log).state) c.self.view_is

@@ -16,4 +16,4 @@ invariant_of-result c =
     let all = c.in-Some-checked_add.ensures in
     let room = c.in-Some-checked_add-2.ensures in
     let addresses = c.in_ok-with_room-2.ensures in
-    (ready_start _ (map played c.in_ok-plays.plays.items) _ _ _ (rw (c.in_ok-push.ensures.items, map-append) refl) each made.0 (omega (arith, made.1, all.1, entries)) (omega (arith, made.2, room.1, pieces)) (omega (arith, made.1, all.0, all.1)), listening_start c.in_ok-with_room-2.field-0 addresses.0 addresses.1 addresses.2)
+    (ready_start _ (map played c.in_ok-plays.plays.items) _ _ (rw (c.in_ok-push.ensures.items, map-append) refl) each made.0 (omega (arith, made.1, all.1, entries)) (omega (arith, made.2, room.1, pieces)) (omega (arith, made.1, all.0, all.1)), listening_start c.in_ok-with_room-2.field-0 addresses.0 addresses.1 addresses.2)

@@ -7,18 +7,18 @@ use Rattle.cube_script.proofs.script_wire.ScriptWireWire.send.Goals as goal
 pub add-requires-clause-entry : goal.add-requires-clause-entry
 add-requires-clause-entry c =
     let sound = subst (λ (w : Playing). IsSound c.args.c w.log) (sym c.self.view_is) c.requires in
-    (torn_room _ _ _ _ _ _ _ _ _ _ _ _ c.args.c c.self.invariant.0 sound).1
+    (torn_room _ _ c.args.c c.self.invariant.0 sound).1
 
 pub overflow_sub-self : goal.overflow_sub-self
 overflow_sub-self c =
     let sound = subst (λ (w : Playing). IsSound c.args.c w.log) (sym c.self.view_is) c.requires in
-    (torn_room _ _ _ _ _ _ _ _ _ _ _ _ c.args.c c.self.invariant.0 sound).0
+    (torn_room _ _ c.args.c c.self.invariant.0 sound).0
 
 pub invariant_of-self : goal.invariant_of-self
 invariant_of-self c =
     let sound = subst (λ (w : Playing). IsSound c.args.c w.log) (sym c.self.view_is) c.requires in
-    (ready_torn _ _ _ _ _ _ _ _ _ _ _ _ c.args.c _ c.add.new.self c.self.invariant.0 sound (omega (arith, c.saturating_add-self-inside.ensures)) c.add.ensures.log c.add.ensures.entries c.add.ensures.bytes, c.self.invariant.1)
+    (ready_torn _ _ c.args.c _ c.add.new.self c.self.invariant.0 sound (omega (arith, c.saturating_add-self-inside.ensures)) c.add.ensures.log c.add.ensures.entries c.add.ensures.bytes, c.self.invariant.1)
 
 pub invariant_of-self-2 : goal.invariant_of-self-2
 invariant_of-self-2 c =
-    (ready_sent _ _ _ _ _ _ _ _ _ _ _ _ c.args.c c.args.piece.now c.add-2.new.self c.self.invariant.0 (omega (arith, c.if-self-eq0.false)) c.if-self-piece.false c.add-2.ensures.log c.add-2.ensures.entries c.add-2.ensures.bytes, c.self.invariant.1)
+    (ready_sent _ _ c.args.c c.args.piece.now c.add-2.new.self c.self.invariant.0 (omega (arith, c.if-self-eq0.false)) c.if-self-piece.false c.add-2.ensures.log c.add-2.ensures.entries c.add-2.ensures.bytes, c.self.invariant.1)

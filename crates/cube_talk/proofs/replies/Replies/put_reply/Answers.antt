@@ -9,7 +9,7 @@ returns-in_err-put-clause-err g c =
     let head = c.write_head-end.ensures.written in
     let body = c.body_of-body.ensures in
     let status = c.status_of.ensures in
-    let x : AppendsPrefix (g.O.Sink.written c.args.out.now) (g.O.Sink.written c.put.new.out) (c.args.self.now ++ reply_text c.args.reply.now) =
+    let x : AppendsPrefix (g.O.Sink.state c.args.out.now).written (g.O.Sink.state c.put.new.out).written (c.args.self.now ++ reply_text c.args.reply.now) =
     broken_early (head_text _ _) _ c.args.self.now _ _ (rw (head, status, body) at c.in_err-put.ensures.err) in
     search rules
 
@@ -18,7 +18,7 @@ returns-in_err-put-2-clause-err g c =
     let head = c.write_head-end.ensures.written in
     let body = c.body_of-body.ensures in
     let status = c.status_of.ensures in
-    let x : AppendsPrefix (g.O.Sink.written c.args.out.now) (g.O.Sink.written c.put-2.new.out) (c.args.self.now ++ reply_text c.args.reply.now) =
+    let x : AppendsPrefix (g.O.Sink.state c.args.out.now).written (g.O.Sink.state c.put-2.new.out).written (c.args.self.now ++ reply_text c.args.reply.now) =
     spoke_broken (head_text _ _) _ c.args.self.now c.put.new.self _ _ _ (rw (head, status, body) at c.in_ok-put.ensures.ok) (rw body at c.in_err-put-2.ensures.err) in
     search rules
 

@@ -1,5 +1,0 @@
-use Rattle.std.proofs.Common.{IsTrue}
-use Rattle.cube_engine.proofs.tests.check_cases.Given as goal
-
-abbrev pub invariant-cases : goal.invariant-cases
-invariant-cases g l = IsTrue l.store.attached
