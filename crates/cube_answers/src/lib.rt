@@ -5,8 +5,6 @@ mod answers;
 mod numbers;
 mod refusals;
 mod sums;
-#[cfg(test)]
-mod tests;
 mod worked;
 
 pub use answers::answer_text;

@@ -6,4 +6,3 @@ pub mod Nodes
 pub mod Searches
 pub mod Signs
 pub mod Starts
-pub mod Worked

@@ -8,7 +8,5 @@
 mod colouring;
 mod forest;
 mod step;
-#[cfg(test)]
-mod tests;
 
 pub use colouring::{Added, Colouring};

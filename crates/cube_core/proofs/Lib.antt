@@ -6,7 +6,6 @@ pub mod Fitting
 pub mod Keys
 pub mod Ranking
 pub mod Totals
-pub mod Worked
 pub mod Orders
 pub mod Candidates
 pub mod Sizes

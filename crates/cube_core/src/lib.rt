@@ -9,8 +9,6 @@ mod ranks;
 mod rows;
 mod steps;
 mod sums;
-#[cfg(test)]
-mod tests;
 
 pub use core_cube::Core;
 pub use rows::rows_of;

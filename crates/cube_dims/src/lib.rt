@@ -9,8 +9,6 @@ mod names;
 mod paths;
 mod read;
 mod table;
-#[cfg(test)]
-mod tests;
 mod worked;
 
 pub use fault::{DimsFault, fault_text};

@@ -8,7 +8,5 @@ mod facts;
 mod made;
 mod queries;
 mod tables;
-#[cfg(test)]
-mod tests;
 
 pub use made::{Made, make};

@@ -9,8 +9,6 @@ mod head;
 pub mod laws;
 mod responses;
 mod targets;
-#[cfg(test)]
-mod tests;
 
 pub use connection::{
     BodyConn, Conn, DeadConn, DoneConn, Fed, HeadConn, Heard, MAX_BODY, MAX_HEAD,

@@ -8,8 +8,6 @@ mod below;
 mod grains;
 mod number;
 mod order;
-#[cfg(test)]
-mod tests;
 
 pub use below::{cuboids, cuboids_below};
 pub use grains::grain;

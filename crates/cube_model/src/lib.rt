@@ -25,8 +25,6 @@ mod policy;
 mod reply;
 mod request;
 mod shape;
-#[cfg(test)]
-mod tests;
 mod verdict;
 
 pub use answer::{Answer, AnswerRow, Row, Rows};

@@ -9,8 +9,6 @@ mod measure;
 mod object;
 mod read;
 mod slice;
-#[cfg(test)]
-mod tests;
 mod worked;
 
 pub use fault::{PolicyFault, fault_text};

@@ -12,8 +12,6 @@ mod fault;
 mod query;
 mod reader;
 mod resolving;
-#[cfg(test)]
-mod tests;
 
 pub use canonical::{all_one, groups, print, push_level, push_levels, push_member};
 pub use fault::{RequestFault, read_request};

@@ -9,8 +9,6 @@ mod answering;
 mod building;
 mod cuboid;
 mod rollups;
-#[cfg(test)]
-mod tests;
 
 pub use cuboid::Cuboid;
 pub use rollups::Rollups;

@@ -13,8 +13,6 @@ mod pair;
 mod places;
 mod protecting;
 mod table;
-#[cfg(test)]
-mod tests;
 
 pub use counting::count_protected;
 pub use judging::{Judged, judge};

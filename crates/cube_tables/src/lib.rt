@@ -6,8 +6,6 @@ mod fault;
 mod keys;
 mod members;
 mod table;
-#[cfg(test)]
-mod tests;
 mod values;
 
 pub use fault::TableFault;

@@ -5,7 +5,6 @@ pub mod Adding
 pub mod Files
 pub mod Twinning
 pub mod Spreads
-pub mod Asked
 pub mod Sharing
 pub mod Columns
 pub mod Written

@@ -7,8 +7,6 @@ mod grounds;
 mod laws;
 mod leaves;
 mod shares;
-#[cfg(test)]
-mod tests;
 mod texts;
 mod twin;
 mod worked;

@@ -1,4 +1,0 @@
-use Rattle.cube_answers.proofs.tests.check.Given as goal
-
-abbrev pub ghosts-said : goal.ghosts-said
-ghosts-said g a = record { name = a.blank.name; parts = a.blank.parts }

@@ -1,8 +1,0 @@
-use Rattle.std.proofs.Common.{◌≡◌}
-use Rattle.cube_colour.proofs.tests.a_pair_that_follows_is_not_kept.Given as goal
-
-abbrev pub invariant-pairs : goal.invariant-pairs
-invariant-pairs g l = l.colouring.places ≡ 65536
-
-abbrev pub invariant-turns : goal.invariant-turns
-invariant-turns g l = l.colouring.places ≡ 65536

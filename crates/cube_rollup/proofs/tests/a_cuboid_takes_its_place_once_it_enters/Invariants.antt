@@ -1,4 +1,0 @@
-use Rattle.cube_rollup.proofs.tests.a_cuboid_takes_its_place_once_it_enters.Given as goal
-
-abbrev pub ghosts-told_in_turn : goal.ghosts-told_in_turn
-ghosts-told_in_turn g a = record { name = a.blank.name; parts = a.blank.parts }

@@ -1,0 +1,16 @@
+//! Trials of cubes that are asked: engines over logs and stores that fail, what is recovered from logs, and the demonstration of a made
+//! cube.
+//!
+//! There is nothing here but tests, each of something that no clause of the crates below says, and what they share.
+#![tactic(auto)]
+
+#[cfg(test)]
+mod demos;
+#[cfg(test)]
+mod engines;
+#[cfg(test)]
+mod images;
+#[cfg(test)]
+mod journals;
+#[cfg(test)]
+mod makers;

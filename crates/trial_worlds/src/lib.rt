@@ -1,0 +1,10 @@
+//! Trials of what lies outside the program: stores in memory whose calls fail, and the streams, files and connections of the
+//! machine.
+//!
+//! There is nothing here but tests, each of something that no clause of the crates below says.
+#![tactic(auto)]
+
+#[cfg(test)]
+mod machine;
+#[cfg(test)]
+mod memory;
