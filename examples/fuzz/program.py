@@ -1,0 +1,87 @@
+"""Runs the program, holds every run to what is documented of all runs, and reads what it wrote."""
+
+import os
+import re
+import subprocess
+from dataclasses import dataclass
+
+HERE = os.path.dirname(os.path.abspath(__file__))
+CUBE = os.environ.get("CUBE", os.path.join(HERE, "..", "..", "cube"))
+SECONDS = 60
+
+# the text on standard error behind each exit status
+ENDINGS = {
+    0: rb"",
+    2: rb"usage: .*\n",
+    3: rb"(dims|facts|policy|cell): .+\n|script: line \d+\n|made: unread\n",
+    4: rb"journal: (line \d+ (damaged|inadmissible)|digest [0-9a-f]{64} is not [0-9a-f]{64}|too long)\n",
+    5: rb"cannot read .+\n|input failed\n",
+    9: rb"(.+: .+\n)*store failed\n",
+    10: rb"spent: (room for sends, )?\d+ requests, \d+ (bytes|events)\n",
+}
+
+PLACES = rb"\(.*\)"
+SYNTAX = rb"(syntax|(unknown (measure|dimension|level|member)|dimension twice|backwards)) at byte \d+\n"
+
+# the body behind each status of a reply; an answer is held to plain addition
+BODIES = {
+    200: rb".*",
+    400: SYNTAX + rb"|not a cell of a measure\n",
+    403: rb"source: the cuboid " + PLACES + rb" does not cut the cell " + PLACES + rb"\n"
+    rb"|single: link \d+, " + PLACES + rb", fixes the cell " + PLACES + rb"\n"
+    rb"|pair: link \d+, " + PLACES + rb" and " + PLACES + rb", fixes the cell " + PLACES + rb"\n",
+    404: SYNTAX + rb"|empty cell\n|not protected\n",
+    413: rb"too large\n",
+}
+
+
+class Failure(Exception):
+    """What a check found."""
+
+
+def demand(holds, what):
+    if not holds:
+        raise Failure(what)
+
+
+@dataclass
+class Result:
+    status: int
+    out: bytes
+    err: bytes
+
+
+def run(words, given=b""):
+    """Runs the program to its end; a run that a signal ends, or that ends in no documented way, is a failure."""
+    try:
+        done = subprocess.run([CUBE, *words], input=given, capture_output=True, timeout=SECONDS)
+    except subprocess.TimeoutExpired:
+        raise Failure(f"no end within {SECONDS} seconds: {words}") from None
+    status, text = done.returncode, done.stderr
+    demand(status >= 0, f"ended by signal {-status}: {words}: {text}")
+    demand(status in ENDINGS, f"ended with status {status}: {words}: {text}")
+    demand(re.fullmatch(ENDINGS[status], text, re.DOTALL), f"status {status} with the text {text}: {words}")
+    return Result(status, done.stdout, text)
+
+
+def expect(status, words, given=b""):
+    result = run(words, given)
+    demand(result.status == status, f"status {result.status} and not {status}: {words}: {result.err}")
+    return result.out
+
+
+def read_replies(out):
+    """The replies of `ask`: a status and a body each."""
+    replies, at = [], 0
+    while at < len(out):
+        end = out.index(b"\n", at)
+        status, length = out[at:end].split(b" ")
+        at = end + 1 + int(length)
+        replies.append((int(status), out[end + 1:at]))
+    demand(at == len(out), "the last reply is cut off")
+    return replies
+
+
+def see_reply(status, body):
+    demand(status in BODIES, f"a reply with status {status}: {body}")
+    demand(re.fullmatch(BODIES[status], body, re.DOTALL), f"a reply with status {status} and the body {body}")
