@@ -125,7 +125,7 @@ def cell_request(rng, cube, measure):
     if objects:
         one = rng.choice(objects)
         points = [point for point in points if one.has(cube, point)]
-        below = [rng.randint(0, level) if level is not None else finer(rng, dimension) for dimension, level in zip(cube.dimensions, one.below)]
+        below = [finer(rng, dimension, level) for dimension, level in zip(cube.dimensions, one.below)]
     elif measure.method == "parity":
         below = [0] * len(cube.dimensions)
     else:
@@ -140,8 +140,9 @@ def cell_request(rng, cube, measure):
     return Request(measure, [None] * len(cube.dimensions), picks)
 
 
-def finer(rng, dimension):
-    return rng.choice([None, *range(len(dimension.levels))])
+def finer(rng, dimension, level):
+    """A level that is finer than or equal to one."""
+    return rng.choice([None, *range(len(dimension.levels))]) if level is None else rng.randint(0, level)
 
 
 def protected_cell(rng, cube):

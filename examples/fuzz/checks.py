@@ -7,7 +7,7 @@ import os
 import asks
 import cubes
 import streams
-from program import demand, expect, read_replies, run, see_reply
+from program import demand, expect, read_replies, run, see_reply, served
 
 HEAD = b"cube-journal 1 "
 
@@ -93,8 +93,7 @@ def a_damaged_file_is_named(play):
 
 
 def wrong_words_are_usage(play):
-    pool = ["ask", "check", "sum", "witness", "--dims", "--facts", "--journal", "--number", "--size", "1", "x", "", "é"]
-    words = [play.rng.choice(pool) for _ in range(play.rng.randint(0, 4))]
+    words = play.rng.choices("ask check sum witness --dims --facts --journal --number --size 1 é".split() + [""], k=3)
     words.insert(play.rng.randint(0, len(words)), "--nothing")
     demand(run(words).status == 2, f"no status 2 for {words}")
 
@@ -174,22 +173,46 @@ def changes_of(play, text):
     return {point: values[0] for point, values in facts}
 
 
-def changes_hide_a_cell(play):
-    cell = asks.protected_cell(play.rng, play.cube)
-    if not cell:
-        return
-    text = asks.query_text(play.cube, cell)
-    shown = expect(0, play.words("witness", "journal", "--cell", text))
-    changes = changes_of(play, shown)
+def changes_hide_each_cell(play):
+    """Each protected cell that is drawn has changes that add to 1 in it, and to 0 in each row that was answered."""
+    cells = [asks.protected_cell(play.rng, play.cube) for _ in range(20)]
+    cells = [cell for cell in cells if cell]
+    given = b"".join(b"witness " + asks.query_text(play.cube, cell).encode() + b"\n" for cell in cells)
+    for cell, (status, shown) in zip(cells, read_replies(play.ask("journal", given)), strict=True):
+        text = asks.query_text(play.cube, cell)
+        demand(status == 200, f"no changes for {text}: {status} {shown}")
+        see_changes(play, cell, text, changes_of(play, shown))
+        play.seen["changes added up"] += 1
+
+
+def see_changes(play, cell, text, changes):
     demand(set(changes) <= set(play.cube.points()), f"{text}: a change where there is no point")
     demand(sum(asks.rows(play.cube, cell, changes).values()) == 1, f"{text}: the changes do not add to 1 in the cell")
     for request, _ in play.answered():
         if request.what is cell.what:
             left = [total for total in asks.rows(play.cube, request, changes).values() if total]
             demand(not left, f"{text}: {asks.query_text(play.cube, request)} tells the changes")
-    asked = read_replies(play.ask("journal", b"witness " + text.encode() + b"\n"))
-    demand(asked == [(200, shown)], f"{text}: `ask` tells other changes than `witness`")
-    play.seen["changes added up"] += 1
+
+
+def the_changes_are_those_of_a_line(play):
+    drawn = asks.protected_cell(play.rng, play.cube) or asks.make_request(play.rng, play.cube)
+    cell = asks.query_text(play.cube, drawn)
+    [(status, body)] = read_replies(play.ask("journal", b"witness " + cell.encode() + b"\n"))
+    result = run(play.words("witness", "journal", "--cell", cell))
+    wanted = (0, body, b"") if status == 200 else (3, b"", b"cell: " + body)
+    demand((result.status, result.out, result.err) == wanted, f"{cell}: `ask` tells {body}, `witness` {result}")
+
+
+def refusals_name_protected_cells(play):
+    """No name has a parenthesis, so the cell is what stands in the last ones."""
+    pairs = [(line, body) for line, (status, body) in zip(play.lines, play.replies) if line.request and status == 403]
+    cells = [body[body.rindex(b"(") + 1:body.rindex(b")")] for _, body in pairs]
+    given = b"".join(
+        b"witness cell " + asks.quoted(line.request.what.name).encode() + b" " + cell * (cell != b"all") + b"\n"
+        for (line, _), cell in zip(pairs, cells)
+    )
+    for (line, body), (status, said) in zip(pairs, read_replies(play.ask("journal", given)), strict=True):
+        demand(status == 200, f"{line.text}: {body}, but the cell is no protected one: {said}")
 
 
 def the_twin_is_told_the_same(play):
@@ -327,6 +350,18 @@ def cuts_of_a_stream_change_nothing(play):
     demand(told[0] == told[1], f"cut in another way, another log: {stream}")
 
 
+def a_server_sends_what_a_script_gets(play):
+    """A stream over a socket; where the server closes first, what it sent last may be lost on the way."""
+    stream = b"".join(ask.request for group in connections_of(play)[:1] for ask in group)
+    if play.rng.random() < 0.3:
+        stream = asks.mutated(play.rng, stream)
+    wanted = streams.read_log(replayed(play, streams.script_of(play.rng, stream), "heard")).get(0, b"")
+    with served(play.words("serve", "served", "--address", "127.0.0.1:0")) as address:
+        got, whole = streams.exchange(address, streams.pieces(play.rng, stream))
+    demand(got == wanted if whole else wanted.startswith(got), f"{got} over a socket, {wanted} to a script: {stream}")
+    demand(play.read("served") == play.read("heard"), f"another journal over a socket: {stream}")
+
+
 def a_damaged_script_is_named(play):
     script, _ = streams.mixed_script(play.rng, connections_of(play))
     play.write("script", asks.mutated(play.rng, script, b" \n0123456789abcdefg opencloseata"))
@@ -364,13 +399,16 @@ CHECKS = [
     a_second_run_says_the_same,
     a_restart_in_the_middle_says_the_same,
     no_more_asks_than_stated,
-    changes_hide_a_cell,
+    changes_hide_each_cell,
+    the_changes_are_those_of_a_line,
+    refusals_name_protected_cells,
     the_twin_is_told_the_same,
     a_restart_answers_what_was_answered,
     a_cut_journal_recovers_its_front,
     a_damaged_journal_is_refused_or_read,
     http_says_what_ask_says,
     cuts_of_a_stream_change_nothing,
+    a_server_sends_what_a_script_gets,
     a_damaged_script_is_named,
     flat_sums_are_plain,
 ]

@@ -135,7 +135,8 @@ def make_facts(rng, dimensions, measures):
         every = [(*point, leaf) for point in every for leaf in range(len(one.paths))]
     density = rng.choice((0.2, 0.5, 0.9, 1))
     points = [point for point in every if rng.random() < density][:40]
-    facts = [(point, [make_value(rng) for _ in measures]) for point in points for _ in range(rng.choice((1, 1, 1, 2, 3)))]
+    repeated = [point for point in points for _ in range(rng.choice((1, 1, 1, 2, 3)))]
+    facts = [(point, [make_value(rng) for _ in measures]) for point in repeated]
     rng.shuffle(facts)
     return facts
 
@@ -213,7 +214,8 @@ def facts_file(rng, cube):
     order = rng.sample(range(len(columns)), len(columns))
     extra = ["note, of no use"] * (rng.random() < 0.3)
     out = io.StringIO()
-    writer = csv.writer(out, lineterminator=rng.choice(("\n", "\r\n")), quoting=rng.choice((csv.QUOTE_MINIMAL, csv.QUOTE_ALL)))
+    quoting = rng.choice((csv.QUOTE_MINIMAL, csv.QUOTE_ALL))
+    writer = csv.writer(out, lineterminator=rng.choice(("\n", "\r\n")), quoting=quoting)
     writer.writerow([columns[at].column for at in order] + extra)
     for point, values in cube.facts:
         fields = [one.paths[leaf][0] for one, leaf in zip(cube.dimensions, point)]

@@ -1,5 +1,6 @@
 """Runs the program, holds every run to what is documented of all runs, and reads what it wrote."""
 
+import contextlib
 import os
 import re
 import subprocess
@@ -68,6 +69,20 @@ def expect(status, words, given=b""):
     result = run(words, given)
     demand(result.status == status, f"status {result.status} and not {status}: {words}: {result.err}")
     return result.out
+
+
+@contextlib.contextmanager
+def served(words):
+    """A server, for as long as it is asked; its address."""
+    with subprocess.Popen([CUBE, *words], stdin=subprocess.DEVNULL, stderr=subprocess.PIPE) as server:
+        try:
+            line = server.stderr.readline()
+            demand(line.startswith(b"listening on "), f"no server: {words}: {line}")
+            host, port = line.split(b" ")[2].split(b":")
+            yield host.decode(), int(port)
+            demand(server.poll() is None, f"the server ended: {words}: {server.returncode}")
+        finally:
+            server.kill()
 
 
 def read_replies(out):

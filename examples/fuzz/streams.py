@@ -1,5 +1,6 @@
 """Streams of HTTP requests at random, scripts that play them, and what was sent to them."""
 
+import socket
 from dataclasses import dataclass
 from urllib.parse import quote_plus
 
@@ -102,6 +103,21 @@ def read_log(text):
             sent[number] = sent.get(number, b"") + text[at:at + size]
             at += size + 1
     return sent
+
+
+def exchange(address, stream):
+    """What comes back over a socket, and whether it came to its end."""
+    got = b""
+    with socket.create_connection(address, timeout=60) as connection:
+        try:
+            for piece in stream:
+                connection.sendall(piece)
+            connection.shutdown(socket.SHUT_WR)
+            while piece := connection.recv(65_536):
+                got += piece
+        except (ConnectionResetError, BrokenPipeError):
+            return got, False
+    return got, True
 
 
 def take_response(stream, has_body):

@@ -214,6 +214,12 @@ async function post(path, text) {
   return { status: reply.status, text: await reply.text() };
 }
 
+async function askShape() {
+  const reply = await fetch("/v1/shape");
+  if (!reply.ok) throw new Error(`status ${reply.status}`);
+  return reply.json();
+}
+
 const fault = (status, text) =>
   element("div", "refusal", element("h2", "", "No answer"), element("p", "said", `${status} ${text}`));
 
@@ -232,7 +238,7 @@ function about() {
 }
 
 async function begin() {
-  shape = await (await fetch("/v1/shape")).json();
+  shape = await askShape();
   const words = new URLSearchParams(location.search);
   show("about", about());
   fill(menus.elements.what, shape.measures.map(({ name }) => name), "facts");
@@ -244,13 +250,15 @@ async function begin() {
     ask().catch(unreached);
   };
   settle();
+  menus.hidden = false;
   preset(words);
   if (words.has("ask")) await ask();
   if (words.has("hide")) document.getElementById("hide")?.click();
 }
 
 function unreached(error) {
-  show("reply", fault("", `The server was not reached: ${error.message}`));
+  if (!shape) show("about", "Nothing is known of the cube.");
+  show("reply", fault("", `the server was not reached: ${error.message}`));
 }
 
 begin().catch(unreached);
