@@ -52,6 +52,11 @@ class Result:
     err: bytes
 
 
+def build():
+    """Has the program built where it is not, in whatever time that takes."""
+    subprocess.run([CUBE, "--version"], stdout=subprocess.DEVNULL, check=True)
+
+
 def run(words, given=b""):
     """Runs the program to its end; a run that a signal ends, or that ends in no documented way, is a failure."""
     try:

@@ -18,7 +18,7 @@ import time
 import traceback
 
 from checks import CHECKS, Play
-from program import Failure
+from program import Failure, build
 
 
 def attempt(found, name, act):
@@ -51,6 +51,7 @@ def report(seed, number, folder, found):
 
 
 def main(words):
+    build()
     seed = words[0] if words else str(int(time.time()))
     end = time.monotonic() + (float(words[1]) if len(words) > 1 else 60)
     only = int(words[2]) if len(words) > 2 else None

@@ -244,7 +244,11 @@ async function begin() {
   fill(menus.elements.what, shape.measures.map(({ name }) => name), "facts");
   menus.elements.what.value = shape.measures[0].name;
   show("dimensions", ...shape.dimensions.map(dimensionRow));
-  menus.onchange = settle;
+  menus.onchange = () => {
+    show("reply");
+    show("changes");
+    settle();
+  };
   menus.onsubmit = event => {
     event.preventDefault();
     ask().catch(unreached);
