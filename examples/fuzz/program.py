@@ -54,7 +54,7 @@ class Result:
 
 def build():
     """Has the program built where it is not, in whatever time that takes."""
-    subprocess.run([CUBE, "--version"], stdout=subprocess.DEVNULL, check=True)
+    subprocess.run([CUBE, "--version"], stdin=subprocess.DEVNULL, stdout=subprocess.DEVNULL, check=True)
 
 
 def run(words, given=b""):

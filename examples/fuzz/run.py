@@ -9,7 +9,7 @@ in a folder that is kept. CUBE names the program. The end is 0 where nothing was
 """
 
 import collections
-import os
+import itertools
 import random
 import shutil
 import sys
@@ -50,25 +50,32 @@ def report(seed, number, folder, found):
     sys.stdout.flush()
 
 
+def rounds(seconds, only):
+    """The numbers of the rounds that are played."""
+    end = time.monotonic() + seconds
+    for number in [only] if only is not None else itertools.count():
+        yield number
+        if time.monotonic() >= end:
+            break
+
+
 def main(words):
-    build()
     seed = words[0] if words else str(int(time.time()))
-    end = time.monotonic() + (float(words[1]) if len(words) > 1 else 60)
+    seconds = float(words[1]) if len(words) > 1 else 60
     only = int(words[2]) if len(words) > 2 else None
+    build()
     print(f"seed {seed}", flush=True)
-    number, failed, seen = only or 0, 0, collections.Counter()
-    while True:
+    played, failed, seen = 0, 0, collections.Counter()
+    for number in rounds(seconds, only):
         folder = tempfile.mkdtemp(prefix="cube-fuzz-")
         found = play_round(seed, number, folder, seen)
-        if found:
-            failed += 1
+        played += 1
+        failed += bool(found)
+        if found or only is not None:
             report(seed, number, folder, found)
-        elif only is None:
+        else:
             shutil.rmtree(folder)
-        number += 1
-        if only is not None or time.monotonic() >= end:
-            break
-    print(f"rounds {1 if only is not None else number}, failed {failed}")
+    print(f"rounds {played}, failed {failed}")
     for name, count in sorted(seen.items()):
         print(f"  {name} {count}")
     return 1 if failed else 0
