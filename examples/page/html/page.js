@@ -80,6 +80,7 @@ function chosen() {
 const decimalsOf = name => shape.measures.find(measure => measure.name === name)?.decimals ?? 0;
 
 // Presets the menus from the address, in which each has its name: ?form=slice&what=pay&group.region=area
+// It asks nothing: who follows a link has not asked yet.
 function preset(words) {
   for (const kind of ["what", "form", "group", "level", "from", "to"]) {
     for (const [name, value] of words) {
@@ -91,19 +92,16 @@ function preset(words) {
 
 // ---- the answer
 
-// Where the bar of a number begins and how long it is, in hundredths of the width, between the least and the most.
-function barOf(number, numbers) {
+// Makes the bar of each of these numbers, on one scale from the least to the most, with 0 on it.
+function barsOf(numbers) {
   const least = Math.min(0, ...numbers);
   const width = Math.max(0, ...numbers) - least || 1;
-  return { left: 100 * (Math.min(0, number) - least) / width, length: 100 * Math.abs(number) / width };
-}
-
-function bar(number, numbers) {
-  const { left, length } = barOf(number, numbers);
-  const made = element("span", number < 0 ? "bar below" : "bar");
-  made.style.marginLeft = `${left}%`;
-  made.style.width = `${length}%`;
-  return made;
+  return number => {
+    const made = element("span", number < 0 ? "bar below" : "bar");
+    made.style.marginLeft = `${100 * (Math.min(0, number) - least) / width}%`;
+    made.style.width = `${100 * Math.abs(number) / width}%`;
+    return made;
+  };
 }
 
 const table = (className, titles, lines) =>
@@ -114,12 +112,12 @@ const titlesOf = head => head.map((name, at) => element("th", at === head.length
 
 // A table with a bar behind each sum.
 function listed(head, rows) {
-  const numbers = rows.map(row => Number(row.at(-1)));
-  const lines = rows.map((row, at) => element(
+  const bar = barsOf(rows.map(row => Number(row.at(-1))));
+  const lines = rows.map(row => element(
     "tr", "",
     ...row.slice(0, -1).map(name => element("th", "", name)),
     element("td", "number", spaced(row.at(-1))),
-    element("td", "bars", bar(numbers[at], numbers)),
+    element("td", "bars", bar(Number(row.at(-1)))),
   ));
   return table("list", [...titlesOf(head), element("th")], lines);
 }
@@ -134,12 +132,12 @@ function axesOf(choice, head, rows) {
 
 // Sums of two groupings: the longer one down, the other across.
 function gridded(down, across, rows) {
-  const numbers = rows.map(row => Number(row[2]));
+  const bar = barsOf(rows.map(row => Number(row[2])));
   const lines = Map.groupBy(rows, row => row[down.at]);
   const cellOf = (line, name) => {
     const row = line.find(it => it[across.at] === name);
     if (!row) return element("td", "number none", "\u00b7");
-    return element("td", "number", spaced(row[2]), bar(Number(row[2]), numbers));
+    return element("td", "number", spaced(row[2]), bar(Number(row[2])));
   };
   const body = down.members.map(name => element(
     "tr", "",
@@ -239,7 +237,6 @@ function about() {
 
 async function begin() {
   shape = await askShape();
-  const words = new URLSearchParams(location.search);
   show("about", about());
   fill(menus.elements.what, shape.measures.map(({ name }) => name), "facts");
   menus.elements.what.value = shape.measures[0].name;
@@ -255,9 +252,7 @@ async function begin() {
   };
   settle();
   menus.hidden = false;
-  preset(words);
-  if (words.has("ask")) await ask();
-  if (words.has("hide")) document.getElementById("hide")?.click();
+  preset(new URLSearchParams(location.search));
 }
 
 function unreached(error) {
