@@ -4,6 +4,7 @@ import contextlib
 import os
 import re
 import subprocess
+import threading
 from dataclasses import dataclass
 
 HERE = os.path.dirname(os.path.abspath(__file__))
@@ -80,6 +81,8 @@ def expect(status, words, given=b""):
 def served(words):
     """A server, for as long as it is asked; its address."""
     with subprocess.Popen([CUBE, *words], stdin=subprocess.DEVNULL, stderr=subprocess.PIPE) as server:
+        bound = threading.Timer(SECONDS, server.kill)
+        bound.start()
         try:
             line = server.stderr.readline()
             demand(line.startswith(b"listening on "), f"no server: {words}: {line}")
@@ -87,6 +90,7 @@ def served(words):
             yield host.decode(), int(port)
             demand(server.poll() is None, f"the server ended: {words}: {server.returncode}")
         finally:
+            bound.cancel()
             server.kill()
 
 
