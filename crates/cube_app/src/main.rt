@@ -8,7 +8,7 @@ mod summary;
 #[cfg(test)]
 mod tests;
 
-use cube_edge::{FileFolder, FileStore, ReaderSource, TcpWire, WriterSink, hold_streams};
+use cube_edge::{FileFolder, FileStore, ReaderSource, SocketWire, TcpSockets, WriterSink, hold_streams};
 use cube_model::{Items, Text, Texts};
 use run::run;
 use std::env::{Env, FillError};
@@ -18,6 +18,9 @@ use std::process::ExitCode;
 
 // A word of a command line has fewer bytes than this.
 const MAX_WORD: usize = 131_072;
+
+// For so many seconds a connection may be still.
+const IDLE: u32 = 60;
 
 // The words behind the program's name, of any bytes.
 fn words_of(rt: &HostRuntime) -> Option<Texts> {
@@ -49,7 +52,12 @@ fn main(rt: HostRuntime) -> ExitCode {
     };
     let mut input = ReaderSource::new(rt.reader());
     let mut out = WriterSink::new(io::writer(&rt));
-    let mut wire = TcpWire::new(&rt, rt.stderr());
+    let Ok(sockets) = TcpSockets::new(rt.alloc(), &rt, rt.stderr()) else {
+        return ExitCode::from(7);
+    };
+    let Ok(mut wire) = SocketWire::new(rt.alloc(), sockets, IDLE) else {
+        return ExitCode::from(7);
+    };
     let report = run(
         rt.alloc(),
         words.as_slice(),
@@ -59,6 +67,7 @@ fn main(rt: HostRuntime) -> ExitCode {
         &mut out,
         &mut wire,
     );
+    wire.settle();
     let _ = rt.stderr().write_all(report.text.as_slice());
     ExitCode::from(report.status)
 }

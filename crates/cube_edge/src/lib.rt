@@ -5,15 +5,21 @@
 #![tactic(auto)]
 
 mod folder;
+mod link;
 mod sink;
+mod sockets;
 mod source;
 mod store;
 mod streams;
+mod tcp;
+mod waiting;
 mod wire;
 
 pub use folder::FileFolder;
 pub use sink::WriterSink;
+pub use sockets::{Gone, Sockets};
 pub use source::ReaderSource;
 pub use store::{FileStore, MAX_PATH};
 pub use streams::hold_streams;
-pub use wire::TcpWire;
+pub use tcp::TcpSockets;
+pub use wire::SocketWire;

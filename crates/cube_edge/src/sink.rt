@@ -37,7 +37,7 @@ fn write_some<W: Write>(out: &mut W, bytes: &[u8]) -> Result<usize, Failed>
 }
 
 // What stands behind so many bytes.
-fn behind(bytes: &[u8], count: usize) -> &[u8]
+pub(crate) fn behind(bytes: &[u8], count: usize) -> &[u8]
     requires { count ≤ length bytes.now }
     ensures { result.now ≡ drop count bytes.now }
 {

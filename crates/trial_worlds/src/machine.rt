@@ -1,10 +1,9 @@
 // The objects over bytes in memory, and the folder and the store over the machine's files.
-use cube_edge::{FileFolder, FileStore, ReaderSource, TcpWire, WriterSink};
-use cube_io::{Event, Folder, ReadFault, Sink, Source, Store, Wire};
+use cube_edge::{FileFolder, FileStore, ReaderSource, WriterSink};
+use cube_io::{Folder, ReadFault, Sink, Source, Store};
 use cube_model::Text;
 use std::fs;
-use std::io::{Read, Write};
-use std::net::{SocketAddr, TcpStream};
+use std::io::Write;
 use std::test::Fail;
 
 #[test]
@@ -162,28 +161,5 @@ fn a_log_that_another_wrote_to_is_left_alone(rt: HostRuntime) -> Result<(), Fail
     let other = fs::read(&rt, "changed.log")?;
     assert_eq!(rt; other.as_slice(), b"kept by another".as_slice());
     fs::remove_file(&rt, "changed.log")?;
-    Ok(())
-}
-
-#[test]
-fn a_client_is_heard_and_answered(rt: HostRuntime) -> Result<(), Fail> {
-    let mut notes = [0u8; 64];
-    let mut wire = TcpWire::new(&rt, notes.as_mut_slice());
-    let address = Text::from_bytes(rt.alloc(), b"127.0.0.1:0")?;
-    assert!(rt; wire.listen(&address).is_ok());
-    let port = wire.port().ok_or("no port")?;
-    let mut client = TcpStream::connect(&rt, SocketAddr::from(([127, 0, 0, 1], port)))?;
-    client.write_all(b"ping")?;
-    let mut buf = [0u8; 65_536];
-    assert_eq!(rt; wire.next(&mut buf), Ok(Event::Opened(0)));
-    assert_eq!(rt; wire.next(&mut buf), Ok(Event::Piece(0, 4)));
-    assert_eq!(rt; &buf[..4], b"ping".as_slice());
-    assert!(rt; wire.send(0, b"pong").is_ok());
-    let mut got = [0u8; 4];
-    client.read_exact(&mut got)?;
-    assert_eq!(rt; got.as_slice(), b"pong".as_slice());
-    drop(client);
-    assert_eq!(rt; wire.next(&mut buf), Ok(Event::Closed(0)));
-    assert!(rt; wire.send(0, b"late").is_err());
     Ok(())
 }

@@ -1,0 +1,73 @@
+-- What sockets tell of themselves: by the number of each connection the bytes that came and those that went, in order.
+use Rattle.std.specs.Prelude.{◌≡◌, ◌≢◌, ◌<◌, ◌≤◌, ℕ, Bool, true, false, IsTrue, List, [], ◌++◌, length, take, Option, Some, None, Result, Ok, Err}
+use Rattle.cube_io.specs.declared.faults.Failed.{Failed}
+use Rattle.cube_edge.specs.declared.sockets.Gone.{Gone}
+use Rattle.cube_edge.specs.declared.link.Look.{Look}
+use Rattle.cube_edge.specs.declared.link.Look.TheVariants as look
+
+-- Of sockets: how often they failed, whether they tell, and of each connection the bytes that were taken from it and those that it
+-- was given since it was accepted.
+pub record SocketsState : Type 0 where
+  pub faults : ℕ
+  pub told : Bool
+  pub taken : ℕ → List ℕ
+  pub given : ℕ → List ℕ
+
+-- sockets that tell nothing
+abbrev pub silent_sockets : ℕ → SocketsState
+silent_sockets faults = record { faults = faults; told = false; taken = λ c. []; given = λ c. [] }
+
+-- of connection c these bytes were taken more, and these it was given
+pub record Moved (c : ℕ) (took gave : List ℕ) (old new : SocketsState) : Type 0 where
+  pub taken : new.taken c ≡ old.taken c ++ took
+  pub given : new.given c ≡ old.given c ++ gave
+
+-- a call on connection c left the others as they were, and was no fault
+pub record OnlyOn (c : ℕ) (old new : SocketsState) : Type 0 where
+  pub faults : new.faults ≡ old.faults
+  pub told : new.told ≡ old.told
+  pub taken : IsTrue old.told → (d : ℕ) → d ≢ c → new.taken d ≡ old.taken d
+  pub given : IsTrue old.told → (d : ℕ) → d ≢ c → new.given d ≡ old.given d
+
+-- no byte moved
+pub record MovedNothing (old new : SocketsState) : Type 0 where
+  pub told : new.told ≡ old.told
+  pub taken : IsTrue old.told → (d : ℕ) → new.taken d ≡ old.taken d
+  pub given : IsTrue old.told → (d : ℕ) → new.given d ≡ old.given d
+
+-- a read: the bytes at the front of the buffer, or none
+abbrev pub ReadTells : ℕ → Result (Option ℕ) Gone → List ℕ → SocketsState → SocketsState → Type 0
+ReadTells c (Ok (Some n)) buf old new = Moved c (take n buf) [] old new
+ReadTells c (Ok None) buf old new = Moved c [] [] old new
+ReadTells c (Err e) buf old new = Moved c [] [] old new
+
+-- a write: so many bytes of the piece, or none
+abbrev pub WriteTells : ℕ → Result ℕ Gone → List ℕ → SocketsState → SocketsState → Type 0
+WriteTells c (Ok n) piece old new = Moved c [] (take n piece) old new
+WriteTells c (Err e) piece old new = Moved c [] [] old new
+
+-- what goes out on connection c: what it was given, and what waits behind that
+abbrev pub outgoing : ℕ → SocketsState → List ℕ → List ℕ
+outgoing c sockets waiting = sockets.given c ++ waiting
+
+-- a write, where it is one: a front of the piece goes out behind what went before
+abbrev pub FrontGoesOut : Result ℕ Gone → List ℕ → List ℕ → List ℕ → Type 0
+FrontGoesOut (Ok n) piece old new = (n ≤ length piece) × (new ≡ old ++ take n piece)
+FrontGoesOut (Err e) piece old new = new ≡ old
+
+-- a send: all of the piece goes out behind what went before, or after a failure a front of it
+abbrev pub SendGoesOut : Result (Unit {0}) Failed → List ℕ → List ℕ → List ℕ → Type 0
+SendGoesOut (Ok u) piece old new = new ≡ old ++ piece
+SendGoesOut (Err e) piece old new = (said : List ℕ) × (unsaid : List ℕ) × (piece ≡ said ++ unsaid) × (new ≡ old ++ said)
+
+-- a piece has a byte, and stands in the buffer
+abbrev pub LookFits : Look → List ℕ → Type 0
+LookFits (look.Piece n) buf = (0 < n) × (n ≤ length buf)
+LookFits look.Quiet buf = Unit {0}
+LookFits look.Gone buf = Unit {0}
+
+-- a look at connection c: the bytes at the front of the buffer were taken, or none
+abbrev pub LookTells : ℕ → Look → List ℕ → SocketsState → SocketsState → Type 0
+LookTells c (look.Piece n) buf old new = new.taken c ≡ old.taken c ++ take n buf
+LookTells c look.Quiet buf old new = new.taken c ≡ old.taken c
+LookTells c look.Gone buf old new = new.taken c ≡ old.taken c
