@@ -110,8 +110,26 @@ fn is_passing(error: &io::Error) -> bool {
 }
 
 impl Door {
-    /// The next connection, watched under its number.
-    fn accept(&mut self, c: u32) -> io::Result<Stream> {
+    /// The next connection, if one is there and can be taken now.
+    fn accept(&mut self, c: u32) -> io::Result<Option<Stream>> {
+        if !self.is_ready {
+            return Ok(None);
+        }
+        match self.take(c) {
+            Ok(stream) => Ok(Some(stream)),
+            Err(error) => {
+                self.is_ready = error.kind() != ErrorKind::WouldBlock;
+                if is_passing(&error) {
+                    Ok(None)
+                } else {
+                    Err(error)
+                }
+            }
+        }
+    }
+
+    // The next connection, watched under its number.
+    fn take(&mut self, c: u32) -> io::Result<Stream> {
         let (mut socket, _) = self.listener.accept()?;
         // The head and the body of a reply are two sends: the second must not wait until the first is acknowledged.
         let _ = socket.set_nodelay(true);
@@ -248,6 +266,16 @@ impl<'a, R: Net + Clock, N: Write + Drop> TcpSockets<'a, R, N> {
         }
     }
 
+    // Keeps a connection under its number.
+    fn put(&mut self, c: u32, stream: Stream)
+        ensures { self.new.faults ≡ self.old.faults }
+    {
+        self.is_more = true;
+        if let Some(place) = self.streams.get_mut(c as usize) {
+            *place = Some(stream);
+        }
+    }
+
     // Counts a fault.
     fn fail(&mut self) -> Failed
         ensures later { self.old.faults ≤ self.new.faults }
@@ -296,28 +324,17 @@ impl<R: Net + Clock, N: Write + Drop> Sockets for TcpSockets<'_, R, N> {
     }
 
     fn accept(&mut self, c: u32) -> Result<bool, Failed> {
-        let Some(door) = &mut self.door else {
-            return Err(self.fail());
+        let accepted = match &mut self.door {
+            Some(door) => door.accept(c),
+            None => Err(io::Error::from(ErrorKind::NotConnected)),
         };
-        if !door.is_ready {
-            return Ok(false);
-        }
-        match door.accept(c) {
-            Ok(stream) => {
-                self.is_more = true;
-                if let Some(place) = self.streams.get_mut(c as usize) {
-                    *place = Some(stream);
-                }
+        match accepted {
+            Ok(Some(stream)) => {
+                self.put(c, stream);
                 Ok(true)
             }
-            Err(error) => {
-                door.is_ready = error.kind() != ErrorKind::WouldBlock;
-                if is_passing(&error) {
-                    Ok(false)
-                } else {
-                    Err(self.fail())
-                }
-            }
+            Ok(None) => Ok(false),
+            Err(_) => Err(self.fail()),
         }
     }
 
