@@ -16,7 +16,6 @@ import subprocess
 import sys
 import tempfile
 import time
-import tomllib
 from concurrent.futures import ThreadPoolExecutor
 
 HERE = os.path.dirname(os.path.abspath(__file__))
@@ -47,16 +46,17 @@ def refusal(status, text):
 
 def pay_asks():
     """The hours of each area, a month at a time: requests with their responses."""
-    with open(f"{PAY}/dims.toml", "rb") as file:
-        region, months = tomllib.load(file)["dimension"][:2]
-    area_of = dict(region["paths"])
+    with open(f"{PAY}/dims.toml") as file:
+        dimensions = file.read().split("[[dimension]]")[1:]
+    regions, months = (re.findall(r'^  \["(\w+)", "(\w+)"\]', dimension, re.MULTILINE) for dimension in dimensions[:2])
+    area_of = dict(regions)
     sums = {}
     with open(f"{PAY}/facts.csv", newline="") as file:
         for fact in csv.DictReader(file):
             key = fact["month"], area_of[fact["branch"]]
             sums[key] = sums.get(key, 0) + int(fact["hours"])
     asks = []
-    for month, _quarter in months["paths"]:
+    for month, _quarter in months:
         rows = [f"{area},{sums[month, area]}\n" for area in dict.fromkeys(area_of.values()) if (month, area) in sums]
         query = f"slice hours by region.area where time.month={month}"
         asks.append((request(query), response("region.area,hours\n" + "".join(rows))))
