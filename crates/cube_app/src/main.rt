@@ -8,7 +8,10 @@ mod summary;
 #[cfg(test)]
 mod tests;
 
-use cube_edge::{FileFolder, FileStore, ReaderSource, SocketWire, TcpSockets, WriterSink, hold_streams};
+use cube_edge::{
+    FileFolder, FileStore, MachineDisk, ReaderSource, SocketWire, TcpSockets, WriterSink,
+    hold_streams,
+};
 use cube_model::{Items, Text, Texts};
 use run::run;
 use std::env::{Env, FillError};
@@ -47,7 +50,7 @@ fn main(rt: HostRuntime) -> ExitCode {
         return ExitCode::from(7);
     };
     let mut files = FileFolder::new(&rt);
-    let Ok(mut store) = FileStore::new(rt.alloc(), &rt, rt.stderr()) else {
+    let Ok(mut store) = FileStore::new(rt.alloc(), MachineDisk::new(&rt), rt.stderr()) else {
         return ExitCode::from(7);
     };
     let mut input = ReaderSource::new(rt.reader());

@@ -1,1 +1,3 @@
+mod Appending
 pub mod Outgoing
+mod Paths

@@ -4,8 +4,10 @@
 //! wire tell nothing.
 #![tactic(auto)]
 
+mod disk;
 mod folder;
 mod link;
+mod machine;
 mod sink;
 mod sockets;
 mod source;
@@ -15,7 +17,9 @@ mod tcp;
 mod waiting;
 mod wire;
 
+pub use disk::{Disk, Extent, Trouble};
 pub use folder::FileFolder;
+pub use machine::MachineDisk;
 pub use sink::WriterSink;
 pub use sockets::{Gone, Sockets};
 pub use source::ReaderSource;

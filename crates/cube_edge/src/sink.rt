@@ -5,6 +5,7 @@ ghost use Rattle.std.specs.Io.KnownBytes.{WriteAppends};
 ghost use Rattle.cube_io.specs.Content.{PutAppends};
 
 use cube_io::{Failed, Sink};
+use std::io;
 use std::io::{ErrorKind, Write};
 
 /// Any writer, as a sink. It tells what the writer tells.
@@ -24,15 +25,15 @@ impl<W: Write + Drop> WriterSink<W> {
 }
 
 // Writes a front of the bytes, and says how many: none where the call was interrupted.
-fn write_some<W: Write>(out: &mut W, bytes: &[u8]) -> Result<usize, Failed>
+pub(crate) fn write_some<W: Write>(out: &mut W, bytes: &[u8]) -> io::Result<usize>
     ensures bound { WritesAtMost result bytes.now }
     ensures bytes { WriteAppends (W.contents out.old) (W.contents out.new) result bytes.now }
 {
     match out.write(bytes) {
-        Ok(0) => Err(Failed),
+        Ok(0) => Err(io::Error::from(ErrorKind::WriteZero)),
         Ok(count) => Ok(count),
         Err(error) if error.kind() == ErrorKind::Interrupted => Ok(0),
-        Err(_) => Err(Failed),
+        Err(error) => Err(error),
     }
 }
 
@@ -45,7 +46,7 @@ pub(crate) fn behind(bytes: &[u8], count: usize) -> &[u8]
 }
 
 // Writes all of the piece, or a front of it where that fails.
-pub(crate) fn write_whole<W: Write>(out: &mut W, piece: &[u8]) -> Result<(), Failed>
+fn write_whole<W: Write>(out: &mut W, piece: &[u8]) -> Result<(), Failed>
     ensures { PutAppends (W.contents out.old) (W.contents out.new) result piece.now }
 {
     let mut rest = piece;
@@ -53,7 +54,9 @@ pub(crate) fn write_whole<W: Write>(out: &mut W, piece: &[u8]) -> Result<(), Fai
         if rest.is_empty() {
             return Ok(());
         }
-        let count = write_some(out, rest)?;
+        let Ok(count) = write_some(out, rest) else {
+            return Err(Failed);
+        };
         rest = behind(rest, count);
     }
     Err(Failed)

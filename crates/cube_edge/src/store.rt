@@ -1,204 +1,144 @@
-// Logs in files of the machine.
-ghost use Rattle.std.specs.Prelude.{◌≡◌, ◌≤◌, ◌^◌, false, length, IfOk};
-ghost use Rattle.std.proofs.Common.{rules};
+// Logs in the files of a disk.
+ghost use Rattle.std.specs.Prelude.{◌≡◌, ◌≤◌, ◌<◌, ◌^◌, ℕ, Bool, false, List, [], Some, length, string_bytes, IsTrue, IfOk, OnOk, OnErr, IsErrOf};
+ghost use Rattle.cube_io.specs.declared.faults.ReadFault.TheVariants as fault;
 ghost use Rattle.cube_io.specs.Causes.{HasCause};
-ghost use Rattle.cube_io.specs.Told.{silent_store};
+ghost use Rattle.cube_io.specs.States.{Appended, Cut, Synced, shortened, settled};
+ghost use Rattle.cube_io.specs.Told.{AsksFor};
+ghost use Rattle.cube_edge.specs.Disks.{Rests, WorksAt, path_of, store_over, logs_whole};
 
-use crate::folder::read_rest;
-use crate::sink::write_whole;
+use crate::disk::{Disk, Extent, Trouble};
+use crate::sink::behind;
 use cube_io::{Failed, ReadFault, Store};
 use cube_model::{NoMemory, Text};
 use std::alloc::Global;
 use std::collections::BTreeMap;
-use std::fs::{File, OpenFile, OpenOptions, TryLockError};
-use std::io::{ErrorKind, Seek, SeekFrom, Write};
-use std::os::unix::fs::MetadataExt;
-use std::rt::Files;
-use std::{fmt, fs, io, str};
+use std::io::{ErrorKind, Write};
+use std::marker::Model;
+use std::{io, mem, str};
 
 /// The longest path in bytes.
 pub const MAX_PATH: usize = 4_096;
 
-/// The most bytes of a log that are read.
-const MAX_LOG: usize = 268_435_456;
-
 /// The file of a log: locked, so that no other program that asks for the lock has it, and as this program left it.
 #[derive(Drop)]
-struct LogFile {
-    file: File,
-    /// So many bytes are surely in it.
-    length: u64,
-    /// So many more a call that failed may have left behind them.
-    loose: u64,
+struct LogFile<D: Disk> {
+    file: D::File,
+    left: Extent,
 }
 
-/// The open files of the logs, each by its number.
-#[derive(Drop)]
-struct LogFiles<'a, R: Files<File = File> + AllocGlobal, N: Write + Drop> {
-    rt: &'a R,
-    notes: N,
-    name: String,
-    path: String,
-    files: BTreeMap<u32, LogFile>,
-}
-
-/// Puts the names of a file's folder on the disk.
-fn sync_folder<R: Files + AllocGlobal>(rt: &R, path: &str) -> io::Result<()> {
-    let mut folder = fs::canonicalize(rt, path)?;
-    folder.pop();
-    OpenOptions::new()
-        .read(true)
-        .open(rt, folder.as_path())?
-        .sync_all()
-}
-
-/// Opens a file to read it and to write at its end, and makes it where it isn't there.
-fn open_or_make<R: Files>(rt: &R, path: &str) -> io::Result<R::File> {
-    OpenOptions::new()
-        .read(true)
-        .append(true)
-        .create(true)
-        .open(rt, path)
-}
-
-/// Why a file is not worked on.
-#[derive(Drop)]
-enum Trouble {
-    /// The machine refused, for this reason.
-    Refused(io::Error),
-    /// It is a folder, a pipe or a device.
-    NoFile,
-    /// Another program has the lock.
-    InUse,
-    /// Its name stands for another file now, or for none.
-    Moved,
-    /// It is longer or shorter than this program left it.
-    Changed,
-}
-
-impl From<io::Error> for Trouble {
-    fn from(error: io::Error) -> Trouble {
-        Trouble::Refused(error)
-    }
-}
-
-impl fmt::Display for Trouble {
-    fn fmt<W: fmt::Write>(&self, f: &mut fmt::Formatter<W>) -> fmt::Result {
-        match self {
-            Trouble::Refused(error) => write!(f, "{error}"),
-            Trouble::NoFile => write!(f, "no regular file"),
-            Trouble::InUse => write!(f, "in use by another program"),
-            Trouble::Moved => write!(f, "moved or deleted"),
-            Trouble::Changed => write!(f, "changed by another program"),
+/// Writes all of a piece at the end of a file, or a front of it where that fails.
+fn write_whole<D: Disk>(disk: &mut D, file: &mut D::File, piece: &[u8]) -> Result<(), Trouble>
+    requires { IsTrue (D.state disk.old).told → (D.state disk.old).seen ≡ Some (D.place file.old) }
+    ensures works { WorksAt (D.place file.old) (D.state disk.old) (D.state disk.new) }
+    ensures grows { IsTrue (D.state disk.old).told → (unsaid : List ℕ) × OnOk result (unsaid ≡ [])
+        × Appended piece.now unsaid ((D.state disk.old).logs (D.place file.old)) ((D.state disk.new).logs (D.place file.old)) }
+{
+    let mut rest = piece;
+    'writes: for _ in 0..u64::MAX {
+        if rest.is_empty() {
+            return Ok(());
         }
+        let count = disk.write(file, rest)?;
+        rest = behind(rest, count);
     }
+    Err(Trouble::Refused(io::Error::from(ErrorKind::WriteZero)))
 }
 
-/// Locks a file until it is closed, however the program ends.
-fn lock(file: &File) -> Result<(), Trouble> {
-    match file.try_lock() {
-        Ok(()) => Ok(()),
-        Err(TryLockError::WouldBlock) => Err(Trouble::InUse),
-        Err(TryLockError::Error(error)) => Err(Trouble::Refused(error)),
-    }
-}
-
-/// How long an open file is, where its name stands for it.
-fn length_behind<R: Files>(rt: &R, path: &str, file: &File) -> Result<u64, Trouble> {
-    let open = file.metadata()?;
-    let named = match fs::metadata(rt, path) {
-        Ok(named) => named,
-        Err(error) if error.kind() == ErrorKind::NotFound => return Err(Trouble::Moved),
-        Err(error) => return Err(Trouble::Refused(error)),
-    };
-    if open.nlink() == 0 || open.dev() != named.dev() || open.ino() != named.ino() {
-        return Err(Trouble::Moved);
-    }
-    Ok(open.len())
-}
-
-/// Opens the file of a log, makes it where it isn't there, and locks it before anything is read. Its name is on the disk then.
-fn open_log<R: Files<File = File> + AllocGlobal>(rt: &R, path: &str) -> Result<LogFile, Trouble> {
-    let file = open_or_make(rt, path)?;
-    if !file.metadata()?.is_file() {
-        return Err(Trouble::NoFile);
-    }
-    lock(&file)?;
-    sync_folder(rt, path)?;
-    let length = length_behind(rt, path, &file)?;
+/// Opens the file of a path, makes it where it isn't there, and locks it before anything is read. Its name is on the disk then.
+fn open_log<D: Disk>(disk: &mut D, path: &str) -> Result<LogFile<D>, Trouble>
+    ensures rests { Rests (D.state disk.old) (D.state disk.new) }
+{
+    let opened = disk.open(path)?;
+    let file = disk.lock(opened, path)?;
+    let length = disk.length(&file)?;
     Ok(LogFile {
         file,
-        length,
-        loose: 0,
+        left: Extent { length, loose: 0 },
     })
 }
 
-/// All bytes of a file.
-fn read_log<F: io::Read + Seek>(file: &mut F, alloc: Global) -> Result<Text, ReadFault>
-    ensures { IfOk result (λ text. length text ≤ 2 ^ 28) }
-{
-    if file.seek(SeekFrom::Start(0)).is_err() {
-        return Err(ReadFault::Failed);
-    }
-    read_rest(file, alloc, MAX_LOG)
-}
-
-impl LogFile {
-    /// Whether a file of this length is as this program left it.
-    fn is_left(&self, length: u64) -> bool {
-        self.length <= length && length - self.length <= self.loose
-    }
-
-    /// Sees that the name of the file still stands for it, and that nobody else wrote to it.
-    fn look<R: Files>(&self, rt: &R, path: &str) -> Result<(), Trouble> {
-        if self.is_left(length_behind(rt, path, &self.file)?) {
-            Ok(())
-        } else {
-            Err(Trouble::Changed)
-        }
-    }
-
+impl<D: Disk> LogFile<D> {
     /// Puts a piece at the end.
-    fn append(&mut self, piece: &[u8]) -> Result<(), Failed> {
+    fn append(&mut self, disk: &mut D, path: &str, piece: &[u8]) -> Result<(), Trouble>
+        ensures works { WorksAt path.now (D.state disk.old) (D.state disk.new) }
+        ensures grows { IsTrue (D.state disk.old).told → (unsaid : List ℕ) × OnOk result (unsaid ≡ [])
+            × Appended piece.now unsaid ((D.state disk.old).logs path.now) ((D.state disk.new).logs path.now) }
+    {
+        disk.look(&self.file, path, self.left)?;
         let more = piece.len() as u64;
-        let written = write_whole(&mut self.file, piece);
+        let written = write_whole(disk, &mut self.file, piece);
         match written {
-            Ok(()) => self.length = self.length.saturating_add(more),
-            Err(_) => self.loose = self.loose.saturating_add(more),
+            Ok(()) => self.left.length = self.left.length.saturating_add(more),
+            Err(_) => self.left.loose = self.left.loose.saturating_add(more),
         }
         written
     }
 
     /// Cuts the file to a length that it has.
-    fn cut(&mut self, len: u64) -> Result<(), Trouble> {
-        if len > self.length {
+    fn cut(&mut self, disk: &mut D, path: &str, len: u64) -> Result<(), Trouble>
+        requires { IsTrue (D.state disk.old).told → len ≤ length ((D.state disk.old).logs path.now).state.now }
+        ensures works { WorksAt path.now (D.state disk.old) (D.state disk.new) }
+        ensures passes { IsTrue (D.state disk.old).told → Cut len ((D.state disk.old).logs path.now) ((D.state disk.new).logs path.now) }
+        ensures done { IsTrue (D.state disk.old).told → OnOk result (((D.state disk.new).logs path.now).state ≡ shortened ((D.state disk.old).logs path.now).state len) }
+    {
+        disk.look(&self.file, path, self.left)?;
+        if len > self.left.length {
             return Err(Trouble::Changed);
         }
         // Where this fails the file may have either length.
-        self.loose = self.loose.saturating_add(self.length - len);
-        self.length = len;
-        self.file.set_len(len)?;
-        self.loose = 0;
+        self.left.loose = self.left.loose.saturating_add(self.left.length - len);
+        self.left.length = len;
+        disk.cut(&self.file, len)?;
+        self.left.loose = 0;
         Ok(())
     }
 }
 
-impl<R: Files<File = File> + AllocGlobal, N: Write + Drop> LogFiles<'_, R, N> {
-    /// Takes the name of log 0, and closes the files of another name.
-    fn rename(&mut self, name: &[u8]) -> Result<(), Failed> {
-        self.files.clear();
-        self.name.clear();
+/// Says in the notes why the file of a path is not worked on.
+fn note<N: Write>(notes: &mut N, path: &str, trouble: &Trouble) -> Failed {
+    let _ = writeln!(notes, "{path}: {trouble}");
+    Failed
+}
+
+/// The open files of the logs, each by its number.
+#[derive(Drop)]
+struct LogFiles<D: Disk + Drop, N: Write + Drop> {
+    disk: D,
+    notes: N,
+    name: String,
+    path: String,
+    files: BTreeMap<u32, LogFile<D>>,
+}
+
+impl<D: Disk + Drop, N: Write + Drop> LogFiles<D, N> {
+    /// Takes the name of log 0, and closes the files of another name. Where it fails all is as it was.
+    fn rename(&mut self, name: &[u8]) -> Result<(), Failed>
+        ensures told { (D.state self.new.disk).told ≡ (D.state self.old.disk).told }
+        ensures same { (D.state self.new.disk).name ≡ (D.state self.old.disk).name }
+        ensures logs { IsTrue (D.state self.old.disk).told → (path : List ℕ) → (D.state self.new.disk).logs path ≡ (D.state self.old.disk).logs path }
+        ensures ok { IsTrue (D.state self.old.disk).told → OnOk result (string_bytes self.new.name ≡ (D.state self.old.disk).name) }
+        ensures err { OnErr result (self.new.name ≡ self.old.name) }
+        ensures names { IsTrue (D.state self.old.disk).told → AsksFor result (D.state self.old.disk).names (D.state self.new.disk).names name.now }
+    {
         let Ok(name) = str::from_utf8(name) else {
             return Err(Failed);
         };
-        if name.len() > MAX_PATH || self.name.push_str(name).is_err() {
+        self.path.clear();
+        if name.len() > MAX_PATH || self.path.push_str(name).is_err() {
             return Err(Failed);
         }
+        self.disk.attach(name)?;
+        self.files.clear();
+        mem::swap(&mut self.name, &mut self.path);
         Ok(())
     }
 
     /// Writes down the path of a log.
-    fn find(&mut self, log: u32) -> Result<(), Failed> {
+    fn find(&mut self, log: u32) -> Result<(), Failed>
+        ensures disk { self.new.disk ≡ self.old.disk }
+        ensures name { self.new.name ≡ self.old.name }
+        ensures path { OnOk result (string_bytes self.new.path ≡ path_of (string_bytes self.old.name) log) }
+    {
         self.path.clear();
         if self.path.push_str(&self.name).is_err() {
             return Err(Failed);
@@ -212,107 +152,127 @@ impl<R: Files<File = File> + AllocGlobal, N: Write + Drop> LogFiles<'_, R, N> {
         Ok(())
     }
 
-    /// Says in the notes why the file of the path is not worked on.
-    fn note(&mut self, trouble: &Trouble) -> Failed {
-        let path = &self.path;
-        let _ = writeln!(self.notes, "{path}: {trouble}");
-        Failed
-    }
-
     /// Opens the file of a log, where it isn't open.
-    fn open(&mut self, log: u32) -> Result<(), Failed> {
+    fn open(&mut self, log: u32) -> Result<(), Failed>
+        ensures rests { Rests (D.state self.old.disk) (D.state self.new.disk) }
+        ensures name { self.new.name ≡ self.old.name }
+        ensures path { OnOk result (string_bytes self.new.path ≡ path_of (string_bytes self.old.name) log) }
+    {
         self.find(log)?;
         if self.files.contains_key(&log) {
             return Ok(());
         }
-        match open_log(self.rt, self.path.as_str()) {
+        match open_log(&mut self.disk, self.path.as_str()) {
             Ok(file) => match self.files.insert(log, file) {
                 Ok(_) => Ok(()),
                 Err(_) => Err(Failed),
             },
-            Err(trouble) => Err(self.note(&trouble)),
-        }
-    }
-
-    /// Sees that the file of a log is the one that its name stands for, as this program left it.
-    fn look(&mut self, log: u32) -> Result<(), Failed> {
-        self.open(log)?;
-        let looked = match self.files.get(&log) {
-            Some(file) => file.look(self.rt, self.path.as_str()),
-            None => return Err(Failed),
-        };
-        match looked {
-            Ok(()) => Ok(()),
-            Err(trouble) => Err(self.note(&trouble)),
+            Err(trouble) => Err(note(&mut self.notes, self.path.as_str(), &trouble)),
         }
     }
 
     fn read_all(&mut self, alloc: Global, log: u32) -> Result<Text, ReadFault>
-        ensures { IfOk result (λ text. length text ≤ 2 ^ 28) }
+        ensures rests { Rests (D.state self.old.disk) (D.state self.new.disk) }
+        ensures name { self.new.name ≡ self.old.name }
+        ensures bytes { IsTrue (D.state self.old.disk).told → IfOk result (λ bytes. bytes ≡ ((D.state self.old.disk).logs (path_of (string_bytes self.old.name) log)).state.now) }
+        ensures fits { IfOk result (λ text. length text ≤ 2 ^ 28) }
+        ensures long { IsTrue (D.state self.old.disk).told → IsErrOf result fault.TooLong → 2 ^ 28 < length ((D.state self.old.disk).logs (path_of (string_bytes self.old.name) log)).state.now }
     {
-        if self.look(log).is_err() {
+        if self.open(log).is_err() {
             return Err(ReadFault::Failed);
         }
-        match self.files.get_mut(&log) {
-            Some(file) => read_log(&mut file.file, alloc),
-            None => Err(ReadFault::Failed),
-        }
-    }
-
-    fn append(&mut self, log: u32, piece: &[u8]) -> Result<(), Failed> {
-        self.look(log)?;
-        match self.files.get_mut(&log) {
-            Some(file) => file.append(piece),
-            None => Err(Failed),
-        }
-    }
-
-    fn cut(&mut self, log: u32, len: u64) -> Result<(), Failed> {
-        self.look(log)?;
-        let done = match self.files.get_mut(&log) {
-            Some(file) => file.cut(len),
-            None => return Err(Failed),
+        let Some(file) = self.files.get_mut(&log) else {
+            return Err(ReadFault::Failed);
         };
-        match done {
-            Ok(()) => Ok(()),
-            Err(trouble) => Err(self.note(&trouble)),
+        match self.disk.look(&file.file, self.path.as_str(), file.left) {
+            Ok(()) => self.disk.read(&mut file.file, alloc),
+            Err(trouble) => {
+                note(&mut self.notes, self.path.as_str(), &trouble);
+                Err(ReadFault::Failed)
+            }
         }
     }
 
-    /// Puts the file on the disk, and then sees once more that its name stands for it: who asks for a line that was kept
-    /// finds it behind the name.
-    fn sync(&mut self, log: u32) -> Result<(), Failed> {
+    fn append(&mut self, log: u32, piece: &[u8]) -> Result<(), Failed>
+        ensures works { WorksAt (path_of (string_bytes self.old.name) log) (D.state self.old.disk) (D.state self.new.disk) }
+        ensures name { self.new.name ≡ self.old.name }
+        ensures grows { IsTrue (D.state self.old.disk).told → (unsaid : List ℕ) × OnOk result (unsaid ≡ [])
+            × Appended piece.now unsaid ((D.state self.old.disk).logs (path_of (string_bytes self.old.name) log)) ((D.state self.new.disk).logs (path_of (string_bytes self.old.name) log)) }
+    {
         self.open(log)?;
-        match self.files.get(&log) {
-            Some(file) if file.file.sync_all().is_ok() => {}
-            _ => return Err(Failed),
+        let Some(file) = self.files.get_mut(&log) else {
+            return Err(Failed);
+        };
+        match file.append(&mut self.disk, self.path.as_str(), piece) {
+            Ok(()) => Ok(()),
+            Err(trouble) => Err(note(&mut self.notes, self.path.as_str(), &trouble)),
         }
-        self.look(log)
+    }
+
+    fn cut(&mut self, log: u32, len: u64) -> Result<(), Failed>
+        requires { IsTrue (D.state self.old.disk).told → len ≤ length ((D.state self.old.disk).logs (path_of (string_bytes self.old.name) log)).state.now }
+        ensures works { WorksAt (path_of (string_bytes self.old.name) log) (D.state self.old.disk) (D.state self.new.disk) }
+        ensures name { self.new.name ≡ self.old.name }
+        ensures passes { IsTrue (D.state self.old.disk).told → Cut len ((D.state self.old.disk).logs (path_of (string_bytes self.old.name) log)) ((D.state self.new.disk).logs (path_of (string_bytes self.old.name) log)) }
+        ensures done { IsTrue (D.state self.old.disk).told → OnOk result (((D.state self.new.disk).logs (path_of (string_bytes self.old.name) log)).state ≡ shortened ((D.state self.old.disk).logs (path_of (string_bytes self.old.name) log)).state len) }
+    {
+        self.open(log)?;
+        let Some(file) = self.files.get_mut(&log) else {
+            return Err(Failed);
+        };
+        match file.cut(&mut self.disk, self.path.as_str(), len) {
+            Ok(()) => Ok(()),
+            Err(trouble) => Err(note(&mut self.notes, self.path.as_str(), &trouble)),
+        }
+    }
+
+    /// Puts the file on the disk, behind its name: who asks for a line that was kept finds it there.
+    fn sync(&mut self, log: u32) -> Result<(), Failed>
+        ensures works { WorksAt (path_of (string_bytes self.old.name) log) (D.state self.old.disk) (D.state self.new.disk) }
+        ensures name { self.new.name ≡ self.old.name }
+        ensures passes { IsTrue (D.state self.old.disk).told → Synced ((D.state self.old.disk).logs (path_of (string_bytes self.old.name) log)) ((D.state self.new.disk).logs (path_of (string_bytes self.old.name) log)) }
+        ensures done { IsTrue (D.state self.old.disk).told → OnOk result (((D.state self.new.disk).logs (path_of (string_bytes self.old.name) log)).state ≡ settled ((D.state self.old.disk).logs (path_of (string_bytes self.old.name) log)).state.now) }
+        ensures failed { IsTrue (D.state self.old.disk).told → OnErr result (((D.state self.new.disk).logs (path_of (string_bytes self.old.name) log)).state ≡ ((D.state self.old.disk).logs (path_of (string_bytes self.old.name) log)).state) }
+    {
+        self.open(log)?;
+        let Some(file) = self.files.get(&log) else {
+            return Err(Failed);
+        };
+        match self.disk.sync(&file.file, self.path.as_str(), file.left) {
+            Ok(()) => Ok(()),
+            Err(trouble) => Err(note(&mut self.notes, self.path.as_str(), &trouble)),
+        }
     }
 }
 
-/// Logs in files: log 0 in the file that `attach` names, log k in that name followed by `.k`. A file that isn't there is
-/// made. It is opened and locked at the first call on its log, before anything is read, and stays so until the store is
-/// dropped or the program ends, however it ends. A file that another program has locked, that was moved or deleted, or
-/// that another program wrote to, is not worked on: nothing is read of it, written to it or cut from it. Its notes say
-/// why, in a line. It tells nothing of the logs.
+/// Logs in the files of a disk: log 0 in the file that `attach` names, log k in that name followed by `.k`. A file that
+/// isn't there is made. It is opened and locked at the first call on its log, before anything is read, and stays so until
+/// the store is dropped or the program ends, however it ends. A file that another program has locked, that was moved or
+/// deleted, or that another program wrote to, is not worked on: nothing is read of it, written to it or cut from it. Its
+/// notes say why, in a line. Where the disk tells its files, it tells the logs.
 #[derive(Drop)]
-pub struct FileStore<'a, R: Files<File = File> + AllocGlobal, N: Write + Drop> {
-    files: LogFiles<'a, R, N>,
+pub struct FileStore<D: Disk + Drop, N: Write + Drop> {
+    files: LogFiles<D, N>,
     attached: bool,
     faults: u64,
 }
 
-impl<'a, R: Files<File = File> + AllocGlobal, N: Write + Drop> FileStore<'a, R, N> {
-    /// A store of the machine's files, with room for a path.
-    pub fn new(alloc: Global, rt: &'a R, notes: N) -> Result<Self, NoMemory>
-        ensures attached { IfOk result (λ store. (⟦<FileStore<'a, R, N> as Store>⟧.state store).attached ≡ false) }
-        ensures told { IfOk result (λ store. (⟦<FileStore<'a, R, N> as Store>⟧.state store).told ≡ false) }
-        ensures faults { IfOk result (λ store. (⟦<FileStore<'a, R, N> as Store>⟧.state store).faults ≡ 0) }
+impl<D: Disk + Drop, N: Write + Drop> Model for FileStore<D, N> {
+    ghost Value = { D × (Bool × ℕ) };
+
+    ghost view = { λ s. (s.files.disk, (s.attached, s.faults)) };
+
+    ghost invariant = { λ s. IsTrue s.attached → IsTrue (D.state s.files.disk).told → string_bytes s.files.name ≡ (D.state s.files.disk).name };
+}
+
+impl<D: Disk + Drop, N: Write + Drop> FileStore<D, N> {
+    /// A store of a disk's files, with room for a path.
+    pub fn new(alloc: Global, disk: D, notes: N) -> Result<Self, NoMemory>
+        ensures { IfOk result (λ store. ⟦<FileStore<D, N> as Store>⟧.state store ≡ store_over 0 false (D.state disk)) }
     {
         Ok(FileStore {
             files: LogFiles {
-                rt,
+                disk,
                 notes,
                 name: String::with_capacity(alloc, MAX_PATH)?,
                 path: String::with_capacity(alloc, MAX_PATH)?,
@@ -335,10 +295,10 @@ fn counted(faults: &mut u64, done: Result<(), Failed>) -> Result<(), Failed>
     done
 }
 
-impl<R: Files<File = File> + AllocGlobal, N: Write + Drop> Store for FileStore<'_, R, N> {
-    ghost state = { λ s. silent_store s.faults s.attached };
+impl<D: Disk + Drop, N: Write + Drop> Store for FileStore<D, N> {
+    ghost state = { λ s. store_over s.1.1 s.1.0 (D.state s.0) };
 
-    ghost whole = { λ s k told. Prim.search rules };
+    ghost whole = { λ s k told. logs_whole (D.state s.0) (λ p. D.whole s.0 p told) k };
 
     fn attach(&mut self, name: &Text) -> Result<(), Failed> {
         let done = self.files.rename(name.as_slice());

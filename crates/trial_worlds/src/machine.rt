@@ -1,5 +1,5 @@
 // The objects over bytes in memory, and the folder and the store over the machine's files.
-use cube_edge::{FileFolder, FileStore, ReaderSource, WriterSink};
+use cube_edge::{FileFolder, FileStore, MachineDisk, ReaderSource, WriterSink};
 use cube_io::{Folder, ReadFault, Sink, Source, Store};
 use cube_model::Text;
 use std::fs;
@@ -46,7 +46,7 @@ fn a_file_is_read_whole_or_is_at_fault(rt: HostRuntime) -> Result<(), Fail> {
 
 // Writes log 0 and log 2 of a name.
 fn write_logs(rt: &HostRuntime, name: &Text) -> Result<(), Fail> {
-    let mut store = FileStore::new(rt.alloc(), rt, rt.stderr())?;
+    let mut store = FileStore::new(rt.alloc(), MachineDisk::new(rt), rt.stderr())?;
     store.attach(name)?;
     store.append(0, b"kept\n")?;
     store.append(2, b"other")?;
@@ -61,7 +61,7 @@ fn logs_are_kept_in_files(rt: HostRuntime) -> Result<(), Fail> {
     let alloc = rt.alloc();
     let name = Text::from_bytes(alloc, b"logs_are_kept_in_files.log")?;
     write_logs(&rt, &name)?;
-    let mut reader = FileStore::new(alloc, &rt, rt.stderr())?;
+    let mut reader = FileStore::new(alloc, MachineDisk::new(&rt), rt.stderr())?;
     reader.attach(&name).expect(&rt, "a name");
     let first = reader.read_all(alloc, 0).expect(&rt, "log 0");
     let other = reader.read_all(alloc, 2).expect(&rt, "log 2");
@@ -76,7 +76,7 @@ fn logs_are_kept_in_files(rt: HostRuntime) -> Result<(), Fail> {
 fn a_store_of_no_file_fails(rt: HostRuntime) -> Result<(), Fail> {
     let alloc = rt.alloc();
     let mut notes = [0u8; 128];
-    let mut store = FileStore::new(alloc, &rt, notes.as_mut_slice())?;
+    let mut store = FileStore::new(alloc, MachineDisk::new(&rt), notes.as_mut_slice())?;
     let long = [b'a'; 4_097];
     assert!(rt; store.attach(&Text::from_bytes(alloc, &long)?).is_err());
     store
@@ -93,7 +93,7 @@ fn a_store_of_no_file_fails(rt: HostRuntime) -> Result<(), Fail> {
 #[test]
 fn a_pipe_or_a_device_is_no_log(rt: HostRuntime) -> Result<(), Fail> {
     let mut notes = [0u8; 64];
-    let mut store = FileStore::new(rt.alloc(), &rt, notes.as_mut_slice())?;
+    let mut store = FileStore::new(rt.alloc(), MachineDisk::new(&rt), notes.as_mut_slice())?;
     store.attach(&Text::from_bytes(rt.alloc(), b"/dev/null")?)?;
     assert!(rt; store.read_all(rt.alloc(), 0).is_err());
     assert!(rt; store.append(0, b"a").is_err());
@@ -104,7 +104,7 @@ fn a_pipe_or_a_device_is_no_log(rt: HostRuntime) -> Result<(), Fail> {
 
 // Whether a second store reads a log that a first one has, whether it writes to it, and what it notes.
 fn try_second(rt: &HostRuntime, name: &Text, notes: &mut [u8]) -> Result<(bool, bool), Fail> {
-    let mut second = FileStore::new(rt.alloc(), rt, notes)?;
+    let mut second = FileStore::new(rt.alloc(), MachineDisk::new(rt), notes)?;
     second.attach(name)?;
     let reads = second.read_all(rt.alloc(), 0).is_ok();
     let writes = second.append(0, b"second").is_ok();
@@ -114,7 +114,7 @@ fn try_second(rt: &HostRuntime, name: &Text, notes: &mut [u8]) -> Result<(bool, 
 #[test]
 fn a_log_has_one_owner(rt: HostRuntime) -> Result<(), Fail> {
     let name = Text::from_bytes(rt.alloc(), b"one_owner.log")?;
-    let mut first = FileStore::new(rt.alloc(), &rt, rt.stderr())?;
+    let mut first = FileStore::new(rt.alloc(), MachineDisk::new(&rt), rt.stderr())?;
     first.attach(&name).expect(&rt, "a name");
     assert!(rt; first.append(0, b"first").is_ok());
     let mut notes = [0u8; 128];
@@ -130,7 +130,7 @@ fn a_log_has_one_owner(rt: HostRuntime) -> Result<(), Fail> {
 #[test]
 fn a_moved_log_is_left_alone(rt: HostRuntime) -> Result<(), Fail> {
     let name = Text::from_bytes(rt.alloc(), b"moved.log")?;
-    let mut store = FileStore::new(rt.alloc(), &rt, rt.stderr())?;
+    let mut store = FileStore::new(rt.alloc(), MachineDisk::new(&rt), rt.stderr())?;
     store.attach(&name).expect(&rt, "a name");
     assert!(rt; store.append(0, b"kept").is_ok());
     fs::rename(&rt, "moved.log", "away.log")?;
@@ -152,7 +152,7 @@ fn a_moved_log_is_left_alone(rt: HostRuntime) -> Result<(), Fail> {
 #[test]
 fn a_log_that_another_wrote_to_is_left_alone(rt: HostRuntime) -> Result<(), Fail> {
     let name = Text::from_bytes(rt.alloc(), b"changed.log")?;
-    let mut store = FileStore::new(rt.alloc(), &rt, rt.stderr())?;
+    let mut store = FileStore::new(rt.alloc(), MachineDisk::new(&rt), rt.stderr())?;
     store.attach(&name).expect(&rt, "a name");
     assert!(rt; store.append(0, b"kept").is_ok());
     fs::write(&rt, "changed.log", "kept by another")?;

@@ -1,7 +1,7 @@
 // `ask` over stores in memory and files: what a log gains, what it gives back, and calls that fail.
 use super::ask::{asked_over, lines};
 use super::{Got, LOG};
-use cube_edge::FileStore;
+use cube_edge::{FileStore, MachineDisk};
 use cube_io::{Failing, MemStore, Reach, StopStore, Store};
 use cube_model::Text;
 use std::alloc::Global;
@@ -165,14 +165,14 @@ fn any_call_may_fail(rt: HostRuntime) -> Result<(), Fail> {
 // What the months get over files that stop behind so many calls.
 fn stopped(rt: &HostRuntime, calls: u64) -> Result<Got, Fail> {
     let alloc = rt.alloc();
-    let files = FileStore::new(alloc, rt, rt.stderr())?;
+    let files = FileStore::new(alloc, MachineDisk::new(rt), rt.stderr())?;
     asked_over(alloc, &lines(MONTHS), &mut StopStore::new(files, calls))
 }
 
 // What the areas get over the files that this leaves.
 fn reopened(rt: &HostRuntime) -> Result<Got, Fail> {
     let alloc = rt.alloc();
-    let mut files = FileStore::new(alloc, rt, rt.stderr())?;
+    let mut files = FileStore::new(alloc, MachineDisk::new(rt), rt.stderr())?;
     let got = asked_over(alloc, &lines(b"slice pay by region.area\n"), &mut files)?;
     fs::remove_file(rt, "log")?;
     Ok(got)

@@ -6,4 +6,4 @@ writes-init g c = written_none (g.W.Write.contents c.args.out.now) c.args.piece.
 
 pub writes-preserved : goal.writes-preserved
 writes-preserved g c =
-    rw c.behind-rest.ensures (written_more (g.W.Write.contents c.args.out.now) (g.W.Write.contents c.writes.out) (g.W.Write.contents c.write_some.new.out) c.args.piece.now c.writes.rest.now c.in_ok-count.count c.writes.invariant c.in_ok-count.ensures.bytes)
+    rw c.behind-rest.ensures (written_more (g.W.Write.contents c.args.out.now) (g.W.Write.contents c.writes.out) (g.W.Write.contents c.write_some.new.out) c.args.piece.now c.writes.rest.now c.in-Ok.count c.writes.invariant c.in-Ok.ensures.bytes)

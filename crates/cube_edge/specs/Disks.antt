@@ -1,0 +1,56 @@
+-- What a disk tells of its files, what its calls leave as it was, and which of its files are the logs of a store.
+use Rattle.std.specs.Prelude.{◌≡◌, ◌≢◌, ℕ, ◌^◌, ◌==◌, Bool, true, false, IsTrue, List, [], ◌++◌, None, if◌then◌else◌, nat_lt, codes, decimal}
+use Rattle.std.specs.declared.option.Option.{Option}
+use Rattle.cube_io.specs.Seen.{StoreState}
+use Rattle.cube_io.specs.States.{Log, IsWhole, settled}
+use Rattle.cube_io.specs.Whole.{whole_settled}
+
+-- Of a disk: whether it tells what it holds, the one name whose files it then tells, the names that it was asked for, the log in the file
+-- of each path, and the path that was last seen to stand for its open file.
+pub record DiskState : Type 0 where
+  pub told : Bool
+  pub name : List ℕ
+  pub names : List (List ℕ)
+  pub logs : List ℕ → Log
+  pub seen : Option (List ℕ)
+
+-- a call that changes no file, and asks for no name
+pub record Rests (old new : DiskState) : Type 0 where
+  pub told : new.told ≡ old.told
+  pub name : new.name ≡ old.name
+  pub names : new.names ≡ old.names
+  pub logs : IsTrue old.told → (path : List ℕ) → new.logs path ≡ old.logs path
+
+-- a call that changes no file but that of the path, and asks for no name
+pub record WorksAt (path : List ℕ) (old new : DiskState) : Type 0 where
+  pub told : new.told ≡ old.told
+  pub name : new.name ≡ old.name
+  pub names : new.names ≡ old.names
+  pub others : IsTrue old.told → (other : List ℕ) → other ≢ path → new.logs other ≡ old.logs other
+
+-- the path of a log: the name of log 0, or that name, a point and the number
+abbrev pub path_of : List ℕ → ℕ → List ℕ
+path_of name log = if log == 0 then name else name ++ codes "." ++ decimal log
+
+-- nothing, all of it on the disk
+abbrev pub no_log : Log
+no_log = record { state = settled []; trail = [] }
+
+-- the logs of the name, by their numbers of 32 bits
+abbrev pub logs_of : DiskState → ℕ → Log
+logs_of disk log = if nat_lt log (2 ^ 32) then disk.logs (path_of disk.name log) else no_log
+
+-- what a store tells whose logs are in the files of a disk
+abbrev pub store_over : ℕ → Bool → DiskState → StoreState
+store_over faults attached disk = record { faults = faults; attached = attached; told = disk.told; logs = logs_of disk; names = disk.names; calls = 0 }
+
+-- a disk that tells nothing
+abbrev pub silent_disk : DiskState
+silent_disk = record { told = false; name = []; names = []; logs = λ path. no_log; seen = None }
+
+pub logs_whole : (disk : DiskState) → ((path : List ℕ) → IsWhole (disk.logs path).state) → (log : ℕ) → IsWhole (logs_of disk log).state
+logs_whole disk whole log = by_number (nat_lt log (2 ^ 32))
+  where
+    by_number : (b : Bool) → IsWhole (if b then disk.logs (path_of disk.name log) else no_log).state
+    by_number true = whole (path_of disk.name log)
+    by_number false = whole_settled []

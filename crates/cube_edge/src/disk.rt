@@ -1,0 +1,139 @@
+// Files by their names, as a store of logs needs them.
+ghost use Rattle.std.specs.Prelude.{◌≡◌, ◌≤◌, ◌<◌, ◌^◌, ℕ, List, Option, Some, drop, length, IsTrue, IfOk, OnOk, OnErr, IsErrOf};
+ghost use Rattle.cube_io.specs.declared.faults.ReadFault.TheVariants as fault;
+ghost use Rattle.cube_io.specs.States.{IsWhole, Appended, Cut, Synced, shortened, settled};
+ghost use Rattle.cube_io.specs.Told.{AsksFor};
+ghost use Rattle.cube_edge.specs.Disks.{DiskState, Rests, WorksAt};
+
+use cube_io::{Failed, ReadFault};
+use cube_model::Text;
+use std::alloc::Global;
+use std::{fmt, io};
+
+/// Why a file is not worked on.
+#[derive(Drop)]
+pub enum Trouble {
+    /// The machine refused, for this reason.
+    Refused(io::Error),
+    /// It is a folder, a pipe or a device.
+    NoFile,
+    /// Another program has the lock.
+    InUse,
+    /// Its name stands for another file now, or for none.
+    Moved,
+    /// It is longer or shorter than this program left it.
+    Changed,
+}
+
+impl From<io::Error> for Trouble {
+    fn from(error: io::Error) -> Trouble {
+        Trouble::Refused(error)
+    }
+}
+
+impl fmt::Display for Trouble {
+    fn fmt<W: fmt::Write>(&self, f: &mut fmt::Formatter<W>) -> fmt::Result {
+        match self {
+            Trouble::Refused(error) => write!(f, "{error}"),
+            Trouble::NoFile => write!(f, "no regular file"),
+            Trouble::InUse => write!(f, "in use by another program"),
+            Trouble::Moved => write!(f, "moved or deleted"),
+            Trouble::Changed => write!(f, "changed by another program"),
+        }
+    }
+}
+
+/// How long a file is, in bytes, as this program left it.
+#[derive(Clone, Copy, Debug, PartialEq, Eq)]
+pub struct Extent {
+    /// So many bytes are surely in it.
+    pub length: u64,
+    /// So many more a call that failed may have left behind them.
+    pub loose: u64,
+}
+
+impl Extent {
+    /// Whether a file of this length is as this program left it.
+    pub fn allows(&self, length: u64) -> bool {
+        self.length <= length && length - self.length <= self.loose
+    }
+}
+
+/// Files by their names. Each is opened, locked and then worked on by the one who opened it. What stands under `told`
+/// holds where the disk tells what it holds; a file that isn't there is told as an empty log.
+pub trait Disk {
+    /// A file that was opened.
+    type Opened: Drop;
+
+    /// A file that was opened and locked, with its name on the disk. It is closed, and no longer locked, where it is let go.
+    type File: Drop;
+
+    /// What it tells of its files.
+    ghost state: { Self → DiskState };
+
+    /// The path by which a file was opened.
+    ghost place: { Self.File → List ℕ };
+
+    /// Takes the name of log 0. A disk that tells takes the one name whose files it tells, and no other.
+    fn attach(&mut self, name: &str) -> Result<(), Failed>
+        ensures told { (state self.new).told ≡ (state self.old).told }
+        ensures name { (state self.new).name ≡ (state self.old).name }
+        ensures logs { IsTrue (state self.old).told → (path : List ℕ) → (state self.new).logs path ≡ (state self.old).logs path }
+        ensures ok { IsTrue (state self.old).told → OnOk result (name.now ≡ (state self.old).name) }
+        ensures names { IsTrue (state self.old).told → AsksFor result (state self.old).names (state self.new).names name.now };
+
+    /// Opens a file to read it and to write at its end, and makes it where it isn't there. What is no regular file is refused.
+    fn open(&mut self, path: &str) -> Result<Self::Opened, Trouble>
+        ensures rests { Rests (state self.old) (state self.new) };
+
+    /// Locks a file until it is closed, however the program ends, and then puts its name on the disk.
+    fn lock(&mut self, file: Self::Opened, path: &str) -> Result<Self::File, Trouble>
+        ensures rests { Rests (state self.old) (state self.new) };
+
+    /// How many bytes a file has.
+    fn length(&mut self, file: &Self::File) -> Result<u64, Trouble>
+        ensures rests { Rests (state self.old) (state self.new) };
+
+    /// Sees that the path stands for the file, and that it is as this program left it.
+    fn look(&mut self, file: &Self::File, path: &str, left: Extent) -> Result<(), Trouble>
+        ensures rests { Rests (state self.old) (state self.new) }
+        ensures file { IsTrue (state self.old).told → OnOk result (place file.now ≡ path.now) }
+        ensures seen { IsTrue (state self.old).told → OnOk result ((state self.new).seen ≡ Some path.now) };
+
+    /// All the bytes of a file.
+    fn read(&mut self, file: &mut Self::File, alloc: Global) -> Result<Text, ReadFault>
+        requires { IsTrue (state self.old).told → (state self.old).seen ≡ Some (place file.old) }
+        ensures rests { Rests (state self.old) (state self.new) }
+        ensures bytes { IsTrue (state self.old).told → IfOk result (λ bytes. bytes ≡ ((state self.old).logs (place file.old)).state.now) }
+        ensures fits { IfOk result (λ bytes. length bytes ≤ 2 ^ 28) }
+        ensures long { IsTrue (state self.old).told → IsErrOf result fault.TooLong → 2 ^ 28 < length ((state self.old).logs (place file.old)).state.now };
+
+    /// Puts a front of a piece at the end of a file, and says how many bytes. A failed call leaves some front of it there.
+    fn write(&mut self, file: &mut Self::File, piece: &[u8]) -> Result<usize, Trouble>
+        requires { IsTrue (state self.old).told → (state self.old).seen ≡ Some (place file.old) }
+        ensures works { WorksAt (place file.old) (state self.old) (state self.new) }
+        ensures file { place file.new ≡ place file.old }
+        ensures seen { (state self.new).seen ≡ (state self.old).seen }
+        ensures bound { IfOk result (λ count. count ≤ length piece.now) }
+        ensures grows { IsTrue (state self.old).told → (unsaid : List ℕ) × IfOk result (λ count. unsaid ≡ drop count piece.now)
+            × Appended piece.now unsaid ((state self.old).logs (place file.old)) ((state self.new).logs (place file.old)) };
+
+    /// Cuts a file to a length that it has. A failed call leaves it as it was or cut.
+    fn cut(&mut self, file: &Self::File, len: u64) -> Result<(), Trouble>
+        requires seen { IsTrue (state self.old).told → (state self.old).seen ≡ Some (place file.now) }
+        requires within { IsTrue (state self.old).told → len ≤ length ((state self.old).logs (place file.now)).state.now }
+        ensures works { WorksAt (place file.now) (state self.old) (state self.new) }
+        ensures passes { IsTrue (state self.old).told → Cut len ((state self.old).logs (place file.now)) ((state self.new).logs (place file.now)) }
+        ensures done { IsTrue (state self.old).told → OnOk result (((state self.new).logs (place file.now)).state ≡ shortened ((state self.old).logs (place file.now)).state len) };
+
+    /// Puts on the disk all that a read of a file gives, and then looks once more: only where that went well, what was put
+    /// there stands behind the path.
+    fn sync(&mut self, file: &Self::File, path: &str, left: Extent) -> Result<(), Trouble>
+        ensures works { WorksAt path.now (state self.old) (state self.new) }
+        ensures passes { IsTrue (state self.old).told → Synced ((state self.old).logs path.now) ((state self.new).logs path.now) }
+        ensures done { IsTrue (state self.old).told → OnOk result (((state self.new).logs path.now).state ≡ settled ((state self.old).logs path.now).state.now) }
+        ensures failed { IsTrue (state self.old).told → OnErr result (((state self.new).logs path.now).state ≡ ((state self.old).logs path.now).state) };
+
+    /// What is safe, followed by some tail, is what a read gives.
+    ghost whole: { (disk : Self) (path : List ℕ) → IsTrue (state disk).told → IsWhole ((state disk).logs path).state };
+}
