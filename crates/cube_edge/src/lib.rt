@@ -1,7 +1,7 @@
 //! The real objects outside the program: standard input and output, the files of the machine, and its connections. Each
 //! counts its errors.
-//! What a reader or a writer tells of its bytes is told by the source or the sink over it; the folder, the store and the
-//! wire tell nothing.
+//! What a reader or a writer tells of its bytes is told by the source or the sink over it, and what a disk tells of its
+//! files by the store over it; the folder, the wire and the machine's disk tell nothing.
 #![tactic(auto)]
 
 mod disk;
