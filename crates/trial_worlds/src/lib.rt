@@ -7,6 +7,10 @@
 #[cfg(test)]
 mod connections;
 #[cfg(test)]
+mod files;
+#[cfg(test)]
 mod machine;
+#[cfg(test)]
+mod mem_disk;
 #[cfg(test)]
 mod memory;

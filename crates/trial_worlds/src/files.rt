@@ -1,0 +1,111 @@
+// A store in files, over a disk in memory whose calls fail.
+ghost use Rattle.std.specs.Prelude.{IsTrue, IfOk};
+
+use crate::mem_disk::MemDisk;
+use cube_edge::FileStore;
+use cube_io::{MemStore, Store};
+use cube_model::Text;
+use std::alloc::Global;
+use std::test::Fail;
+
+// A store over a disk with an empty file of the name `log`, which writes at most three bytes at once. The call of the disk
+// with this number fails.
+fn make_store<'a>(
+    alloc: Global,
+    failing: u64,
+    notes: &'a mut [u8],
+) -> Result<FileStore<MemDisk<MemStore>, &'a mut [u8]>, Fail>
+    ensures { IfOk result (λ store. IsTrue (⟦<FileStore<MemDisk<MemStore>, &'a mut [u8]> as Store>⟧.state store).attached) }
+{
+    let name = Text::from_bytes(alloc, b"log")?;
+    let log = MemStore::with_room(alloc, Vec::new(alloc), Vec::new(alloc), 64, 64)?;
+    let failing = vec![in alloc; failing]?;
+    let disk = MemDisk::new(alloc, log, Text::from_bytes(alloc, b"log")?, 3, failing)?;
+    let mut store = FileStore::new(alloc, disk, notes)?;
+    store.attach(&name)?;
+    Ok(store)
+}
+
+// Whether an append, a sync and another append go well.
+type Went = (bool, bool, bool);
+
+// How three calls go of which one may fail, and what then stands in the log.
+fn try_calls(alloc: Global, failing: u64, notes: &mut [u8]) -> Result<(Went, Text), Fail> {
+    let mut store = make_store(alloc, failing, notes)?;
+    let kept = store.append(0, b"kept\n").is_ok();
+    let synced = store.sync(0).is_ok();
+    let more = store.append(0, b"more").is_ok();
+    Ok(((kept, synced, more), store.read_all(alloc, 0)?))
+}
+
+#[test]
+fn a_call_that_fails_is_noted_and_the_next_goes_on(rt: HostRuntime) -> Result<(), Fail> {
+    // Attaching is call 0. Opening the file is three calls, the look is the next, and the piece is written in two.
+    let cases: &[(u64, Went, &[u8], &[u8]); 9] = &[
+        (1, (false, true, true), b"more", b"log: no storage space\n"),
+        (
+            2,
+            (false, true, true),
+            b"more",
+            b"log: in use by another program\n",
+        ),
+        (3, (false, true, true), b"more", b"log: no storage space\n"),
+        (4, (false, true, true), b"more", b"log: moved or deleted\n"),
+        (5, (false, true, true), b"more", b"log: no storage space\n"),
+        (
+            6,
+            (false, true, true),
+            b"kepmore",
+            b"log: no storage space\n",
+        ),
+        (
+            7,
+            (true, false, true),
+            b"kept\nmore",
+            b"log: no storage space\n",
+        ),
+        (
+            8,
+            (true, true, false),
+            b"kept\n",
+            b"log: moved or deleted\n",
+        ),
+        (64, (true, true, true), b"kept\nmore", b"\0"),
+    ];
+    for (failing, went, text, note) in cases {
+        let mut notes = [0u8; 64];
+        let got = try_calls(rt.alloc(), *failing, &mut notes)?;
+        assert_eq!(rt; got.0, *went);
+        assert_eq!(rt; got.1.as_slice(), *text);
+        assert!(rt; notes.starts_with(note));
+    }
+    Ok(())
+}
+
+// Reads a log, and cuts off what stands behind so many bytes.
+fn cut_behind<S: Store>(store: &mut S, alloc: Global, len: usize) -> bool
+    requires { IsTrue (S.state store.old).attached }
+    ensures { IsTrue (S.state store.new).attached }
+{
+    match store.read_all(alloc, 0) {
+        Ok(text) => len <= text.len() && store.cut(0, len as u64).is_ok(),
+        Err(_) => false,
+    }
+}
+
+#[test]
+fn a_log_is_cut_and_opened_again(rt: HostRuntime) -> Result<(), Fail> {
+    let alloc = rt.alloc();
+    let mut notes = [0u8; 64];
+    // The append is six calls, the read two, and of the cut the look is one.
+    let mut store = make_store(alloc, 10, &mut notes)?;
+    assert!(rt; store.append(0, b"keptor").is_ok());
+    assert!(rt; !cut_behind(&mut store, alloc, 4));
+    assert!(rt; cut_behind(&mut store, alloc, 4));
+    assert!(rt; store.attach(&Text::from_bytes(alloc, b"other")?).is_err());
+    assert!(rt; store.attach(&Text::from_bytes(alloc, b"log")?).is_ok());
+    assert_eq!(rt; store.read_all(alloc, 0)?.as_slice(), b"kept".as_slice());
+    drop(store);
+    assert!(rt; notes.starts_with(b"log: no storage space\n\0"));
+    Ok(())
+}
