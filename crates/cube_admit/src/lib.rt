@@ -1,7 +1,6 @@
 //! The history of a cube and the verdicts behind it: which requests are answered, and which enter.
 #![tactic(auto)]
 
-mod copies;
 mod held;
 mod parity;
 mod source;

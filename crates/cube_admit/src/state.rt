@@ -22,7 +22,6 @@ ghost use Rattle.cube_admit.specs.declared.held.Next.TheVariants as next;
 ghost use Rattle.cube_admit.specs.declared.held.Held.TheVariants as kinds;
 ghost use Rattle.cube_source.specs.Judged.{judged_of};
 
-use crate::copies::copy_request;
 use crate::parity::judge_held;
 use crate::source::{Step, step_at};
 use crate::{Held, Next, Pending};
@@ -287,7 +286,7 @@ impl State {
         ensures none { OnErr result (self.new.pending ≡ self.old.pending) }
     {
         self.history.reserve(1)?;
-        let request = copy_request(alloc, request)?;
+        let request = request.copied(alloc)?;
         self.pending = Some(Pending {
             request,
             measure,
@@ -403,7 +402,7 @@ impl State {
         let _rules = core.dims();
         let rows = core.rows(alloc, request)?;
         let links = links(alloc, &rows)?;
-        let request = copy_request(alloc, request)?;
+        let request = request.copied(alloc)?;
         self.history.reserve(1)?;
         let asked = self.asked;
         let (verdict, mark) = judge_at(alloc, &mut self.held, measure, asked, &links)?;

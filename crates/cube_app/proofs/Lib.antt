@@ -1,4 +1,5 @@
 pub mod Worlds
 pub mod Lives
 pub mod Ordered
+mod Statuses
 pub mod TwinFiles

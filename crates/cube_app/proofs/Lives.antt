@@ -18,8 +18,8 @@ use Rattle.cube_talk.specs.Asks.{rooms_behind}
 use Rattle.cube_talk.specs.Moments.{Moment, moment}
 use Rattle.cube_talk.specs.declared.talk.TalkEnd.{TalkEnd}
 use Rattle.cube_talk.specs.Crashes.{IsOnTheWay, IsPassed, TalkedOver}
-use Rattle.cube_starting.specs.Starting.{IsBetween, Survived}
-use Rattle.cube_starting.proofs.Started.{exact_of, within_of, begun}
+use Rattle.cube_serving.specs.Starting.{IsBetween, Survived}
+use Rattle.cube_serving.proofs.Started.{exact_of, within_of, begun}
 use Rattle.cube_app.proofs.Worlds.{behind_grows, behind_more}
 
 -- ---- the log while the lines are answered

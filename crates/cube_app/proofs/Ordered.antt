@@ -7,8 +7,9 @@ use Rattle.cube_opening.specs.Reports.{IsReport, NoRoom}
 use Rattle.cube_opening.specs.declared.report.Report.{Report}
 use Rattle.cube_words.specs.declared.ordered.Orders.{Orders}
 use Rattle.cube_words.specs.declared.words.Usage.{Usage}
-use Rattle.cube_app.specs.Runs.{Outside, Obeyed, Untouched, Runs}
+use Rattle.cube_app.specs.Runs.{Outside, Obeyed, Untouched, CalmStatus, Runs}
 use Rattle.cube_app.specs.Texts.{usage_text}
+use Rattle.cube_app.proofs.Statuses.{calm_end}
 
 -- what was obeyed, by another name of the orders
 pub obeyed_as : {F S I O W : Type 0} {objects : Outside F S I O W} {r : Report} (o o' : Orders) → o ≡ o' → Obeyed o' objects r → Obeyed o objects r
@@ -22,15 +23,23 @@ each_err : {T E : Type 0} (r : Result T E) (P : E → Type 0) → ((e : E) → P
 each_err (Ok x) P f = tt
 each_err (Err e) P f = f e
 
+no_memory : {n : ℕ} → n ≡ 7 → CalmStatus n
+no_memory e = inr (inr (inr (inr (inl e))))
+
 -- nothing is done where there is no memory to begin
 pub not_begun : {F S I O W : Type 0} {objects : Outside F S I O W} {r : Report} (words : List (List ℕ)) (given : Result Orders Usage) → NoRoom r → Untouched objects → Runs words given objects r
 not_begun {F} {S} {I} {O} {W} {objects} {r} words given none same = record {
   refused = each_err given (λ usage. (IsReport 2 (usage_text words usage) r ⊎ NoRoom r) × Untouched objects) (λ usage. (inr none, same));
   obeyed = each_ok given (λ orders. Obeyed orders objects r ⊎ (NoRoom r × Untouched objects)) (λ orders. inr (none, same));
+  calm = λ calm. no_memory none.0;
 }
 
 pub refused_as : {F S I O W : Type 0} {objects : Outside F S I O W} {r : Report} (words : List (List ℕ)) (given : Result Orders Usage) (usage : Usage) → Err usage ≡ given → IsReport 2 (usage_text words usage) r ⊎ NoRoom r → Untouched objects → Runs words given objects r
-refused_as {F} {S} {I} {O} {W} {objects} {r} words given usage is told same = subst (λ (x : Result Orders Usage). Runs words x objects r) is (record { refused = (told, same); obeyed = tt })
+refused_as {F} {S} {I} {O} {W} {objects} {r} words given usage is told same = subst (λ (x : Result Orders Usage). Runs words x objects r) is (record { refused = (told, same); obeyed = tt; calm = λ calm. wrong told })
+  where
+    wrong : IsReport 2 (usage_text words usage) r ⊎ NoRoom r → CalmStatus r.status
+    wrong (inl e) = inr (inl e.0)
+    wrong (inr e) = no_memory e.0
 
 pub run_as : {F S I O W : Type 0} {objects : Outside F S I O W} {r : Report} (words : List (List ℕ)) (given : Result Orders Usage) (orders : Orders) → Ok orders ≡ given → Obeyed orders objects r → Runs words given objects r
-run_as {F} {S} {I} {O} {W} {objects} {r} words given orders is done = subst (λ (x : Result Orders Usage). Runs words x objects r) is (record { refused = tt; obeyed = inl done })
+run_as {F} {S} {I} {O} {W} {objects} {r} words given orders is done = subst (λ (x : Result Orders Usage). Runs words x objects r) is (record { refused = tt; obeyed = inl done; calm = calm_end orders objects r done })

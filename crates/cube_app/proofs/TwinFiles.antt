@@ -23,7 +23,7 @@ use Rattle.cube_witness.proofs.Carried.{twins_read_back}
 use Rattle.cube_witness.proofs.Spreads.{moves_are_changes}
 use Rattle.cube_engine.specs.Headline.{twin_by}
 use Rattle.cube_engine.specs.Steps.{manner}
-use Rattle.cube_opening.specs.Opening.{dims_said, facts_said, policy_said, core_in, faulted, unless_long, fault_text, Says}
+use Rattle.cube_opening.specs.Opening.{dims_said, facts_said, policy_said, core_in, faulted, unless_long, fault_text, FileSays}
 use Rattle.cube_opening.proofs.Accepted.{under_both, says_one}
 use Rattle.cube_talk.specs.Asks as talked
 use Rattle.cube_talk.specs.Asks.{Talk}
@@ -81,12 +81,12 @@ read_back core core' policy h is_core lt within e =
 makes_twin : (a b : Loaded) (h : Hidden) → IsCore a.core → h.measure < length a.core.dims.measures → AreTwins a b h → b.core ≡ with_cube a.core (cube_with a.core a.policy h)
 makes_twin a b h is_core lt twins =
     let bytes = facts_text a.core.dims a.core.shape (cube_with a.core a.policy h) in
-    under_both (λ s. Says (facts_said s) a.cube.facts a.known (Ok a.core)) (λ s. Says (facts_said s) b.cube.facts b.known (Ok b.core)) (b.core ≡ with_cube a.core (cube_with a.core a.policy h))
+    under_both (λ s. FileSays (facts_said s) a.cube.facts a.known (Ok a.core)) (λ s. FileSays (facts_said s) b.cube.facts b.known (Ok b.core)) (b.core ≡ with_cube a.core (cube_with a.core a.policy h))
     (λ s p q.
     let is : a.core.dims ≡ s = dims_of_core s a.core (file_of a.known a.cube.facts) p in
     let said : facts_said s bytes ≡ Ok b.core = said_of (file_of b.known b.cube.facts) bytes (λ x. facts_said s x ≡ Ok b.core) twins.facts q in
     read_back a.core b.core a.policy h is_core lt twins.within (subst (λ (x : Dims). facts_said x bytes ≡ Ok b.core) (sym is) said))
-    (file_of a.known a.cube.dims) a.makes.0 (subst (λ (o : Option (List ℕ)). IsSomeAnd o (λ x. IsOkAnd (dims_said x) (λ s. Says (facts_said s) b.cube.facts b.known (Ok b.core)))) twins.dims b.makes.0)
+    (file_of a.known a.cube.dims) a.makes.0 (subst (λ (o : Option (List ℕ)). IsSomeAnd o (λ x. IsOkAnd (dims_said x) (λ s. FileSays (facts_said s) b.cube.facts b.known (Ok b.core)))) twins.dims b.makes.0)
 
 -- a world by its values
 abbrev world_by : Core → Policy → ℕ → List ℤ → World
@@ -96,7 +96,7 @@ pub twin_files_make_twins : TwinFilesMakeTwins
 twin_files_make_twins a b h is_core lt twins =
     let made : b.core ≡ with_cube a.core (cube_with a.core a.policy h) = makes_twin a b h is_core lt twins in
     let dims : b.core.dims ≡ a.core.dims = ap (λ (c : Core). c.dims) made in
-    let under = subst (λ (s : Dims). Says (policy_said s) b.cube.policy b.known (Ok b.policy)) dims b.makes.1 in
+    let under = subst (λ (s : Dims). FileSays (policy_said s) b.cube.policy b.known (Ok b.policy)) dims b.makes.1 in
     let same : b.policy ≡ a.policy = says_one (policy_said a.core.dims) b.policy a.policy (file_of a.known a.cube.policy) (subst (λ (o : Option (List ℕ)). IsSomeAnd o (λ bytes. policy_said a.core.dims bytes ≡ Ok b.policy)) twins.policies under) a.makes.1 in
     let g = shown a.core a.policy in
     let signs = moves_are_changes g (changes g h.last h.measure h.cell) (length-changes g h.last h.measure h.cell) in

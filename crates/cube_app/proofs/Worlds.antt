@@ -1,9 +1,7 @@
 -- Over a world with the changes for a protected cell the same talk is written.
-use Rattle.std.proofs.Common.{◌≡◌, ◌∙◌, refl, sym, ap, subst, ℕ, zero, suc, true, false, List, [], ◌∷◌, ◌++◌, length, append-nil, inl, inr}
+use Rattle.std.proofs.Common.{◌≡◌, ◌∙◌, refl, sym, ap, subst, ℕ, zero, suc, false, List, [], ◌∷◌, ◌++◌, length, append-nil, inl, inr}
 use Rattle.std.specs.declared.option.Option.{Option}
-use Rattle.std.specs.List.{starts_with}
-use Rattle.std.specs.Prelude.{codes, nat_eq, if◌then◌else◌}
-use Rattle.std.specs.Str.{bytes_eq}
+use Rattle.std.specs.Prelude.{if◌then◌else◌}
 use Rattle.std.specs.Str.Lines.{lines}
 use Rattle.cube_model.specs.declared.cell.Cell.{Cell}
 use Rattle.cube_model.specs.declared.entry.Entry.{Entry}
@@ -23,9 +21,9 @@ use Rattle.cube_model.proofs.Growth.{extends_refl, extends_trans}
 use Rattle.std.specs.Io.KnownBytes.{Appends}
 use Rattle.cube_io.specs.Content.{AppendsPrefix}
 use Rattle.cube_io.specs.Desks.{Manner}
-use Rattle.cube_engine.specs.Steps.{manner, next_in, reply_in, inner_history, inner_of}
+use Rattle.cube_engine.specs.Steps.{manner}
 use Rattle.cube_engine.specs.Worlds.{first_history}
-use Rattle.cube_engine.proofs.Worlds.{room_open, other_sum, inner_grows, inner_stays}
+use Rattle.cube_engine.proofs.Worlds.{Reads, texts_read, room_open, other_sum, behind_ask, next_alone, ask_grows, ask_stays}
 use Rattle.cube_talk.specs.AskLaws.{by_test, said_long, said_one, rooms_long, rooms_one, rooms_append}
 use Rattle.cube_talk.specs.Asks.{is_too_long, too_large, ask_of, asks_in, said, rooms_behind, up_to_asks, talk, Talk, Says, Talked}
 use Rattle.cube_talk.specs.Lines.{ended_lines, open_line}
@@ -38,20 +36,12 @@ use Rattle.cube_talk.specs.declared.talk.Ending.TheVariants.{Ended, InputFailed,
 
 -- ---- the history behind a line
 
--- a line asks no group
 abbrev next_of : Dims → World → List Entry → List ℕ → Outcome → List Entry
-next_of s w h line o = inner_history o s w.shown h (inner_of (ask_of line))
-
-next_line : (s : Dims) (w : World) (h : List Entry) (line : List ℕ) (o : Outcome) → next_in s (alone w h) (ask_of line) o ≡ alone w (next_of s w h line o)
-next_line s w h line o = by_test (bytes_eq line (codes "shape"))
-    (λ shape. rw shape refl)
-    (λ other. by_test (starts_with nat_eq line (codes "witness "))
-    (λ witness. rw (other, witness) refl)
-    (λ query. rw (other, query) refl))
+next_of s w h line o = behind_ask s w.shown h (ask_of line) o
 
 -- lines of which the first is an ask
 line_one : (s : Dims) (w : World) (h : List Entry) (line : List ℕ) (rest : List (List ℕ)) (o : Outcome) (os : List Outcome) → is_too_long line ≡ false → rooms_behind (manner s) (alone w h) (line ∷ rest) (o ∷ os) ≡ rooms_behind (manner s) (alone w (next_of s w h line o)) rest os
-line_one s w h line rest o os short = rooms_one (manner s) (alone w h) line rest o os short ∙ ap (λ (rs : List Room). rooms_behind (manner s) rs rest os) (next_line s w h line o)
+line_one s w h line rest o os short = rooms_one (manner s) (alone w h) line rest o os short ∙ ap (λ (rs : List Room). rooms_behind (manner s) rs rest os) (next_alone s w h (ask_of line) o)
 
 -- ---- the history behind some lines
 
@@ -69,10 +59,10 @@ behind_keeps P s w step h (line ∷ rest) (o ∷ os) p = by_test (is_too_long li
     (λ short. subst (λ (rs : List Room). P (first_history rs)) (sym (line_one s w h line rest o os short)) (behind_keeps P s w step (next_of s w h line o) rest os (step h line o p)))
 
 pub behind_grows : (s : Dims) (w : World) (h : List Entry) (ls : List (List ℕ)) (os : List Outcome) → Extends h (behind s w h ls os)
-behind_grows s w h ls os = behind_keeps (λ (k : List Entry). Extends h k) s w (λ k line o more. extends_trans h k (next_of s w k line o) more (inner_grows s w.shown k (inner_of (ask_of line)) o)) h ls os (extends_refl h)
+behind_grows s w h ls os = behind_keeps (λ (k : List Entry). Extends h k) s w (λ k line o more. extends_trans h k (next_of s w k line o) more (ask_grows s w.shown k (ask_of line) o)) h ls os (extends_refl h)
 
 behind_stays : (s : Dims) (w : World) (h : List Entry) (ls : List (List ℕ)) (os : List Outcome) → IsAdmissible w.shown h → IsAdmissible w.shown (behind s w h ls os)
-behind_stays s w h ls os adm = behind_keeps (IsAdmissible w.shown) s w (λ k line o adm. inner_stays s w.shown k (inner_of (ask_of line)) o adm) h ls os adm
+behind_stays s w h ls os adm = behind_keeps (IsAdmissible w.shown) s w (λ k line o adm. ask_stays s w.shown k (ask_of line) o adm) h ls os adm
 
 extends_by : (a a' b b' : List Room) → a ≡ a' → b ≡ b' → Extends (first_history a') (first_history b') → Extends (first_history a) (first_history b)
 extends_by a a' b b' e f x = subst (λ (rs : List Room). Extends (first_history rs) (first_history b)) (sym e) (subst (λ (rs : List Room). Extends (first_history a') (first_history rs)) (sym f) x)
@@ -94,32 +84,32 @@ behind_more s w h (line ∷ rest) more (o ∷ os) = by_test (is_too_long line)
 
 -- ---- what is said to them
 
-said_open : (s : Dims) (w : World) (h last : List Entry) (ls : List (List ℕ)) (os : List Outcome) (m : ℕ) (t : Cell) → IsWorld w → IsAdmissible w.shown last → Extends (behind s w h ls os) last → IsIn t (protected w.shown m)
+said_open : (s : Dims) (w : World) (h last : List Entry) (ls : List (List ℕ)) (os : List Outcome) (m : ℕ) (t : Cell) → IsWorld w → Reads s w.shown → IsAdmissible w.shown last → Extends (behind s w h ls os) last → IsIn t (protected w.shown m)
     → said (manner s) (alone (twin w m (changes w.shown last m t)) h) ls os ≡ said (manner s) (alone w h) ls os
-said_open s w h last [] os m t ok adm ext within = refl
-said_open s w h last (line ∷ rest) [] m t ok adm ext within = by_test (is_too_long line)
+said_open s w h last [] os m t ok reads adm ext within = refl
+said_open s w h last (line ∷ rest) [] m t ok reads adm ext within = by_test (is_too_long line)
     (λ long. let v = twin w m (changes w.shown last m t) in
     said_long (manner s) (alone v h) line rest [] long
-    ∙ ap (λ (text : List ℕ). too_large ++ text) (said_open s w h last rest [] m t ok adm (subst (λ (rs : List Room). Extends (first_history rs) last) (rooms_long (manner s) (alone w h) line rest [] long) ext) within)
+    ∙ ap (λ (text : List ℕ). too_large ++ text) (said_open s w h last rest [] m t ok reads adm (subst (λ (rs : List Room). Extends (first_history rs) last) (rooms_long (manner s) (alone w h) line rest [] long) ext) within)
     ∙ sym (said_long (manner s) (alone w h) line rest [] long))
     (λ short. rw short refl)
-said_open s w h last (line ∷ rest) (o ∷ os) m t ok adm ext within = by_test (is_too_long line)
+said_open s w h last (line ∷ rest) (o ∷ os) m t ok reads adm ext within = by_test (is_too_long line)
     (λ long. let v = twin w m (changes w.shown last m t) in
     said_long (manner s) (alone v h) line rest (o ∷ os) long
-    ∙ ap (λ (text : List ℕ). too_large ++ text) (said_open s w h last rest (o ∷ os) m t ok adm (subst (λ (rs : List Room). Extends (first_history rs) last) (rooms_long (manner s) (alone w h) line rest (o ∷ os) long) ext) within)
+    ∙ ap (λ (text : List ℕ). too_large ++ text) (said_open s w h last rest (o ∷ os) m t ok reads adm (subst (λ (rs : List Room). Extends (first_history rs) last) (rooms_long (manner s) (alone w h) line rest (o ∷ os) long) ext) within)
     ∙ sym (said_long (manner s) (alone w h) line rest (o ∷ os) long))
     (λ short.
     let v = twin w m (changes w.shown last m t) in
     let next = next_of s w h line o in
     let there : Extends (behind s w next rest os) last = subst (λ (rs : List Room). Extends (first_history rs) last) (line_one s w h line rest o os short) ext in
     let behind_it : Extends next last = extends_trans next (behind s w next rest os) last (behind_grows s w next rest os) there in
-    let first = room_open s w h last (ask_of line) o m t ok adm (subst (λ (rs : List Room). Extends (first_history rs) last) (sym (next_line s w h line o)) behind_it) within in
-    let more = ap (λ (rs : List Room). said (manner s) rs rest os) (next_line s v h line o)
-    ∙ said_open s w next last rest os m t ok adm there within
-    ∙ sym (ap (λ (rs : List Room). said (manner s) rs rest os) (next_line s w h line o)) in
+    let first = room_open s w h last (ask_of line) o m t ok reads adm behind_it within in
+    let more = ap (λ (rs : List Room). said (manner s) rs rest os) (next_alone s v h (ask_of line) o)
+    ∙ said_open s w next last rest os m t ok reads adm there within
+    ∙ sym (ap (λ (rs : List Room). said (manner s) rs rest os) (next_alone s w h (ask_of line) o)) in
     said_one (manner s) (alone v h) line rest o os short
-    ∙ ap (λ r. reply_text r ++ said (manner s) (next_in s (alone v h) (ask_of line) o) rest os) first
-    ∙ ap (λ (text : List ℕ). reply_text (reply_in s (alone w h) (ask_of line) o) ++ text) more
+    ∙ ap (λ r. reply_text r ++ said (manner s) ((manner s).next (alone v h) (ask_of line) o) rest os) first
+    ∙ ap (λ (text : List ℕ). reply_text ((manner s).reply (alone w h) (ask_of line) o) ++ text) more
     ∙ sym (said_one (manner s) (alone w h) line rest o os short))
 
 -- ---- the history behind the lines that were answered
@@ -172,19 +162,19 @@ ended_grow s w h stated text first more os split matched =
 
 -- ---- what was written
 
-talk_open : (s : Dims) (w : World) (h last : List Entry) (ls : List (List ℕ)) (os : List Outcome) (stated m : ℕ) (t : Cell) → IsWorld w → IsAdmissible w.shown last → Extends (history_behind s w h stated ls os) last → IsIn t (protected w.shown m)
+talk_open : (s : Dims) (w : World) (h last : List Entry) (ls : List (List ℕ)) (os : List Outcome) (stated m : ℕ) (t : Cell) → IsWorld w → Reads s w.shown → IsAdmissible w.shown last → Extends (history_behind s w h stated ls os) last → IsIn t (protected w.shown m)
     → talk (manner s) (alone (twin_by w last m t) h) ls os stated ≡ talk (manner s) (alone w h) ls os stated
-talk_open s w h last ls os stated m t ok adm ext within = said_open s w h last (up_to_asks stated ls) os m t ok adm ext within
+talk_open s w h last ls os stated m t ok reads adm ext within = said_open s w h last (up_to_asks stated ls) os m t ok reads adm ext within
 
-says_open : (s : Dims) (w : World) (h last : List Entry) (ending : Ending) (stated : ℕ) (os : List Outcome) (text : List ℕ) (old new : Option (List ℕ)) (m : ℕ) (t : Cell) → IsWorld w → IsAdmissible w.shown last
+says_open : (s : Dims) (w : World) (h last : List Entry) (ending : Ending) (stated : ℕ) (os : List Outcome) (text : List ℕ) (old new : Option (List ℕ)) (m : ℕ) (t : Cell) → IsWorld w → Reads s w.shown → IsAdmissible w.shown last
     → Extends (history_behind s w h stated (lines text) os) last → Extends (history_behind s w h stated (ended_lines text) os) last → IsIn t (protected w.shown m)
     → Says ending (manner s) (alone w h) stated os text old new → Says ending (manner s) (alone (twin_by w last m t) h) stated os text old new
-says_open s w h last Ended stated os text old new m t ok adm all ended within says = (says.0, says.1, says.2, subst (Appends old new) (sym (talk_open s w h last (lines text) os stated m t ok adm all within)) says.3)
-says_open s w h last InputFailed stated os text old new m t ok adm all ended within says = (says.0, says.1, says.2, subst (Appends old new) (sym (talk_open s w h last (ended_lines text) os stated m t ok adm ended within)) says.3)
-says_open s w h last OutputFailed stated os text old new m t ok adm all ended within says = subst (AppendsPrefix old new) (sym (talk_open s w h last (lines text) os stated m t ok adm all within)) says
-says_open s w h last NoMemory stated os text old new m t ok adm all ended within says = absurd says
-says_open s w h last Spent stated os text old new m t ok adm all ended within (inl some) = inl (some.0, some.1, subst (Appends old new) (sym (talk_open s w h last (lines text) os stated m t ok adm all within)) some.2)
-says_open s w h last Spent stated os text old new m t ok adm all ended within (inr full) = inr (full.0, full.1, full.2, subst (Appends old new) (sym (talk_open s w h last (ended_lines text) os stated m t ok adm ended within)) full.3)
+says_open s w h last Ended stated os text old new m t ok reads adm all ended within says = (says.0, says.1, says.2, subst (Appends old new) (sym (talk_open s w h last (lines text) os stated m t ok reads adm all within)) says.3)
+says_open s w h last InputFailed stated os text old new m t ok reads adm all ended within says = (says.0, says.1, says.2, subst (Appends old new) (sym (talk_open s w h last (ended_lines text) os stated m t ok reads adm ended within)) says.3)
+says_open s w h last OutputFailed stated os text old new m t ok reads adm all ended within says = subst (AppendsPrefix old new) (sym (talk_open s w h last (lines text) os stated m t ok reads adm all within)) says
+says_open s w h last NoMemory stated os text old new m t ok reads adm all ended within says = absurd says
+says_open s w h last Spent stated os text old new m t ok reads adm all ended within (inl some) = inl (some.0, some.1, subst (Appends old new) (sym (talk_open s w h last (lines text) os stated m t ok reads adm all within)) some.2)
+says_open s w h last Spent stated os text old new m t ok reads adm all ended within (inr full) = inr (full.0, full.1, full.2, subst (Appends old new) (sym (talk_open s w h last (ended_lines text) os stated m t ok reads adm ended within)) full.3)
 
 pub hides : {I O : Type 0} (core : Core) (policy : Policy) (h : List Entry) (talk : Talk) (input : Seen SourceState I) (out : Seen SinkState O) → IsCore core → IsPolicy core.dims policy → IsAdmissible (shown core policy) h
     → (talked : Talked (manner core.dims) (alone (world core policy) h) talk input out)
@@ -202,7 +192,7 @@ hides core policy h talk input out is_core is_policy adm talked =
           let all = extends_trans (history_behind s w h talk.stated (lines talked.text) os) last later (all_grow s w h talk.stated talked.text talked.first talked.more os talked.split talked.matched) ext in
           let ended = extends_trans (history_behind s w h talk.stated (ended_lines talked.text) os) last later (ended_grow s w h talk.stated talked.text talked.first talked.more os talked.split talked.matched) ext in
           record {
-            same = says_open s w h later talk.ending talk.stated os talked.text out.before.written out.after.written m t ok good all ended within talked.says;
+            same = says_open s w h later talk.ending talk.stated os talked.text out.before.written out.after.written m t ok (texts_read core policy is_core is_policy) good all ended within talked.says;
             other_sum = other_sum w later m t ok good within;
           };
     }

@@ -10,10 +10,10 @@ use Rattle.cube_io.specs.Seen.{FolderState, SinkState, StoreState, Seen, Unused}
 use Rattle.cube_engine.specs.Changes.{changes_for, text_of, twin_for}
 use Rattle.cube_engine.specs.Kept.{history_of, IsExact}
 use Rattle.cube_opening.specs.Opening.{IsSteady, EndsUnopened, Make, AsksAll, HasAll}
-use Rattle.cube_opening.specs.Reports.{IsReport, NoRoom, Prints}
+use Rattle.cube_opening.specs.Reports.{IsReport, IsDone, NoRoom, Prints}
 use Rattle.cube_opening.specs.declared.cube_files.CubeFiles.{CubeFiles}
 use Rattle.cube_opening.specs.declared.report.Report.{Report}
-use Rattle.cube_starting.specs.Starting.{EndsUnstarted, Recovers, HasJournal}
+use Rattle.cube_serving.specs.Starting.{EndsUnstarted, Recovers, HasJournal}
 use Rattle.cube_app.specs.Ends.{AsksJournal}
 
 -- the fact file of the twin, or the changes in words; or the status and the line that say why there is none
@@ -43,14 +43,22 @@ abbrev pub HasCell : Bool → CubeFiles → List ℕ → FolderState → StoreSt
 HasCell is_twin cube cell files store =
     (core : Core) (policy : Policy) (h : List Entry) → Make cube files core policy → history_of core policy (store.logs 0).state.now ≡ Ok h → IsOk (cell_text is_twin core policy h cell)
 
--- All that `witness` and `twin` do with these files, this journal and this cell. Where the cell is not told, nothing is put. Where the files,
--- the journal and the cell are accepted and no count rose, all was done, or memory ran out.
+-- a run of `witness` or `twin` ends at a file or at the journal, or it tells the cell
+abbrev pub CellEnds : {F S O : Type 0} → Bool → CubeFiles → List ℕ → Seen FolderState F → Seen StoreState S → Seen SinkState O → Report → Type 0
+CellEnds is_twin cube cell files store out r =
+    (EndsUnopened cube files r × Unused store × Unused out)
+    ⊎ (EndsUnstarted cube files.before store r × IsSteady files × Unused out)
+    ⊎ (Told is_twin cube cell files.before store out r × IsSteady files)
+
+-- where the files, the journal and the cell are accepted and no count rose, all is done
+abbrev pub CellCompletes : {F S O : Type 0} → Bool → CubeFiles → List ℕ → Seen FolderState F → Seen StoreState S → Seen SinkState O → Report → Type 0
+CellCompletes is_twin cube cell files store out r = HasAll cube files.before → HasJournal cube files.before store.before → HasCell is_twin cube cell files.before store.before
+    → ¬ Rose files.before.faults files.after.faults → ¬ Rose store.before.faults store.after.faults → ¬ Rose out.before.faults out.after.faults → IsDone r
+
+-- All that `witness` and `twin` do with these files, this journal and this cell. Where the cell is not told, nothing is put.
 pub record CellRun {F S O : Type 0} (is_twin : Bool) (cube : CubeFiles) (journal cell : List ℕ) (files : Seen FolderState F) (store : Seen StoreState S) (out : Seen SinkState O) (r : Report) : Type 0 where
-  pub answers : (EndsUnopened cube files r × Unused store × Unused out)
-      ⊎ (EndsUnstarted cube files.before store r × IsSteady files × Unused out)
-      ⊎ (Told is_twin cube cell files.before store out r × IsSteady files)
+  pub answers : CellEnds is_twin cube cell files store out r
   pub asks : AsksAll cube files r
   pub named : AsksJournal journal store r
   pub few_calls : IsTrue store.before.told → store.after.calls ≤ store.before.calls + 7
-  pub complete : HasAll cube files.before → HasJournal cube files.before store.before → HasCell is_twin cube cell files.before store.before
-      → ¬ Rose files.before.faults files.after.faults → ¬ Rose store.before.faults store.after.faults → ¬ Rose out.before.faults out.after.faults → (r.status ≡ 0) ⊎ (r.status ≡ 7)
+  pub complete : CellCompletes is_twin cube cell files store out r

@@ -1,5 +1,5 @@
 -- All that `demo` does.
-use Rattle.std.specs.Prelude.{◌≡◌, ◌⊎◌, ℕ, List, [], codes}
+use Rattle.std.specs.Prelude.{◌⊎◌, [], codes}
 use Rattle.cube_demo.specs.Reading.{Prints, PrintsPart, HasUnread}
 use Rattle.cube_io.specs.Seen.{SinkState, Seen, Unused}
 use Rattle.cube_opening.specs.Reports.{IsReport, NoRoom}

@@ -73,6 +73,21 @@ pub record Obeyed {F S I O W : Type 0} (orders : Orders) (objects : Outside F S 
   pub ordered : r.status ≢ 2
   pub others : OthersStay 0 objects.store.before objects.store.after
 
+-- ---- where nothing outside failed
+
+-- no count of faults rose
+pub record IsCalm {F S I O W : Type 0} (objects : Outside F S I O W) : Type 0 where
+  pub files : ¬ Rose objects.files.before.faults objects.files.after.faults
+  pub store : ¬ Rose objects.store.before.faults objects.store.after.faults
+  pub input : ¬ Rose objects.input.before.faults objects.input.after.faults
+  pub out : ¬ Rose objects.out.before.faults objects.out.after.faults
+  pub wire : ¬ Rose objects.wire.before.faults objects.wire.after.faults
+
+-- the statuses of a run where none rose: all was done, the words are wrong, a file or a cell is refused, or the journal, memory ran out, or
+-- as much was taken as is taken at most
+abbrev pub CalmStatus : ℕ → Type 0
+CalmStatus n = (n ≡ 0) ⊎ (n ≡ 2) ⊎ (n ≡ 3) ⊎ (n ≡ 4) ⊎ (n ≡ 7) ⊎ (n ≡ 10)
+
 -- ---- the whole
 
 -- nothing was used
@@ -80,7 +95,9 @@ abbrev pub Untouched : {F S I O W : Type 0} → Outside F S I O W → Type 0
 Untouched objects = Unused objects.files × Unused objects.store × Unused objects.input × Unused objects.out × Unused objects.wire
 
 -- The words give these orders, or this is wrong with them. Wrong words are told with status 2 and nothing else is done; what is ordered is
--- obeyed. Where there is no memory to begin, nothing is done either.
+-- obeyed. Where there is no memory to begin, nothing is done either. Whatever the objects tell, a run in which none of them counted a
+-- fault ends with one of six statuses.
 pub record Runs {F S I O W : Type 0} (words : List (List ℕ)) (given : Result Orders Usage) (objects : Outside F S I O W) (r : Report) : Type 0 where
   pub refused : IfErr given (λ usage. (IsReport 2 (usage_text words usage) r ⊎ NoRoom r) × Untouched objects)
   pub obeyed : IfOk given (λ orders. Obeyed orders objects r ⊎ (NoRoom r × Untouched objects))
+  pub calm : IsCalm objects → CalmStatus r.status

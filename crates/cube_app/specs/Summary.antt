@@ -1,23 +1,20 @@
 -- All that `check` does.
-use Rattle.std.specs.Prelude.{◌≡◌, ◌⊎◌, ℕ, List, ◌++◌, length, sum, codes, decimal, if◌then◌else◌}
+use Rattle.std.specs.Prelude.{◌≡◌, ◌⊎◌, ℕ, List, ◌++◌, length, sum, codes, if◌then◌else◌}
 use Rattle.std.specs.List.{sum_by}
 use Rattle.cube_model.specs.declared.policy.Policy.{Policy}
 use Rattle.cube_model.specs.Cores.{Core, shown}
 use Rattle.cube_model.specs.Cubes.{cuboid_count, count_from}
 use Rattle.cube_model.specs.Dims.{plains}
 use Rattle.cube_model.specs.Protection.{protected}
+use Rattle.cube_text.specs.Counts.{count_line}
 use Rattle.cube_core.specs.Full.{is_full}
 use Rattle.cube_engine.specs.Kept.{digest_for}
 use Rattle.cube_io.specs.Causes.{Rose}
 use Rattle.cube_io.specs.Seen.{FolderState, SinkState, Seen, Unused}
 use Rattle.cube_opening.specs.Opening.{IsSteady, EndsUnopened, Make, AsksAll, HasAll}
-use Rattle.cube_opening.specs.Reports.{IsReport, Prints}
+use Rattle.cube_opening.specs.Reports.{IsReport, IsDone, Prints}
 use Rattle.cube_opening.specs.declared.cube_files.CubeFiles.{CubeFiles}
 use Rattle.cube_opening.specs.declared.report.Report.{Report}
-
--- a word and its number
-abbrev pub count_line : List ℕ → ℕ → List ℕ
-count_line word number = word ++ codes " " ++ decimal number ++ codes "\n"
 
 -- how many protected cells the measures have, each measure's counted on their own
 abbrev pub protected_count : Core → Policy → ℕ
@@ -54,9 +51,12 @@ pub record Checked {O : Type 0} (cube : CubeFiles) (files : FolderState) (out : 
   pub files_make : Make cube files core policy
   pub printed : Summarizes core policy out r
 
--- All that `check` does with these files: it ends at a file, or it prints the summary. Where the files are accepted and no count rose, all
--- was done, or memory ran out.
+-- a run of `check` ends at a file, or it prints the summary
+abbrev pub CheckEnds : {F O : Type 0} → CubeFiles → Seen FolderState F → Seen SinkState O → Report → Type 0
+CheckEnds cube files out r = (EndsUnopened cube files r × Unused out) ⊎ (Checked cube files.before out r × IsSteady files)
+
+-- All that `check` does with these files. Where the files are accepted and no count rose, all was done, or memory ran out.
 pub record CheckRun {F O : Type 0} (cube : CubeFiles) (files : Seen FolderState F) (out : Seen SinkState O) (r : Report) : Type 0 where
-  pub answers : (EndsUnopened cube files r × Unused out) ⊎ (Checked cube files.before out r × IsSteady files)
+  pub answers : CheckEnds cube files out r
   pub asks : AsksAll cube files r
-  pub complete : HasAll cube files.before → ¬ Rose files.before.faults files.after.faults → ¬ Rose out.before.faults out.after.faults → (r.status ≡ 0) ⊎ (r.status ≡ 7)
+  pub complete : HasAll cube files.before → ¬ Rose files.before.faults files.after.faults → ¬ Rose out.before.faults out.after.faults → IsDone r

@@ -17,22 +17,22 @@ use Rattle.cube_talk.specs.Asks as asking
 use Rattle.cube_talk.specs.Asks.{Talk, NoneFailed, rooms_behind}
 use Rattle.cube_talk.specs.Sums.{Talked}
 use Rattle.cube_talk.specs.declared.talk.TalkEnd.{TalkEnd}
-use Rattle.cube_opening.specs.Opening.{flat_said, Says, Unopened, AsksOnce, IsSteady, EndsUnopened, Make, AsksAll, HasAll}
-use Rattle.cube_opening.specs.Reports.{IsReport}
+use Rattle.cube_opening.specs.Opening.{flat_said, FileSays, Unopened, AsksOnce, IsSteady, EndsUnopened, Make, AsksAll, HasAll}
+use Rattle.cube_opening.specs.Reports.{IsReport, IsDone}
 use Rattle.cube_opening.specs.declared.cube_files.CubeFiles.{CubeFiles}
 use Rattle.cube_opening.specs.declared.report.Report.{Report}
-use Rattle.cube_starting.specs.Starting.{EndsUnstarted, HasJournal, Survived}
+use Rattle.cube_serving.specs.Starting.{EndsUnstarted, HasJournal, Survived}
 use Rattle.cube_app.specs.Ends.{AsksJournal}
 use Rattle.cube_app.specs.Texts.{status_of, ending_text}
 
 -- ---- sums over a flat file
 
 -- the lines of the input were answered by the sums over the file
-pub record Answered {I O : Type 0} (facts : List ℕ) (files : FolderState) (input : Seen SourceState I) (out : Seen SinkState O) (r : Report) : Type 0 where
+pub record Summed {I O : Type 0} (facts : List ℕ) (files : FolderState) (input : Seen SourceState I) (out : Seen SinkState O) (r : Report) : Type 0 where
   pub flat : Flat
   pub end : TalkEnd
   pub lines : ℕ
-  pub file : IfSome files.files (λ known. Says flat_said facts known (Ok flat))
+  pub file : IfSome files.files (λ known. FileSays flat_said facts known (Ok flat))
   pub reported : IsReport (status_of end.ending) (ending_text end.ending lines end.bytes) r
   pub talked : Talked flat end lines input out
 
@@ -40,15 +40,23 @@ pub record Answered {I O : Type 0} (facts : List ℕ) (files : FolderState) (inp
 abbrev pub HasFlat : List ℕ → FolderState → Type 0
 HasFlat name files = IsSomeAnd files.files (λ known. IsSomeAnd (file_of known name) (λ bytes. IsOk (flat_said bytes)))
 
--- All that `sum` does with this file. It ends at the file, or it answers the lines of the input. Where the file is accepted, no count
--- rose and less was taken than is taken at most, all was done, or memory ran out.
+-- a run of `sum` ends at the file, or it answers the lines of the input
+abbrev pub SumEnds : {F I O : Type 0} → List ℕ → Seen FolderState F → Seen SourceState I → Seen SinkState O → Report → Type 0
+SumEnds facts files input out r =
+    (Unopened flat_said facts files r × Unused input × Unused out)
+    ⊎ (Summed facts files.before input out r × IsSteady files)
+
+-- where the file is accepted, no count rose and less was taken than is taken at most, all is done
+abbrev pub SumCompletes : {F I O : Type 0} → List ℕ → Seen FolderState F → Seen SourceState I → Seen SinkState O → Report → Type 0
+SumCompletes facts files input out r = HasFlat facts files.before → r.status ≢ 10
+    → ¬ Rose files.before.faults files.after.faults → ¬ Rose input.before.faults input.after.faults → ¬ Rose out.before.faults out.after.faults → IsDone r
+
+-- All that `sum` does with this file.
 pub record SumRun {F I O : Type 0} (facts : List ℕ) (files : Seen FolderState F) (input : Seen SourceState I) (out : Seen SinkState O) (r : Report) : Type 0 where
-  pub answers : (Unopened flat_said facts files r × Unused input × Unused out)
-      ⊎ (Answered facts files.before input out r × IsSteady files)
+  pub answers : SumEnds facts files input out r
   pub asks : AsksOnce facts files r
   pub ended : r.status ≡ 0 → input.after.ended ≡ true
-  pub complete : HasFlat facts files.before → r.status ≢ 10
-      → ¬ Rose files.before.faults files.after.faults → ¬ Rose input.before.faults input.after.faults → ¬ Rose out.before.faults out.after.faults → (r.status ≡ 0) ⊎ (r.status ≡ 7)
+  pub complete : SumCompletes facts files input out r
 
 -- ---- asks of a cube
 
@@ -76,17 +84,24 @@ pub record Reports (talk : Talk) (r : Report) : Type 0 where
   pub status : r.status ≡ status_of talk.ending
   pub text : r.text ≡ ending_text talk.ending (length talk.outcomes) talk.bytes
 
--- All that `ask` does with these files and this journal. It ends at a file or at the journal, or it answers the lines of the input, by at
--- most so many asks. Where the files and the journal are accepted, no count rose and less was taken than is taken at most, all was
--- done, or memory ran out.
+-- a run of `ask` ends at a file or at the journal, or it answers the lines of the input, by at most so many asks
+abbrev pub AskEnds : {F S I O : Type 0} → CubeFiles → ℕ → Seen FolderState F → Seen StoreState S → Seen SourceState I → Seen SinkState O → Report → Type 0
+AskEnds cube stated files store input out r =
+    (EndsUnopened cube files r × Unused store × Unused input × Unused out)
+    ⊎ (EndsUnstarted cube files.before store r × IsSteady files × Unused input × Unused out)
+    ⊎ ((talk : Talk) × (talk.stated ≡ stated) × Reports talk r × Asked cube files.before store talk input out × IsSteady files)
+
+-- where the files and the journal are accepted, no count rose and less was taken than is taken at most, all is done
+abbrev pub AskCompletes : {F S I O : Type 0} → CubeFiles → Seen FolderState F → Seen StoreState S → Seen SourceState I → Seen SinkState O → Report → Type 0
+AskCompletes cube files store input out r = HasAll cube files.before → HasJournal cube files.before store.before → r.status ≢ 10
+    → ¬ Rose files.before.faults files.after.faults → (r.outcomes ≡ [] → ¬ Rose store.before.faults store.after.faults) → ¬ Rose input.before.faults input.after.faults → ¬ Rose out.before.faults out.after.faults → IsDone r
+
+-- All that `ask` does with these files and this journal.
 pub record AskRun {F S I O : Type 0} (cube : CubeFiles) (journal : List ℕ) (stated : ℕ) (files : Seen FolderState F) (store : Seen StoreState S) (input : Seen SourceState I) (out : Seen SinkState O) (r : Report) : Type 0 where
-  pub answers : (EndsUnopened cube files r × Unused store × Unused input × Unused out)
-      ⊎ (EndsUnstarted cube files.before store r × IsSteady files × Unused input × Unused out)
-      ⊎ ((talk : Talk) × (talk.stated ≡ stated) × Reports talk r × Asked cube files.before store talk input out × IsSteady files)
+  pub answers : AskEnds cube stated files store input out r
   pub asks : AsksAll cube files r
   pub named : AsksJournal journal store r
   pub few_calls : r.status ≡ 9 → IsTrue store.before.told → store.after.calls ≤ store.before.calls + 7
   pub ended : r.status ≡ 0 → input.after.ended ≡ true
   pub memory : r.status ≡ 7 → Unused input × Unused out × (r.outcomes ≡ [])
-  pub complete : HasAll cube files.before → HasJournal cube files.before store.before → r.status ≢ 10
-      → ¬ Rose files.before.faults files.after.faults → (r.outcomes ≡ [] → ¬ Rose store.before.faults store.after.faults) → ¬ Rose input.before.faults input.after.faults → ¬ Rose out.before.faults out.after.faults → (r.status ≡ 0) ⊎ (r.status ≡ 7)
+  pub complete : AskCompletes cube files store input out r

@@ -4,17 +4,17 @@ ghost use Rattle.cube_io.specs.Causes.{Rose};
 ghost use Rattle.cube_io.specs.Seen.{seen};
 ghost use Rattle.cube_io.specs.Told.{OthersStay};
 ghost use Rattle.cube_engine.specs.Changes.{Refuses};
-ghost use Rattle.cube_opening.specs.Opening.{EndsUnopened, AsksAll, HasAll, IsSteady};
+ghost use Rattle.cube_opening.specs.Opening.{AsksAll, IsSteady};
 ghost use Rattle.cube_opening.specs.Reports.{IsReport, NoRoom};
-ghost use Rattle.cube_app.specs.Cells.{Tells, Told, HasCell, cell_text};
-ghost use Rattle.cube_starting.specs.Starting.{EndsUnstarted, AsksStore, HasJournal};
+ghost use Rattle.cube_app.specs.Cells.{Tells, CellEnds, CellCompletes, cell_text};
+ghost use Rattle.cube_serving.specs.Starting.{AsksStore};
 
 use crate::run::print;
 use cube_engine::{Engine, NoChanges};
 use cube_io::{Folder, Sink, Store};
 use cube_model::{NoMemory, Text};
 use cube_opening::{CubeFiles, Guarded, Report, Room, no_room, open_guarded, with_text};
-use cube_starting::open_engine;
+use cube_serving::open_engine;
 use std::alloc::Global;
 
 fn refused_text(alloc: Global, line: &Text) -> Result<Text, NoMemory>
@@ -82,9 +82,7 @@ pub fn tell<F: Folder, S: Store, O: Sink>(
     out: &mut O,
 ) -> Report
     requires { room ≡ [] }
-    ensures answers { (EndsUnopened cube.now (seen F.state files.old files.new) result × (store.new ≡ store.old) × (out.new ≡ out.old))
-        ⊎ (EndsUnstarted cube.now (F.state files.old) (seen S.state store.old store.new) result × IsSteady (seen F.state files.old files.new) × (out.new ≡ out.old))
-        ⊎ (Told is_twin cube.now cell.now (F.state files.old) (seen S.state store.old store.new) (seen O.state out.old out.new) result × IsSteady (seen F.state files.old files.new)) }
+    ensures answers { CellEnds is_twin cube.now cell.now (seen F.state files.old files.new) (seen S.state store.old store.new) (seen O.state out.old out.new) result }
     ensures asks { AsksAll cube.now (seen F.state files.old files.new) result }
     ensures names { (store.new ≡ store.old) ⊎ AsksStore journal.now (seen S.state store.old store.new) result }
     ensures unkept { result.status ≡ 9 → Rose (S.state store.old).faults (S.state store.new).faults }
@@ -94,8 +92,7 @@ pub fn tell<F: Folder, S: Store, O: Sink>(
     ensures output { result.status ≡ 6 → Rose (O.state out.old).faults (O.state out.new).faults }
     ensures steady { result.status ≢ 5 → IsSteady (seen F.state files.old files.new) }
     ensures output_steady { result.status ≢ 6 → (O.state out.new).faults ≡ (O.state out.old).faults }
-    ensures complete { HasAll cube.now (F.state files.old) → HasJournal cube.now (F.state files.old) (S.state store.old) → HasCell is_twin cube.now cell.now (F.state files.old) (S.state store.old)
-        → ¬ Rose (F.state files.old).faults (F.state files.new).faults → ¬ Rose (S.state store.old).faults (S.state store.new).faults → ¬ Rose (O.state out.old).faults (O.state out.new).faults → (result.status ≡ 0) ⊎ (result.status ≡ 7) }
+    ensures complete { CellCompletes is_twin cube.now cell.now (seen F.state files.old files.new) (seen S.state store.old store.new) (seen O.state out.old out.new) result }
     ensures words { result.status ≢ 2 }
     ensures wire { result.status ≢ 8 }
     ensures outcomes { result.outcomes ≡ [] }

@@ -1,16 +1,15 @@
 // The top call: all that the program does.
-ghost use Rattle.std.specs.Prelude.{◌≡◌, ◌≢◌, ◌⊎◌, ◌≤◌, ◌+◌, ◌++◌, [], true, length, IfOk, IsTrue};
+ghost use Rattle.std.specs.Prelude.{◌≡◌, ◌≢◌, ◌⊎◌, ◌≤◌, ◌+◌, [], true, length, IfOk, IsTrue};
 ghost use Rattle.cube_io.specs.Causes.{Rose};
 ghost use Rattle.cube_io.specs.Seen.{seen};
 ghost use Rattle.cube_io.specs.Told.{OthersStay};
 ghost use Rattle.cube_words.specs.Words.{orders_of as orders_in, Fits};
 ghost use Rattle.cube_opening.specs.Reports.{IsReport, NoRoom, Prints};
-ghost use Rattle.cube_opening.specs.Opening.{flat_said, Unopened, AsksOnce, EndsUnopened, AsksAll, HasAll, IsSteady};
-ghost use Rattle.cube_starting.specs.Starting.{EndsUnstarted, AsksStore, HasJournal};
+ghost use Rattle.cube_opening.specs.Opening.{AsksOnce, AsksAll, HasAll, IsSteady};
+ghost use Rattle.cube_serving.specs.Starting.{AsksStore};
 ghost use Rattle.cube_app.specs.Runs.{Obeyed, Runs};
-ghost use Rattle.cube_app.specs.Summary.{Checked};
-ghost use Rattle.cube_app.specs.Talks.{Answered, HasFlat, Asked, Reports};
-ghost use Rattle.cube_talk.specs.Asks.{Talk};
+ghost use Rattle.cube_app.specs.Summary.{CheckEnds};
+ghost use Rattle.cube_app.specs.Talks.{SumEnds, SumCompletes, AskEnds, AskCompletes};
 ghost use Rattle.cube_app.specs.TwinFiles.{TwinFilesMakeTwins, TalksAreTheSame};
 ghost use Rattle.cube_app.specs.Texts.{usage_text as usage_words, status_of as status_in, ending_text};
 
@@ -23,8 +22,7 @@ use cube_model::{NoMemory, Text};
 use cube_opening::{
     CubeFiles, Guarded, Report, Room, no_room, open_flat, open_guarded, spent_room, with_text,
 };
-use cube_serving::{replay_cube, serve_cube};
-use cube_starting::open_engine;
+use cube_serving::{open_engine, replay_cube, serve_cube};
 use cube_talk::{Carry, Ending, TalkEnd, converse_by_asks, converse_by_sums};
 use cube_words::{Orders, Usage, orders_of};
 use std::alloc::Global;
@@ -127,15 +125,14 @@ fn sum<F: Folder, S: Store, I: Source, O: Sink>(
     out: &mut O,
 ) -> Report
     requires { room ≡ [] }
-    ensures answers { (Unopened flat_said name.now (seen F.state files.old files.new) result × (input.new ≡ input.old) × (out.new ≡ out.old))
-        ⊎ (Answered name.now (F.state files.old) (seen I.state input.old input.new) (seen O.state out.old out.new) result × IsSteady (seen F.state files.old files.new)) }
+    ensures answers { SumEnds name.now (seen F.state files.old files.new) (seen I.state input.old input.new) (seen O.state out.old out.new) result }
     ensures asks { AsksOnce name.now (seen F.state files.old files.new) result }
     ensures ended { result.status ≡ 0 → (I.state input.new).ended ≡ true }
     ensures unreadable { result.status ≡ 5 → (Rose (F.state files.old).faults (F.state files.new).faults × ((I.state input.new).faults ≡ (I.state input.old).faults)) ⊎ (Rose (I.state input.old).faults (I.state input.new).faults × IsSteady (seen F.state files.old files.new)) }
     ensures output { result.status ≡ 6 → Rose (O.state out.old).faults (O.state out.new).faults }
     ensures steady { result.status ≢ 5 → ((F.state files.new).faults ≡ (F.state files.old).faults) × ((I.state input.new).faults ≡ (I.state input.old).faults) }
     ensures output_steady { result.status ≢ 6 → (O.state out.new).faults ≡ (O.state out.old).faults }
-    ensures complete { HasFlat name.now (F.state files.old) → result.status ≢ 10 → ¬ Rose (F.state files.old).faults (F.state files.new).faults → ¬ Rose (I.state input.old).faults (I.state input.new).faults → ¬ Rose (O.state out.old).faults (O.state out.new).faults → (result.status ≡ 0) ⊎ (result.status ≡ 7) }
+    ensures complete { SumCompletes name.now (seen F.state files.old files.new) (seen I.state input.old input.new) (seen O.state out.old out.new) result }
     ensures words { result.status ≢ 2 }
     ensures wire { result.status ≢ 8 }
     ensures kept { result.status ≢ 9 }
@@ -162,8 +159,7 @@ fn check<F: Folder, O: Sink>(
     out: &mut O,
 ) -> Report
     requires { room ≡ [] }
-    ensures checks { (EndsUnopened cube.now (seen F.state files.old files.new) result × (out.new ≡ out.old))
-        ⊎ (Checked cube.now (F.state files.old) (seen O.state out.old out.new) result × IsSteady (seen F.state files.old files.new)) }
+    ensures checks { CheckEnds cube.now (seen F.state files.old files.new) (seen O.state out.old out.new) result }
     ensures asks { AsksAll cube.now (seen F.state files.old files.new) result }
     ensures unreadable { result.status ≡ 5 → Rose (F.state files.old).faults (F.state files.new).faults }
     ensures output { result.status ≡ 6 → Rose (O.state out.old).faults (O.state out.new).faults }
@@ -209,9 +205,7 @@ fn ask<F: Folder, S: Store, I: Source, O: Sink>(
 ) -> Report
     requires room { room ≡ [] }
     requires stated { 1 ≤ stated }
-    ensures answers { (EndsUnopened cube.now (seen F.state files.old files.new) result × (store.new ≡ store.old) × (input.new ≡ input.old) × (out.new ≡ out.old))
-        ⊎ (EndsUnstarted cube.now (F.state files.old) (seen S.state store.old store.new) result × IsSteady (seen F.state files.old files.new) × (input.new ≡ input.old) × (out.new ≡ out.old))
-        ⊎ ((talk : Talk) × (talk.stated ≡ stated) × Reports talk result × Asked cube.now (F.state files.old) (seen S.state store.old store.new) talk (seen I.state input.old input.new) (seen O.state out.old out.new) × IsSteady (seen F.state files.old files.new)) }
+    ensures answers { AskEnds cube.now stated (seen F.state files.old files.new) (seen S.state store.old store.new) (seen I.state input.old input.new) (seen O.state out.old out.new) result }
     ensures asks { AsksAll cube.now (seen F.state files.old files.new) result }
     ensures names { (store.new ≡ store.old) ⊎ AsksStore journal.now (seen S.state store.old store.new) result }
     ensures unkept { result.status ≡ 9 → Rose (S.state store.old).faults (S.state store.new).faults × (result.outcomes ≡ []) }
@@ -223,8 +217,7 @@ fn ask<F: Folder, S: Store, I: Source, O: Sink>(
     ensures memory { result.status ≡ 7 → (input.new ≡ input.old) × (out.new ≡ out.old) × (result.outcomes ≡ []) }
     ensures steady { result.status ≢ 5 → ((F.state files.new).faults ≡ (F.state files.old).faults) × ((I.state input.new).faults ≡ (I.state input.old).faults) }
     ensures output_steady { result.status ≢ 6 → (O.state out.new).faults ≡ (O.state out.old).faults }
-    ensures complete { HasAll cube.now (F.state files.old) → HasJournal cube.now (F.state files.old) (S.state store.old) → result.status ≢ 10
-        → ¬ Rose (F.state files.old).faults (F.state files.new).faults → (result.outcomes ≡ [] → ¬ Rose (S.state store.old).faults (S.state store.new).faults) → ¬ Rose (I.state input.old).faults (I.state input.new).faults → ¬ Rose (O.state out.old).faults (O.state out.new).faults → (result.status ≡ 0) ⊎ (result.status ≡ 7) }
+    ensures complete { AskCompletes cube.now (seen F.state files.old files.new) (seen S.state store.old store.new) (seen I.state input.old input.new) (seen O.state out.old out.new) result }
     ensures words { result.status ≢ 2 }
     ensures wire { result.status ≢ 8 }
 {

@@ -1,14 +1,15 @@
 // What `check` prints of a core and a policy.
-ghost use Rattle.std.specs.Prelude.{◌≡◌, ◌≤◌, ◌++◌, ◌*◌, length, drop, map, sum, IfOk, OnOk};
+ghost use Rattle.std.specs.Prelude.{◌≡◌, ◌*◌, IfOk};
 ghost use Rattle.cube_model.specs.Cubes.{cuboid_count};
-ghost use Rattle.cube_model.specs.Dims.{plain, plains};
+ghost use Rattle.cube_model.specs.Dims.{plains};
 ghost use Rattle.cube_model.specs.Policies.{IsPolicy};
-ghost use Rattle.cube_app.specs.Summary.{count_line, digest_line as digest_words, protected_count, core_text as core_words, check_text as check_words};
+ghost use Rattle.cube_app.specs.Summary.{digest_line as digest_words, protected_count, core_text as core_words, check_text as check_words};
 
 use cube_core::Core;
 use cube_journal::{digest_of, public_text};
 use cube_model::{Dims, NoMemory, Policy, Text};
 use cube_source::count_protected;
+use cube_text::push_count;
 use std::alloc::Global;
 
 // How many cuboids there are: each dimension has its named levels and `all`.
@@ -33,15 +34,6 @@ fn count_all(alloc: Global, core: &Core, policy: &Policy) -> Result<u64, NoMemor
         total += count_protected(alloc, core, policy, measure as u32)?;
     }
     Ok(total)
-}
-
-fn push_count(text: &mut Text, word: &[u8], number: u64) -> Result<(), NoMemory>
-    ensures { OnOk result (text.new ≡ text.old ++ count_line word.now number) }
-{
-    text.extend(word)?;
-    text.extend(b" ")?;
-    text.push_number(number)?;
-    text.extend(b"\n")
 }
 
 // The lines on a core.

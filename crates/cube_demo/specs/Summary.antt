@@ -1,15 +1,12 @@
 -- What the demonstration prints.
-use Rattle.std.specs.Prelude.{ℕ, ◌+◌, ◌*◌, List, [], ◌++◌, length, count_by, codes, decimal}
+use Rattle.std.specs.Prelude.{ℕ, ◌+◌, ◌*◌, List, [], ◌++◌, length, count_by, codes}
 use Rattle.cube_model.specs.declared.request.Request.{Request}
 use Rattle.cube_model.specs.declared.verdict.Verdict.{Verdict}
 use Rattle.cube_model.specs.Cubes.{Public}
+use Rattle.cube_text.specs.Counts.{count_line}
 use Rattle.cube_engine.specs.Books.{is_answer}
 use Rattle.cube_demo.specs.Counting.{verdicts, is_source, is_single, is_pair, is_full}
 use Rattle.cube_demo.specs.Hiding.{witness_count}
-
--- a word and its number
-abbrev pub count_line : List ℕ → ℕ → List ℕ
-count_line word number = word ++ codes " " ++ decimal number ++ codes "\n"
 
 -- how many verdicts are of each kind
 unfoldable pub verdict_lines : List Verdict → List ℕ

@@ -5,7 +5,7 @@ ghost use Rattle.cube_model.specs.Policies.{IsPolicy};
 use cube_core::Core;
 use cube_engine::Engine;
 use cube_io::{Desk, NullStore, Store};
-use cube_model::{Ask, Fixed, NoMemory, Policy, Reply, Text};
+use cube_model::{Ask, Fixed, NoMemory, Policy, Question, Reply, Text};
 use std::alloc::Global;
 
 /// A store that keeps nothing, under some name.
@@ -32,7 +32,10 @@ fn ask(
     ensures fits { ⟦<Engine as Desk<NullStore>>⟧.fits engine.new store.new }
     ensures room { OnOk result (⟦<Engine as Desk<NullStore>>⟧.room engine.new + 1 ≡ ⟦<Engine as Desk<NullStore>>⟧.room engine.old) }
 {
-    let asked = Ask::Query(Text::from_bytes(alloc, query.as_slice())?);
+    let asked = Ask {
+        group: None,
+        question: Question::Query(query.copied(alloc)?),
+    };
     match engine.answer(alloc, store, &asked) {
         Reply::Fixed(Fixed::NoMemory) => Err(NoMemory),
         _ => Ok(()),

@@ -9,7 +9,6 @@ ghost use Rattle.cube_model.specs.Twins as twins;
 ghost use Rattle.cube_admit.specs.States.{StandsFor};
 ghost use Rattle.cube_core.specs.Rows.{ArePlaces};
 ghost use Rattle.cube_query.specs.Canonical.{is_request};
-ghost use Rattle.cube_witness.specs.Grounds.{IsGrounds};
 ghost use Rattle.cube_witness.specs.TwinFile as file;
 ghost use Rattle.cube_demo.specs.Counting.{verdicts as verdicts_of, history_behind};
 ghost use Rattle.cube_demo.specs.Hiding.{hides as is_hidden, witness_count};
@@ -18,31 +17,14 @@ use crate::answers::rows_on;
 use crate::sums::hides;
 use cube_admit::State;
 use cube_core::Core;
-use cube_model::{Cell, Change, Method, NoMemory, Policy, Request, Rows, Verdict};
+use cube_engine::grounds_of;
+use cube_model::{Cell, Change, NoMemory, Policy, Request, Rows, Verdict};
 use cube_source::protected;
-use cube_witness::{Grounds, WitnessFault, changes};
+use cube_witness::{WitnessFault, changes};
 use std::alloc::Global;
 
 /// How many protected cells of a measure are looked at.
 const FIRST_CELLS: u64 = 100;
-
-/// What is kept of the history of a measure, by its method.
-fn grounds_of<'a>(core: &Core, policy: &Policy, state: &'a State, measure: u32) -> Grounds<'a>
-    requires stands { StandsFor (shown core.now policy.now) state.now }
-    requires none { state.now.pending ≡ None }
-    requires measure { measure < length policy.now.methods }
-    ensures { IsGrounds (shown core.now policy.now) state.now.history measure result }
-{
-    let _core = core;
-    match policy.methods.as_slice()[measure as usize] {
-        Method::Plain => Grounds::Plain,
-        Method::Lattice => Grounds::Source(state.source(measure)),
-        Method::Parity => match state.colouring(measure) {
-            Some(colouring) => Grounds::Pairs(colouring),
-            None => unreachable!(),
-        },
-    }
-}
 
 /// Puts each change in its place.
 fn put_signs(signs: &mut [i8], changes: &[Change])

@@ -1,18 +1,19 @@
 // The lines of the summary.
-ghost use Rattle.std.specs.Prelude.{◌≡◌, ◌≤◌, ◌*◌, ◌++◌, length, count_by, true, IfOk, OnOk};
+ghost use Rattle.std.specs.Prelude.{◌≡◌, ◌*◌, ◌++◌, length, count_by, true, IfOk, OnOk};
 ghost use Rattle.std.specs.List.{All};
 ghost use Rattle.cube_model.specs.Cores.{shown};
 ghost use Rattle.cube_model.specs.Policies.{IsPolicy};
 ghost use Rattle.cube_query.specs.Canonical.{is_request};
 ghost use Rattle.cube_engine.specs.Books.{is_answer as is_answered};
 ghost use Rattle.cube_demo.specs.Counting as said;
-ghost use Rattle.cube_demo.specs.Summary.{count_line, verdict_lines, summary_text};
+ghost use Rattle.cube_demo.specs.Summary.{verdict_lines, summary_text};
 
 use crate::answers::is_answer;
 use crate::hiding::count_witnesses;
 use crate::judging::judge_all;
 use cube_core::Core;
 use cube_model::{NoMemory, Policy, Request, Text, Verdict};
+use cube_text::push_count;
 use std::alloc::Global;
 
 fn is_source(verdict: &Verdict) -> bool
@@ -67,15 +68,6 @@ fn count_full(verdicts: &[Verdict]) -> usize
     ensures { result ≡ count_by said.is_full verdicts.now }
 {
     verdicts.iter().filter(|verdict| is_full(verdict)).count()
-}
-
-fn push_count(text: &mut Text, word: &[u8], number: u64) -> Result<(), NoMemory>
-    ensures { OnOk result (text.new ≡ text.old ++ count_line word.now number) }
-{
-    text.extend(word)?;
-    text.extend(b" ")?;
-    text.push_number(number)?;
-    text.extend(b"\n")
 }
 
 /// How many verdicts are of each kind.

@@ -1,66 +1,71 @@
 -- One room with the empty name, and what an ask does to it.
-use Rattle.std.proofs.Common.{◌≡◌, ◌≢◌, refl, sym, ap, ◌∙◌, arith, ℕ, true, false, ◌==◌, List, [], ◌∷◌, ◌++◌, length, length-append, Option, Some, None}
-use Rattle.std.proofs.lemmas.Bool.{false≢true, eqb-true}
+use Rattle.std.proofs.Common.{◌≡◌, ◌≢◌, refl, sym, ap, ◌∙◌, subst, arith, ℕ, true, false, List, [], ◌∷◌, ◌++◌, length, length-append, Option, Some, None}
+use Rattle.std.proofs.lemmas.Bool.{false≢true}
 use Rattle.cube_model.specs.declared.ask.Ask.{Ask}
-use Rattle.cube_model.specs.declared.ask.Ask.TheVariants as ask
-use Rattle.cube_model.specs.declared.ask.Inner.{Inner}
-use Rattle.cube_model.specs.declared.ask.Inner.TheVariants.{Query, Witness, Shape}
 use Rattle.cube_model.specs.declared.entry.Entry.{Entry}
 use Rattle.cube_model.specs.declared.entry.Entry.TheVariants.{Asked}
 use Rattle.cube_model.specs.declared.outcome.Outcome.{Outcome}
 use Rattle.cube_model.specs.declared.outcome.Outcome.TheVariants.{Given}
 use Rattle.cube_model.specs.declared.reply.Reply.{Reply}
 use Rattle.cube_model.specs.declared.request.Request.{Request}
-use Rattle.cube_model.specs.Cubes.{World}
+use Rattle.cube_model.specs.Cubes.{World, same}
 use Rattle.cube_model.specs.Dims.{Dims}
-use Rattle.cube_model.specs.Rooms.{Room, alone}
+use Rattle.cube_model.specs.Rooms.{Room, aim, alone, missed_by}
+use Rattle.cube_model.specs.Runs.{reply_by, next_by}
 use Rattle.cube_io.specs.Desks.{Manner, Answered}
-use Rattle.cube_engine.specs.Prepared.{InnerComes, AskComes, IsMissed, SettleCause}
-use Rattle.cube_engine.specs.Steps.{next_in}
+use Rattle.cube_engine.specs.Books.{Book, book_rooms, with_waiting}
+use Rattle.cube_engine.specs.Prepared.{QuestionComes, AskComes, IsMissed, SettleCause}
+use Rattle.cube_engine.specs.Steps.{by_words, manner}
 use Rattle.cube_engine.specs.Worlds.{first_history}
 use Rattle.cube_engine.specs.declared.prepared.Prepared.{Prepared}
 use Rattle.cube_engine.specs.declared.prepared.Prepared.TheVariants.{Said, Waits}
 
--- ---- what is asked of no group, and of the group with the empty name
+-- ---- the name of a group is the empty one, or another
 
-pub query_comes : (s : Dims) (w : World) (h : List Entry) (text : List ℕ) (waits : Option Request) (x : Prepared) → InnerComes s w h (Query text) waits x → AskComes s w h (ask.Query text) waits x
-query_comes s w h text waits (Said reply o) c = (c.0, c.1, ap (alone w) c.2, c.3)
-query_comes s w h text waits (Waits reply line) c = (c.0, c.1, c.2, ap (alone w) c.3)
+pub sides : (name : List ℕ) → same name [] ≡ same [] name
+sides [] = refl
+sides (b ∷ name) = refl
 
-pub witness_comes : (s : Dims) (w : World) (h : List Entry) (text : List ℕ) (waits : Option Request) (x : Prepared) → InnerComes s w h (Witness text) waits x → AskComes s w h (ask.Witness text) waits x
-witness_comes s w h text waits (Said reply o) c = (c.0, c.1, ap (alone w) c.2, c.3)
-witness_comes s w h text waits (Waits reply line) c = (c.0, c.1, c.2, ap (alone w) c.3)
+-- what is asked of the room
+pub own_reply : (s : Dims) (w : World) (h : List Entry) (a : Ask) (o : Outcome) → same [] (aim a.group) ≡ true → (manner s).reply (alone w h) a o ≡ reply_by (by_words s) o a.question w h
+own_reply s w h a o own = rw own refl
 
-pub shape_comes : (s : Dims) (w : World) (h : List Entry) (waits : Option Request) (x : Prepared) → InnerComes s w h Shape waits x → AskComes s w h ask.Shape waits x
-shape_comes s w h waits (Said reply o) c = (c.0, c.1, ap (alone w) c.2, c.3)
-shape_comes s w h waits (Waits reply line) c = (c.0, c.1, c.2, ap (alone w) c.3)
+pub own_next : (s : Dims) (w : World) (h : List Entry) (a : Ask) (o : Outcome) → same [] (aim a.group) ≡ true → (manner s).next (alone w h) a o ≡ alone w (next_by (by_words s) o a.question w.shown h)
+own_next s w h a o own = rw (sides (aim a.group) ∙ own) refl
 
-empty_comes : (s : Dims) (w : World) (h : List Entry) (a : Inner) (waits : Option Request) (x : Prepared) → InnerComes s w h a waits x → AskComes s w h (ask.Group [] a) waits x
-empty_comes s w h a waits (Said reply o) c = (c.0, c.1, ap (alone w) c.2, c.3)
-empty_comes s w h a waits (Waits reply line) c = (c.0, c.1, c.2, ap (alone w) c.3)
+pub own_comes : (s : Dims) (w : World) (h : List Entry) (a : Ask) (waits : Option Request) (x : Prepared) → same [] (aim a.group) ≡ true → QuestionComes s w h a.question waits x → AskComes s w h a waits x
+own_comes s w h a waits (Said reply o) own c = (c.0, c.1 ∙ sym (own_reply s w h a o own), own_next s w h a o own ∙ ap (alone w) c.2, c.3)
+own_comes s w h a waits (Waits reply line) own c = (c.0, c.1, c.2 ∙ sym (own_reply s w h a Given own), own_next s w h a Given own ∙ ap (alone w) c.3)
 
-pub group_comes : (s : Dims) (w : World) (h : List Entry) (name : List ℕ) (a : Inner) (waits : Option Request) (x : Prepared) → (length name == 0) ≡ true → InnerComes s w h a waits x → AskComes s w h (ask.Group name a) waits x
-group_comes s w h [] a waits x e c = empty_comes s w h a waits x c
-group_comes s w h (b ∷ name) a waits x e c = absurd (let none = eqb-true (length (b ∷ name)) 0 e in omega (arith, none))
+-- what is asked of a group that there is none of
+pub other_reply : (s : Dims) (w : World) (h : List Entry) (a : Ask) (o : Outcome) → same [] (aim a.group) ≡ false → (manner s).reply (alone w h) a o ≡ missed_by (by_words s) o a.group
+other_reply s w h a o other = rw other refl
 
--- ---- there is no other group
+pub other_next : (s : Dims) (w : World) (h : List Entry) (a : Ask) (o : Outcome) → same [] (aim a.group) ≡ false → (manner s).next (alone w h) a o ≡ alone w h
+other_next s w h a o other = rw (sides (aim a.group) ∙ other) refl
 
-pub other_comes : (s : Dims) (w : World) (h : List Entry) (name : List ℕ) (a : Inner) (x : Prepared) → (length name == 0) ≡ false → IsMissed (Some name) x → AskComes s w h (ask.Group name a) None x
-other_comes s w h [] a x e m = absurd (false≢true (sym e))
-other_comes s w h (b ∷ name) a (Said reply o) e m = (m.0, m.1, refl, refl)
-other_comes s w h (b ∷ name) a (Waits reply line) e m = absurd m
+named : (s : Dims) (group : Option (List ℕ)) (x : Prepared) → same [] (aim group) ≡ false → ((name : List ℕ) → IsMissed s (Some name) x) → IsMissed s group x
+named s None x e m = absurd (false≢true (sym e))
+named s (Some name) x e m = m name
+
+missed_comes : (s : Dims) (w : World) (h : List Entry) (a : Ask) (x : Prepared) → same [] (aim a.group) ≡ false → IsMissed s a.group x → AskComes s w h a None x
+missed_comes s w h a (Said reply o) other m = (m.0, m.1 ∙ sym (other_reply s w h a o other), other_next s w h a o other, refl)
+missed_comes s w h a (Waits reply line) other m = absurd m
+
+pub other_comes : (s : Dims) (w : World) (h : List Entry) (a : Ask) (x : Prepared) → same [] (aim a.group) ≡ false → ((name : List ℕ) → IsMissed s (Some name) x) → AskComes s w h a None x
+other_comes s w h a x other m = missed_comes s w h a x other (named s a.group x other m)
 
 -- ---- a request that enters makes another history
 
 longer : {X : Type 0} (xs : List X) (x : X) → xs ++ x ∷ [] ≢ xs
 longer xs x e = absurd (let l = ap length e in let m = length-append xs (x ∷ []) in omega (arith, l, m))
 
-pub enters : (s : Dims) (w : World) (h : List Entry) (a : Ask) (r : Request) → next_in s (alone w h) a Given ≡ alone w (h ++ Asked r ∷ []) → next_in s (alone w h) a Given ≢ alone w h
+pub enters : (s : Dims) (w : World) (h : List Entry) (a : Ask) (r : Request) → (manner s).next (alone w h) a Given ≡ alone w (h ++ Asked r ∷ []) → (manner s).next (alone w h) a Given ≢ alone w h
 enters s w h a r e f = longer h (Asked r) (ap first_history (sym e ∙ f))
 
 -- ---- a turn
 
-pub turned : (m : Manner) (a : Ask) (rooms rooms' : List Room) (outcomes outcomes' : List Outcome) (reply : Reply) (o : Outcome) (faults faults' : ℕ) → SettleCause o (m.next rooms a Given ≢ rooms) faults faults' → outcomes' ≡ outcomes ++ o ∷ []
+turned : (m : Manner) (a : Ask) (rooms rooms' : List Room) (outcomes outcomes' : List Outcome) (reply : Reply) (o : Outcome) (faults faults' : ℕ) → SettleCause o (m.next rooms a Given ≢ rooms) faults faults' → outcomes' ≡ outcomes ++ o ∷ []
     → reply ≡ m.reply rooms a o → rooms' ≡ m.next rooms a o → Answered m a rooms rooms' outcomes outcomes' faults faults' reply
 turned m a rooms rooms' outcomes outcomes' reply o faults faults' cause added replied moved = record {
   outcome = o;
@@ -71,3 +76,11 @@ turned m a rooms rooms' outcomes outcomes' reply o faults faults' cause added re
   steady = cause.steady;
   failed = cause.failed;
 }
+
+-- a turn of a book that was prepared and settled
+pub settled_turn : (a b d : Book) (ask : Ask) (reply : Reply) (o : Outcome) (faults faults' : ℕ) (outcomes outcomes' : List Outcome) → b ≡ with_waiting b.waiting a → SettleCause o ((manner b.core.dims).next (book_rooms b) ask Given ≢ book_rooms b) faults faults'
+    → outcomes' ≡ outcomes ++ o ∷ [] → reply ≡ (manner b.core.dims).reply (book_rooms b) ask o → book_rooms d ≡ (manner b.core.dims).next (book_rooms b) ask o → Answered (manner a.core.dims) ask (book_rooms a) (book_rooms d) outcomes outcomes' faults faults' reply
+settled_turn a b d ask reply o faults faults' outcomes outcomes' same cause added replied moved = turned (manner a.core.dims) ask (book_rooms a) (book_rooms d) outcomes outcomes' reply o faults faults'
+    (subst (λ (x : Book). SettleCause o ((manner x.core.dims).next (book_rooms x) ask Given ≢ book_rooms x) faults faults') same cause) added
+    (subst (λ (x : Book). reply ≡ (manner x.core.dims).reply (book_rooms x) ask o) same replied)
+    (subst (λ (x : Book). book_rooms d ≡ (manner x.core.dims).next (book_rooms x) ask o) same moved)

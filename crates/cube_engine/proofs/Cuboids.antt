@@ -38,7 +38,7 @@ use Rattle.cube_query.specs.Canonical.{is_request}
 use Rattle.cube_rollup.specs.Cuboids.{Cuboid, StandsFor as CuboidStands, cell_keys}
 use Rattle.cube_rollup.specs.Rollups.{Rollups, entered, source_by, kept_at, IsCuboidAt, entry_of, RollupsStand, cells_at}
 use Rattle.cube_rollup.proofs.Keeping.{committed, held as held_next, others}
-use Rattle.cube_engine.specs.Reads.{ReadsFew, cuboid_of, Serves}
+use Rattle.cube_engine.specs.Reads.{ReadsFew, cuboid_of, IsFineEnough}
 
 -- ---- what a state keeps
 
@@ -171,13 +171,13 @@ at_levels c m (Some ls) k is = (ap Some (sym is.0), is.1, is.2)
 
 -- a cuboid that is kept serves a request that is answered
 pub serves : (c : Core) (p : Policy) (h : List Entry) (r : Request) (fresh : Bool) (waits : Option Request) (rollups : Rollups) → is_valid (shown c p) r ≡ true → IsAdmissible (shown c p) h → ((m : ℕ) → r.what ≡ Measure m → m < length p.methods)
-    → verdict (shown c p) h r ≡ Answer fresh → waits ≡ waits_for (Answer fresh) r → RollupsStand c p h waits rollups → IfSome (cuboid_of rollups r.what) (Serves c r)
+    → verdict (shown c p) h r ≡ Answer fresh → waits ≡ waits_for (Answer fresh) r → RollupsStand c p h waits rollups → IfSome (cuboid_of rollups r.what) (IsFineEnough c r)
 serves c p h r fresh waits rollups valid admissible there judged waiting_is stands = on r.what refl
   where
     g : Public
     g = shown c p
 
-    here : (m : ℕ) → r.what ≡ Measure m → (o : Option Cuboid) → IsCuboidAt c m (kept_at g (h ++ entry_of waits) m) o → IfSome o (Serves c r)
+    here : (m : ℕ) → r.what ≡ Measure m → (o : Option Cuboid) → IsCuboidAt c m (kept_at g (h ++ entry_of waits) m) o → IfSome o (IsFineEnough c r)
     here m e None is = tt
     here m e (Some k) is =
         let at = at_levels c m (kept_at g (h ++ entry_of waits) m) k is in
@@ -191,7 +191,7 @@ serves c p h r fresh waits rollups valid admissible there judged waiting_is stan
           finer = subst (λ (ls : List ℕ). is_finer ls (grain r) ≡ true) (sym (one_value k.levels answered.0 same)) answered.2;
         }
 
-    on : (w : What) → r.what ≡ w → IfSome (cuboid_of rollups w) (Serves c r)
+    on : (w : What) → r.what ≡ w → IfSome (cuboid_of rollups w) (IsFineEnough c r)
     on Count e = tt
     on (Measure m) e = here m e (get_or (entered rollups) m None) (stands.next.each m (there m e))
 

@@ -176,8 +176,8 @@ valid_under c p r policy valid = rw (there r.what) valid
     there (Measure m) = ap (nat_lt m) policy.methods
 
 -- the reply to a request that was read, and the history behind it
-pub read_reply : (c : Core) (p : Policy) (h : List Entry) (r : Request) (asked : Result Request RequestFault) → asked ≡ Ok r → is_valid (shown c p) r ≡ true → in_words c.dims (shown c p) r (told (world c p) r (verdict (shown c p) h r)) ≡ reply_where_read c.dims (world c p) h asked
-read_reply c p h r asked read valid = rw (read, valid) refl
+pub read_reply : (c : Core) (p : Policy) (h : List Entry) (r : Request) (asked : Result Request RequestFault) → asked ≡ Ok r → in_words c.dims (shown c p) r (told (world c p) r (verdict (shown c p) h r)) ≡ reply_where_read c.dims (world c p) h asked
+read_reply c p h r asked read = rw read refl
 
 pub read_history : (c : Core) (p : Policy) (h : List Entry) (r : Request) (asked : Result Request RequestFault) → asked ≡ Ok r → is_valid (shown c p) r ≡ true → entered h r (verdict (shown c p) h r) ≡ history_where_read (shown c p) h asked
 read_history c p h r asked read valid = rw (read, valid) refl

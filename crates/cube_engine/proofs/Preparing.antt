@@ -1,7 +1,7 @@
 -- What a request comes to, and what is asked by its text.
 use Rattle.std.proofs.Common.{◌≡◌, ◌≢◌, ℕ, refl, sym, ap, ◌∙◌, subst, true, false, List, Option, None, Ok}
 use Rattle.std.proofs.lemmas.Bool.{false≢true}
-use Rattle.cube_model.specs.declared.ask.Inner.TheVariants.{Query}
+use Rattle.cube_model.specs.declared.ask.Question.TheVariants.{Query}
 use Rattle.cube_model.specs.declared.entry.Entry.{Entry}
 use Rattle.cube_model.specs.declared.outcome.Outcome.{Outcome}
 use Rattle.cube_model.specs.declared.outcome.Outcome.TheVariants.{Given, JournalFault}
@@ -11,15 +11,15 @@ use Rattle.cube_model.specs.declared.verdict.Verdict.{Verdict}
 use Rattle.cube_model.specs.declared.verdict.Verdict.TheVariants.{Answer, Full, SourceWould, Pair, Single}
 use Rattle.cube_model.specs.Cores.{Core, IsCore, shown, world}
 use Rattle.cube_model.specs.Policies.{IsPolicy}
-use Rattle.cube_model.specs.Runs.{entered}
+use Rattle.cube_model.specs.Runs.{entered, reply_by, next_by}
 use Rattle.cube_model.specs.Verdicts.{verdict, IsAdmissible}
 use Rattle.cube_admit.specs.States.{waits_for}
 use Rattle.cube_query.specs.Canonical.{is_request}
 use Rattle.cube_query.specs.Faults.{request_of}
 use Rattle.cube_answers.specs.VerdictText.{IsVerdict}
 use Rattle.cube_engine.specs.Books.{Holding, is_answer, that_waits}
-use Rattle.cube_engine.specs.Prepared.{Comes, InnerComes}
-use Rattle.cube_engine.specs.Steps.{inner_reply, inner_history}
+use Rattle.cube_engine.specs.Prepared.{Comes, QuestionComes}
+use Rattle.cube_engine.specs.Steps.{by_words}
 use Rattle.cube_engine.specs.declared.prepared.Prepared.{Prepared}
 use Rattle.cube_engine.specs.declared.prepared.Prepared.TheVariants.{Said, Waits}
 use Rattle.cube_engine.proofs.Named.{valid_under, verdict_named, read_reply, read_history}
@@ -54,19 +54,19 @@ given_is_no_fault o e f = absurd (let x : Given ≡ JournalFault = sym e ∙ f i
 
 -- a query whose text is that of a request comes to what the request does
 pub query_is : (c : Core) (p : Policy) (h : List Entry) (text : List ℕ) (r : Request) (waits : Option Request) (x : Prepared) → IsPolicy c.dims p → is_request c.dims r ≡ true → request_of c.dims text ≡ Ok r
-    → Comes c.dims (world c p) h r waits x → InnerComes c.dims (world c p) h (Query text) waits x
+    → Comes c.dims (world c p) h r waits x → QuestionComes c.dims (world c p) h (Query text) waits x
 query_is c p h text r waits (Said reply o) policy valid read comes =
     let there = valid_under c p r policy valid in
     let history = sym (read_history c p h r (request_of c.dims text) read there) ∙ comes.2 in (
       given_is_no_fault o comes.0,
-      subst (λ (q : Outcome). reply ≡ inner_reply q c.dims (world c p) h (Query text)) (sym comes.0) (comes.1 ∙ read_reply c p h r (request_of c.dims text) read there),
-      subst (λ (q : Outcome). inner_history q c.dims (shown c p) h (Query text) ≡ h) (sym comes.0) history,
+      subst (λ (q : Outcome). reply ≡ reply_by (by_words c.dims) q (Query text) (world c p) h) (sym comes.0) (comes.1 ∙ read_reply c p h r (request_of c.dims text) read),
+      subst (λ (q : Outcome). next_by (by_words c.dims) q (Query text) (shown c p) h ≡ h) (sym comes.0) history,
       comes.3,
     )
 query_is c p h text r waits (Waits reply line) policy valid read comes =
     let there = valid_under c p r policy valid in (
       r,
       record { is_held = comes.3; valid = valid; fresh = comes.1; is_line = comes.2 },
-      comes.0 ∙ read_reply c p h r (request_of c.dims text) read there,
+      comes.0 ∙ read_reply c p h r (request_of c.dims text) read,
       sym (read_history c p h r (request_of c.dims text) read there) ∙ ap (entered h r) comes.1,
     )

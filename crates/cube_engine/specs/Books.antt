@@ -1,7 +1,7 @@
 -- A holding is one cube with the policy that it is asked under, and what its history holds; a book is one whose history is kept in a log.
-use Rattle.std.specs.Prelude.{◌≡◌, ℕ, List, Bool, true, false, Some}
+use Rattle.std.specs.Prelude.{◌≡◌, ℕ, IsTrue, List, Bool, true, false, Some}
 use Rattle.std.specs.declared.option.Option.{Option}
-use Rattle.cube_model.specs.declared.ask.Inner.{Inner}
+use Rattle.cube_model.specs.declared.ask.Question.{Question}
 use Rattle.cube_model.specs.declared.entry.Entry.{Entry}
 use Rattle.cube_model.specs.declared.outcome.Outcome.{Outcome}
 use Rattle.cube_model.specs.declared.policy.Policy.{Policy}
@@ -11,11 +11,13 @@ use Rattle.cube_model.specs.declared.verdict.Verdict.{Verdict}
 use Rattle.cube_model.specs.declared.verdict.Verdict.TheVariants.{Answer, Full, SourceWould, Pair, Single}
 use Rattle.cube_model.specs.Cores.{Core, shown, world}
 use Rattle.cube_model.specs.Rooms.{Room, alone}
+use Rattle.cube_model.specs.Runs.{reply_by, next_by}
+use Rattle.cube_io.specs.Seen.{StoreState}
 use Rattle.cube_journal.specs.Keeping.{Journal}
 use Rattle.cube_journal.specs.RequestLines.{request_line}
 use Rattle.cube_rollup.specs.Rollups.{entry_of}
-use Rattle.cube_engine.specs.Kept.{MayEnter}
-use Rattle.cube_engine.specs.Steps.{inner_reply, inner_history}
+use Rattle.cube_engine.specs.Kept.{MayEnter, IsExact}
+use Rattle.cube_engine.specs.Steps.{by_words}
 
 -- one cube with its policy and its history, and the request that waits to enter that, if any
 pub record Holding : Type 0 where
@@ -44,16 +46,20 @@ is_answer (Pair k i j t) = false
 is_answer (Single k i t) = false
 
 -- the reply to what is asked of a book, by what became of it
-abbrev pub book_reply : Outcome → Book → Inner → Reply
-book_reply o b a = inner_reply o b.core.dims (world b.core b.policy) b.history a
+abbrev pub book_reply : Outcome → Book → Question → Reply
+book_reply o b a = reply_by (by_words b.core.dims) o a (world b.core b.policy) b.history
 
 -- the history behind it
-abbrev pub book_history : Outcome → Book → Inner → List Entry
-book_history o b a = inner_history o b.core.dims (shown b.core b.policy) b.history a
+abbrev pub book_history : Outcome → Book → Question → List Entry
+book_history o b a = next_by (by_words b.core.dims) o a (shown b.core b.policy) b.history
 
 -- the one room that a book is, with the empty name
 abbrev pub book_rooms : Book → List Room
 book_rooms b = alone (world b.core b.policy) b.history
+
+-- where every crash left just the history of the book, it leaves just this one behind
+abbrev pub StaysExact : Book → List Entry → StoreState → StoreState → Type 0
+StaysExact b h store store' = IsTrue store.told → IsExact b.core b.policy b.history (store.logs b.journal.log).state → IsExact b.core b.policy h (store'.logs b.journal.log).state
 
 -- the book where this waits
 abbrev pub with_waiting : Option Request → Book → Book

@@ -17,7 +17,7 @@ use Rattle.cube_model.specs.Cores.{Core, shown}
 use Rattle.cube_model.specs.Cubes.{Public}
 use Rattle.cube_model.specs.Dims.{Dims, plains}
 use Rattle.cube_model.specs.Requests.{grain, is_grouped, is_one}
-use Rattle.cube_model.specs.Runs.{Reply, Reply as told, witnessed}
+use Rattle.cube_model.specs.Runs.{WitnessReply, WitnessReply as told, witnessed}
 use Rattle.cube_model.specs.Twins.{moves}
 use Rattle.cube_query.specs.Faults.{request_of, fault_status, fault_body}
 use Rattle.cube_query.specs.declared.fault.RequestFault.{RequestFault}
@@ -50,18 +50,11 @@ Found = Result (ℕ × List Change) (ℕ × List ℕ)
 abbrev pub no_cell : Found
 no_cell = Err (400, codes "not a cell of a measure\n")
 
-abbrev pub found_of : Public → ℕ → Reply → Found
+abbrev pub found_of : Public → ℕ → WitnessReply → Found
 found_of g m (told.Changed changes) = Ok (m, moves g changes)
 found_of g m told.EmptyCell = Err (404, codes "empty cell\n")
 found_of g m told.NotProtected = Err (404, codes "not protected\n")
 found_of g m told.NotOfMeasure = no_cell
-found_of g m told.Malformed = no_cell
-found_of g m (told.Refused v) = no_cell
-found_of g m (told.Answered rows) = no_cell
-found_of g m (told.Known g') = no_cell
-found_of g m (told.Failed o) = no_cell
-found_of g m told.NoPath = no_cell
-found_of g m told.UnknownGroup = no_cell
 
 abbrev pub found_at : Public → List Entry → What → Cell → Found
 found_at g h Count t = no_cell

@@ -1,5 +1,7 @@
 -- The pay cube behind a history.
-use Rattle.std.specs.Prelude.{List, [], ◌∷◌}
+use Rattle.std.specs.Prelude.{ℕ, List, [], ◌∷◌, None, Some}
+use Rattle.cube_model.specs.declared.ask.Ask.{Ask}
+use Rattle.cube_model.specs.declared.ask.Question.{Question}
 use Rattle.cube_model.specs.declared.entry.Entry.{Entry}
 use Rattle.cube_model.specs.declared.policy.Method.TheVariants.{Plain, Lattice}
 use Rattle.cube_model.specs.declared.policy.Policy.{Policy}
@@ -24,3 +26,10 @@ pay_rooms h = alone (world pay_core pay_policy) h
 -- pay by month
 abbrev pub months : Request
 months = grouped (Measure 0) 2 0
+
+-- asks of the server's own cube, and of a group
+abbrev pub own : Question → Ask
+own question = record { group = None; question = question }
+
+abbrev pub of_group : List ℕ → Question → Ask
+of_group name question = record { group = Some name; question = question }

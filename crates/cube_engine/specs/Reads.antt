@@ -1,7 +1,7 @@
 -- How many values of the cube an ask reads.
 use Rattle.std.specs.Prelude.{◌≡◌, ℕ, ◌+◌, ◌≤◌, false, true, List, slice_index_or, Option, None, Ok}
-use Rattle.cube_model.specs.declared.ask.Inner.{Inner}
-use Rattle.cube_model.specs.declared.ask.Inner.TheVariants.{Query, Witness, Shape}
+use Rattle.cube_model.specs.declared.ask.Question.{Question}
+use Rattle.cube_model.specs.declared.ask.Question.TheVariants.{Query, Witness, Shape}
 use Rattle.cube_model.specs.declared.entry.Entry.{Entry}
 use Rattle.cube_model.specs.declared.policy.Method.TheVariants.{Lattice}
 use Rattle.cube_model.specs.declared.request.Request.{Request}
@@ -24,7 +24,7 @@ abbrev pub ReadsFew : Public → List Entry → Request → ℕ → ℕ → Type
 ReadsFew g h r before after = (m : ℕ) → asks m r ≡ true → method g m ≡ Lattice → verdict g h r ≡ Answer false → after ≤ before + cells_at g (source h m)
 
 -- So does a query that is read as one. A question for changes or for the shape reads no value.
-abbrev pub AskReadsFew : Dims → Public → List Entry → Inner → ℕ → ℕ → Type 0
+abbrev pub AskReadsFew : Dims → Public → List Entry → Question → ℕ → ℕ → Type 0
 AskReadsFew s g h (Query text) before after = (r : Request) → request_of s text ≡ Ok r → ReadsFew g h r before after
 AskReadsFew s g h (Witness text) before after = after ≡ before
 AskReadsFew s g h Shape before after = after ≡ before
@@ -37,7 +37,7 @@ cuboid_of r Count = None
 cuboid_of r (Measure m) = slice_index_or (entered r) m None
 
 -- it is a cuboid of the core, for the request's measure and at least as fine as its grain
-pub record Serves (c : Core) (r : Request) (k : Cuboid) : Type 0 where
+pub record IsFineEnough (c : Core) (r : Request) (k : Cuboid) : Type 0 where
   pub stands : StandsFor c k
   pub measure : asks k.measure r ≡ true
   pub finer : is_finer k.levels (grain r) ≡ true

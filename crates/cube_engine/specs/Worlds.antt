@@ -14,7 +14,7 @@ use Rattle.cube_model.specs.Twins.{changes, twin, sum_of}
 use Rattle.cube_model.specs.Verdicts.{IsAdmissible}
 use Rattle.cube_engine.specs.Books.{Book}
 use Rattle.cube_engine.specs.Engines.{Engine}
-use Rattle.cube_engine.specs.Steps.{reply_in}
+use Rattle.cube_engine.specs.Steps.{manner}
 
 -- what always holds of a book
 pub record IsRuled (b : Book) : Type 0 where
@@ -34,7 +34,7 @@ twin_of e m t = twin (world e.core e.policy) m (changes (shown e.core e.policy) 
 -- Between two states of an engine an ask was answered: in the world with the changes for a cell by the later history, the same reply
 -- comes of the same outcome, and the sum of the cell is greater by one.
 pub record IsOpen (old new : Engine) (ask : Ask) (reply : Reply) (m : ℕ) (t : Cell) : Type 0 where
-  pub same_reply : (o : Outcome) → new.outcomes ≡ old.outcomes ++ o ∷ [] → reply_in old.core.dims (alone (twin_of new m t) old.history) ask o ≡ reply
+  pub same_reply : (o : Outcome) → new.outcomes ≡ old.outcomes ++ o ∷ [] → (manner old.core.dims).reply (alone (twin_of new m t) old.history) ask o ≡ reply
   pub other_sum : sum_of (twin_of new m t) m t ≡ sum_of (world new.core new.policy) m t +ℤ pos 1
 
 -- The two worlds: so it is for whatever protected cell of whatever measure.

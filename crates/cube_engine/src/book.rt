@@ -1,6 +1,6 @@
 // One cube with its policy, its history, and the log that keeps it.
-ghost use Rattle.std.specs.Prelude.{◌≡◌, ◌≢◌, ◌≤◌, ◌+◌, ◌^◌, ◌++◌, ◌∷◌, [], true, false, ℕ, None, Ok, length, IsTrue, IfOk, OnOk, IfErr, OnErr, if◌then◌else◌};
-ghost use Rattle.cube_model.specs.declared.ask.Inner.TheVariants as inner;
+ghost use Rattle.std.specs.Prelude.{◌≡◌, ◌≤◌, ◌+◌, ◌^◌, ◌++◌, None, Ok, length, IsTrue, IfOk, OnOk, IfErr, OnErr, if◌then◌else◌};
+ghost use Rattle.cube_model.specs.declared.ask.Question.TheVariants as asked;
 ghost use Rattle.cube_model.specs.Cores.{shown, world};
 ghost use Rattle.cube_model.specs.Policies.{IsPolicy};
 ghost use Rattle.cube_admit.specs.States.{StandsFor};
@@ -12,7 +12,7 @@ ghost use Rattle.cube_engine.specs.Books.{IsWaiting, entry_waiting, with_waiting
 ghost use Rattle.cube_engine.specs.Changes.{Refuses, changes_for, text_of, twin_for};
 ghost use Rattle.cube_engine.specs.Kept.{history_of, IsKept, IsExact, IsWithin};
 ghost use Rattle.cube_engine.specs.Opening.{StartCause, IsStartFault};
-ghost use Rattle.cube_engine.specs.Prepared.{InnerComes};
+ghost use Rattle.cube_engine.specs.Prepared.{QuestionComes};
 ghost use Rattle.cube_engine.specs.Reads.{AskReadsFew};
 ghost use Rattle.cube_engine.specs.Worlds.{IsRuled};
 
@@ -25,7 +25,7 @@ use cube_admit::State;
 use cube_core::{Core, Steps};
 use cube_io::{Failed, Store};
 use cube_journal::{Journal, Line};
-use cube_model::{Inner, Policy, Text};
+use cube_model::{Policy, Question, Text};
 use std::alloc::Global;
 use std::marker::Model;
 use std::sync::ledger::Ledger;
@@ -134,9 +134,9 @@ impl Book {
         steps: &mut Steps<L>,
     ) -> Prepared
         requires { self.old.waiting ≡ None }
-        ensures comes { InnerComes self.old.core.dims (world self.old.core self.old.policy) self.old.history (inner.Query text.now) self.new.waiting result }
+        ensures comes { QuestionComes self.old.core.dims (world self.old.core self.old.policy) self.old.history (asked.Query text.now) self.new.waiting result }
         ensures same { self.new ≡ with_waiting self.new.waiting self.old }
-        ensures few { AskReadsFew self.old.core.dims (shown self.old.core self.old.policy) self.old.history (inner.Query text.now) steps.old steps.new }
+        ensures few { AskReadsFew self.old.core.dims (shown self.old.core self.old.policy) self.old.history (asked.Query text.now) steps.old steps.new }
     {
         self.holding.query(alloc, text, steps)
     }
@@ -144,7 +144,7 @@ impl Book {
     // What a question for the changes that hide a cell comes to.
     pub(crate) fn witness(&mut self, alloc: Global, text: &[u8]) -> Prepared
         requires { self.old.waiting ≡ None }
-        ensures comes { InnerComes self.old.core.dims (world self.old.core self.old.policy) self.old.history (inner.Witness text.now) self.new.waiting result }
+        ensures comes { QuestionComes self.old.core.dims (world self.old.core self.old.policy) self.old.history (asked.Witness text.now) self.new.waiting result }
         ensures same { self.new ≡ with_waiting self.new.waiting self.old }
     {
         self.holding.witness(alloc, text)
@@ -153,28 +153,28 @@ impl Book {
     // What a question for the public shape comes to.
     pub(crate) fn shape(&mut self, alloc: Global) -> Prepared
         requires { self.old.waiting ≡ None }
-        ensures comes { InnerComes self.old.core.dims (world self.old.core self.old.policy) self.old.history inner.Shape self.new.waiting result }
+        ensures comes { QuestionComes self.old.core.dims (world self.old.core self.old.policy) self.old.history asked.Shape self.new.waiting result }
         ensures same { self.new ≡ with_waiting self.new.waiting self.old }
     {
         self.holding.shape(alloc)
     }
 
-    // What is asked of the cube comes to.
+    // What a question comes to.
     pub(crate) fn prepare<L: Ledger>(
         &mut self,
         alloc: Global,
-        ask: &Inner,
+        question: &Question,
         steps: &mut Steps<L>,
     ) -> Prepared
         requires { self.old.waiting ≡ None }
-        ensures comes { InnerComes self.old.core.dims (world self.old.core self.old.policy) self.old.history ask.now self.new.waiting result }
+        ensures comes { QuestionComes self.old.core.dims (world self.old.core self.old.policy) self.old.history question.now self.new.waiting result }
         ensures same { self.new ≡ with_waiting self.new.waiting self.old }
-        ensures few { AskReadsFew self.old.core.dims (shown self.old.core self.old.policy) self.old.history ask.now steps.old steps.new }
+        ensures few { AskReadsFew self.old.core.dims (shown self.old.core self.old.policy) self.old.history question.now steps.old steps.new }
     {
-        match ask {
-            Inner::Query(text) => self.query(alloc, text.as_slice(), steps),
-            Inner::Witness(text) => self.witness(alloc, text.as_slice()),
-            Inner::Shape => self.shape(alloc),
+        match question {
+            Question::Query(text) => self.query(alloc, text.as_slice(), steps),
+            Question::Witness(text) => self.witness(alloc, text.as_slice()),
+            Question::Shape => self.shape(alloc),
         }
     }
 

@@ -1,22 +1,24 @@
 // A book that counts what became of its asks.
 ghost use Rattle.std.specs.Prelude.{◌≡◌, ◌≢◌, ◌≤◌, ◌<◌, ◌+◌, ◌-◌, ◌++◌, ◌∷◌, ℕ, List, [], None, Some, Ok, IsTrue, IfOk, IfErr};
-ghost use Rattle.cube_model.specs.declared.ask.Ask.TheVariants as asked;
 ghost use Rattle.cube_model.specs.declared.outcome.Outcome.TheVariants as outcome;
 ghost use Rattle.cube_model.specs.Cores.{shown, world};
+ghost use Rattle.cube_model.specs.Cubes.{same};
+ghost use Rattle.cube_model.specs.Dims.{Dims};
 ghost use Rattle.cube_model.specs.Policies.{IsPolicy};
+ghost use Rattle.cube_model.specs.Rooms.{aim};
 ghost use Rattle.cube_admit.specs.States.{StandsFor};
 ghost use Rattle.cube_io.specs.Desks.{Answered};
 ghost use Rattle.cube_io.specs.States.{Gained};
 ghost use Rattle.cube_io.specs.Told.{Works, OthersStay};
 ghost use Rattle.cube_journal.specs.Keeping.{IsInRecovery};
-ghost use Rattle.cube_engine.specs.Books.{book_rooms, with_waiting};
+ghost use Rattle.cube_engine.specs.Books.{book_rooms, with_waiting, StaysExact};
 ghost use Rattle.cube_engine.specs.Changes.{Refuses, changes_for, text_of, twin_for};
 ghost use Rattle.cube_engine.specs.Engines.{book_of, rooms_of};
 ghost use Rattle.cube_engine.specs.Kept.{history_of, IsKept, IsExact, IsWithin};
 ghost use Rattle.cube_engine.specs.Opening.{StartCause, IsStartFault};
 ghost use Rattle.cube_engine.specs.Prepared.{AskComes, IsMissed, SettleCause};
 ghost use Rattle.cube_engine.specs.Reads.{AskReadsFew};
-ghost use Rattle.cube_engine.specs.Steps.{inner_of, manner, reply_in, next_in};
+ghost use Rattle.cube_engine.specs.Steps.{manner};
 ghost use Rattle.cube_engine.specs.Worlds.{IsRuled, Opens};
 
 use crate::prepared::Prepared;
@@ -25,14 +27,24 @@ use crate::{Book, EngineFault, NoChanges};
 use cube_admit::State;
 use cube_core::{Core, Steps};
 use cube_io::Store;
-use cube_model::{Ask, Fixed, Inner, Kind, Outcome, Outcomes, Policy, Reply, Text};
+use cube_model::{Ask, Fixed, Kind, Outcome, Outcomes, Policy, Reply, Text};
 use std::alloc::Global;
 use std::marker::Model;
 use std::sync::ledger::{Blank, Ledger};
 
+// Whether an ask is for the cube of a book, which has the empty name.
+fn is_own(ask: &Ask) -> bool
+    ensures { result ≡ same [] (aim ask.now.group) }
+{
+    match &ask.group {
+        None => true,
+        Some(name) => name.is_empty(),
+    }
+}
+
 // What an ask of a group that there is none of comes to.
 fn unknown_group(alloc: Global) -> Prepared
-    ensures { (name : List ℕ) → IsMissed (Some name) result }
+    ensures { (s : Dims) (name : List ℕ) → IsMissed s (Some name) result }
 {
     match Text::from_bytes(alloc, b"unknown group\n") {
         Ok(body) => Prepared::Said(
@@ -47,40 +59,18 @@ fn unknown_group(alloc: Global) -> Prepared
     }
 }
 
-// What an ask of a group comes to: a book has the empty name, and no other.
-#[tactic(auto, using(crate::proofs::Alone::group_comes, crate::proofs::Alone::other_comes))]
-fn prepare_group<L: Ledger>(
-    alloc: Global,
-    book: &mut Book,
-    name: &[u8],
-    ask: &Inner,
-    steps: &mut Steps<L>,
-) -> Prepared
-    requires { book.old.waiting ≡ None }
-    ensures comes { AskComes book.old.core.dims (world book.old.core book.old.policy) book.old.history (asked.Group name.now ask.now) book.new.waiting result }
-    ensures same { book.new ≡ with_waiting book.new.waiting book.old }
-    ensures few { AskReadsFew book.old.core.dims (shown book.old.core book.old.policy) book.old.history ask.now steps.old steps.new }
-{
-    if name.is_empty() {
-        book.prepare(alloc, ask, steps)
-    } else {
-        unknown_group(alloc)
-    }
-}
-
 // What an ask comes to.
-#[tactic(auto, using(crate::proofs::Alone::query_comes, crate::proofs::Alone::witness_comes, crate::proofs::Alone::shape_comes))]
+#[tactic(auto, using(crate::proofs::Alone::own_comes, crate::proofs::Alone::other_comes))]
 fn prepare<L: Ledger>(alloc: Global, book: &mut Book, ask: &Ask, steps: &mut Steps<L>) -> Prepared
     requires { book.old.waiting ≡ None }
     ensures comes { AskComes book.old.core.dims (world book.old.core book.old.policy) book.old.history ask.now book.new.waiting result }
     ensures same { book.new ≡ with_waiting book.new.waiting book.old }
-    ensures few { AskReadsFew book.old.core.dims (shown book.old.core book.old.policy) book.old.history (inner_of ask.now) steps.old steps.new }
+    ensures few { AskReadsFew book.old.core.dims (shown book.old.core book.old.policy) book.old.history ask.now.question steps.old steps.new }
 {
-    match ask {
-        Ask::Query(text) => book.query(alloc, text.as_slice(), steps),
-        Ask::Witness(text) => book.witness(alloc, text.as_slice()),
-        Ask::Shape => book.shape(alloc),
-        Ask::Group { name, ask } => prepare_group(alloc, book, name.as_slice(), ask, steps),
+    if is_own(ask) {
+        book.prepare(alloc, &ask.question, steps)
+    } else {
+        unknown_group(alloc)
     }
 }
 
@@ -94,18 +84,18 @@ fn settle<S: Store>(
     requires attached { IsTrue (S.state store.old).attached }
     requires kept { IsTrue (S.state store.old).told → IsKept book.old.core book.old.policy book.old.history book.old.journal ((S.state store.old).logs book.old.journal.log).state }
     requires comes { AskComes book.old.core.dims (world book.old.core book.old.policy) book.old.history ask.now book.old.waiting prepared }
-    ensures reply { result.0 ≡ reply_in book.old.core.dims (book_rooms book.old) ask.now result.1 }
-    ensures rooms { book_rooms book.new ≡ next_in book.old.core.dims (book_rooms book.old) ask.now result.1 }
+    ensures reply { result.0 ≡ (manner book.old.core.dims).reply (book_rooms book.old) ask.now result.1 }
+    ensures rooms { book_rooms book.new ≡ (manner book.old.core.dims).next (book_rooms book.old) ask.now result.1 }
     ensures core { book.new.core ≡ book.old.core }
     ensures policy { book.new.policy ≡ book.old.policy }
     ensures log { book.new.journal.log ≡ book.old.journal.log }
     ensures none { book.new.waiting ≡ None }
-    ensures cause { SettleCause result.1 (next_in book.old.core.dims (book_rooms book.old) ask.now outcome.Given ≢ book_rooms book.old) (S.state store.old).faults (S.state store.new).faults }
-    ensures untouched { next_in book.old.core.dims (book_rooms book.old) ask.now outcome.Given ≡ book_rooms book.old → (store.new ≡ store.old) × (book.new.journal ≡ book.old.journal) }
+    ensures cause { SettleCause result.1 ((manner book.old.core.dims).next (book_rooms book.old) ask.now outcome.Given ≢ book_rooms book.old) (S.state store.old).faults (S.state store.new).faults }
+    ensures untouched { (manner book.old.core.dims).next (book_rooms book.old) ask.now outcome.Given ≡ book_rooms book.old → (store.new ≡ store.old) × (book.new.journal ≡ book.old.journal) }
     ensures works { Works (S.state store.old) (S.state store.new) 4 }
     ensures others { OthersStay book.old.journal.log (S.state store.old) (S.state store.new) }
     ensures kept { IsTrue (S.state store.old).told → IsKept book.old.core book.old.policy book.new.history book.new.journal ((S.state store.new).logs book.old.journal.log).state }
-    ensures exact { IsTrue (S.state store.old).told → result.1 ≢ outcome.JournalFault → IsExact book.old.core book.old.policy book.old.history ((S.state store.old).logs book.old.journal.log).state → IsExact book.old.core book.old.policy book.new.history ((S.state store.new).logs book.old.journal.log).state }
+    ensures exact { result.1 ≢ outcome.JournalFault → StaysExact book.old book.new.history (S.state store.old) (S.state store.new) }
     ensures crash { IsTrue (S.state store.old).told → Gained (IsWithin book.old.core book.old.policy book.old.history) ((S.state store.old).logs book.old.journal.log) ((S.state store.new).logs book.old.journal.log) }
 {
     let _ask = ask;
@@ -250,15 +240,15 @@ impl Engine {
         ensures others { OthersStay self.old.journal.log (S.state store.old) (S.state store.new) }
 
         // A request on a lattice measure that adds nothing to the history is answered from the source cuboid.
-        ensures few_reads { AskReadsFew self.old.core.dims (shown self.old.core self.old.policy) self.old.history (inner_of ask.now) steps.old steps.new }
+        ensures few_reads { AskReadsFew self.old.core.dims (shown self.old.core self.old.policy) self.old.history ask.now.question steps.old steps.new }
 
         // An ask that adds nothing to the history leaves the store alone.
-        ensures untouched { next_in self.old.core.dims (rooms_of self.old) ask.now outcome.Given ≡ rooms_of self.old → store.new ≡ store.old }
+        ensures untouched { (manner self.old.core.dims).next (rooms_of self.old) ask.now outcome.Given ≡ rooms_of self.old → store.new ≡ store.old }
 
         // The engine belongs to the log as it stands. Where no keep failed, every crash leaves just the history behind it; at
         // each moment of the call the history before it, alone or with one more request.
         ensures kept { IsTrue (S.state store.old).told → IsKept self.old.core self.old.policy self.new.history self.new.journal ((S.state store.new).logs self.old.journal.log).state }
-        ensures exact { IsTrue (S.state store.old).told → self.new.outcomes ≢ self.old.outcomes ++ outcome.JournalFault ∷ [] → IsExact self.old.core self.old.policy self.old.history ((S.state store.old).logs self.old.journal.log).state → IsExact self.old.core self.old.policy self.new.history ((S.state store.new).logs self.old.journal.log).state }
+        ensures exact { self.new.outcomes ≢ self.old.outcomes ++ outcome.JournalFault ∷ [] → StaysExact (book_of self.old) self.new.history (S.state store.old) (S.state store.new) }
         ensures within { IsTrue (S.state store.old).told → IsWithin self.old.core self.old.policy self.new.history ((S.state store.new).logs self.old.journal.log).state }
         ensures crash { IsTrue (S.state store.old).told → Gained (IsWithin self.old.core self.old.policy self.old.history) ((S.state store.old).logs self.old.journal.log) ((S.state store.new).logs self.old.journal.log) }
     {
@@ -290,9 +280,9 @@ impl Engine {
         ensures log { self.new.journal.log ≡ self.old.journal.log }
         ensures works { Works (S.state store.old) (S.state store.new) 4 }
         ensures others { OthersStay self.old.journal.log (S.state store.old) (S.state store.new) }
-        ensures untouched { next_in self.old.core.dims (rooms_of self.old) ask.now outcome.Given ≡ rooms_of self.old → store.new ≡ store.old }
+        ensures untouched { (manner self.old.core.dims).next (rooms_of self.old) ask.now outcome.Given ≡ rooms_of self.old → store.new ≡ store.old }
         ensures kept { IsTrue (S.state store.old).told → IsKept self.old.core self.old.policy self.new.history self.new.journal ((S.state store.new).logs self.old.journal.log).state }
-        ensures exact { IsTrue (S.state store.old).told → self.new.outcomes ≢ self.old.outcomes ++ outcome.JournalFault ∷ [] → IsExact self.old.core self.old.policy self.old.history ((S.state store.old).logs self.old.journal.log).state → IsExact self.old.core self.old.policy self.new.history ((S.state store.new).logs self.old.journal.log).state }
+        ensures exact { self.new.outcomes ≢ self.old.outcomes ++ outcome.JournalFault ∷ [] → StaysExact (book_of self.old) self.new.history (S.state store.old) (S.state store.new) }
         ensures within { IsTrue (S.state store.old).told → IsWithin self.old.core self.old.policy self.new.history ((S.state store.new).logs self.old.journal.log).state }
         ensures crash { IsTrue (S.state store.old).told → Gained (IsWithin self.old.core self.old.policy self.old.history) ((S.state store.old).logs self.old.journal.log) ((S.state store.new).logs self.old.journal.log) }
     {

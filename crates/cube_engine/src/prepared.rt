@@ -1,6 +1,6 @@
 // What an ask comes to, before anything is kept: the reply, and for a request that enters the history its line.
 ghost use Rattle.std.specs.Prelude.{◌≡◌, true, None, is_some, IfOk, OnErr};
-ghost use Rattle.cube_model.specs.declared.ask.Inner.TheVariants as inner;
+ghost use Rattle.cube_model.specs.declared.ask.Question.TheVariants as question;
 ghost use Rattle.cube_model.specs.declared.policy.Policy.{Policy};
 ghost use Rattle.cube_model.specs.declared.reply.Kind.TheVariants as kind;
 ghost use Rattle.cube_model.specs.declared.reply.Reply.TheVariants as made;
@@ -13,7 +13,7 @@ ghost use Rattle.cube_journal.specs.RequestLines.{request_line};
 ghost use Rattle.cube_query.specs.Canonical.{is_request};
 ghost use Rattle.cube_answers.specs.AnswerText.{answer_text as answer_words};
 ghost use Rattle.cube_engine.specs.Books.{is_answer, that_waits};
-ghost use Rattle.cube_engine.specs.Prepared.{given_as, Comes, InnerComes};
+ghost use Rattle.cube_engine.specs.Prepared.{given_as, Comes, QuestionComes};
 ghost use Rattle.cube_engine.specs.Reads.{AskReadsFew, ReadsFew};
 ghost use Rattle.cube_answers.specs.VerdictText.{verdict_text as verdict_words, IsVerdict};
 
@@ -118,10 +118,10 @@ impl Holding {
         steps: &mut Steps<L>,
     ) -> Result<Prepared, NoMemory>
         requires none { self.old.waiting ≡ None }
-        ensures comes { IfOk result (λ prepared. InnerComes self.old.core.dims (world self.old.core self.old.policy) self.old.history (inner.Query query.now) self.new.waiting prepared) }
+        ensures comes { IfOk result (λ prepared. QuestionComes self.old.core.dims (world self.old.core self.old.policy) self.old.history (question.Query query.now) self.new.waiting prepared) }
         ensures same { self.new ≡ that_waits self.new.waiting self.old }
         ensures err { OnErr result (self.new.waiting ≡ None) }
-        ensures few { AskReadsFew self.old.core.dims (shown self.old.core self.old.policy) self.old.history (inner.Query query.now) steps.old steps.new }
+        ensures few { AskReadsFew self.old.core.dims (shown self.old.core self.old.policy) self.old.history (question.Query query.now) steps.old steps.new }
     {
         match read_request(alloc, self.core().dims(), query) {
             Ok(request) => self.prepare_request(alloc, &request, steps),
@@ -145,9 +145,9 @@ impl Holding {
         steps: &mut Steps<L>,
     ) -> Prepared
         requires none { self.old.waiting ≡ None }
-        ensures comes { InnerComes self.old.core.dims (world self.old.core self.old.policy) self.old.history (inner.Query query.now) self.new.waiting result }
+        ensures comes { QuestionComes self.old.core.dims (world self.old.core self.old.policy) self.old.history (question.Query query.now) self.new.waiting result }
         ensures same { self.new ≡ that_waits self.new.waiting self.old }
-        ensures few { AskReadsFew self.old.core.dims (shown self.old.core self.old.policy) self.old.history (inner.Query query.now) steps.old steps.new }
+        ensures few { AskReadsFew self.old.core.dims (shown self.old.core self.old.policy) self.old.history (question.Query query.now) steps.old steps.new }
     {
         match self.prepare_text(alloc, query, steps) {
             Ok(prepared) => prepared,

@@ -10,7 +10,7 @@ ghost use Rattle.cube_admit.specs.States.{waiting, StandsFor};
 ghost use Rattle.cube_query.specs.Canonical.{is_request};
 ghost use Rattle.cube_answers.specs.AnswerText.{answer_text as answer_words, IsAnswer};
 ghost use Rattle.cube_rollup.specs.Rollups.{kept_at, IsCuboidAt, RollupsStand};
-ghost use Rattle.cube_engine.specs.Reads.{cuboid_of, Serves};
+ghost use Rattle.cube_engine.specs.Reads.{cuboid_of, IsFineEnough};
 
 use cube_admit::{Next, State};
 use cube_answers::{answer, answer_text};
@@ -117,7 +117,7 @@ fn rolled_sums<L: Ledger>(
     steps: &mut Steps<L>,
 ) -> Result<Answer, NoMemory>
     requires request { is_request core.now.dims request.now ≡ true }
-    requires serves { Serves core.now request.now cuboid.now }
+    requires serves { IsFineEnough core.now request.now cuboid.now }
     ensures sums { IfOk result (λ answer. (p : Policy) → answer ≡ answer_of (world core.now p) request.now) }
     ensures written { IfOk result (λ answer. IsAnswer core.now.dims request.now answer) }
     ensures steps { steps.new ≤ steps.old + length cuboid.now.cells }
@@ -135,7 +135,7 @@ fn grouped_text<L: Ledger>(
     steps: &mut Steps<L>,
 ) -> Result<Text, NoMemory>
     requires request { is_request core.now.dims request.now ≡ true }
-    requires serves { Serves core.now request.now cuboid.now }
+    requires serves { IsFineEnough core.now request.now cuboid.now }
     ensures text { IfOk result (λ text. (p : Policy) → text ≡ answer_words core.now.dims request.now (answer_of (world core.now p) request.now)) }
     ensures steps { steps.new ≤ steps.old + length cuboid.now.cells }
 {
@@ -152,7 +152,7 @@ fn rolled_text<L: Ledger>(
     steps: &mut Steps<L>,
 ) -> Result<Text, NoMemory>
     requires request { is_request core.now.dims request.now ≡ true }
-    requires serves { Serves core.now request.now cuboid.now }
+    requires serves { IsFineEnough core.now request.now cuboid.now }
     ensures text { IfOk result (λ text. (p : Policy) → text ≡ answer_words core.now.dims request.now (answer_of (world core.now p) request.now)) }
     ensures steps { steps.new ≤ steps.old + length cuboid.now.cells }
 {
@@ -189,7 +189,7 @@ pub(crate) fn answer_request<L: Ledger>(
 ) -> Result<Text, NoMemory>
     requires request { is_request core.now.dims request.now ≡ true }
     requires long { length rollups.now.kept ≡ length core.now.dims.measures }
-    requires serves { IfSome (cuboid_of rollups.now request.now.what) (Serves core.now request.now) }
+    requires serves { IfSome (cuboid_of rollups.now request.now.what) (IsFineEnough core.now request.now) }
     ensures text { IfOk result (λ text. (p : Policy) → text ≡ answer_words core.now.dims request.now (answer_of (world core.now p) request.now)) }
     ensures steps { IfSome (cuboid_of rollups.now request.now.what) (λ k. steps.new ≤ steps.old + length k.cells) }
 {

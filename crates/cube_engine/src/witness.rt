@@ -1,25 +1,28 @@
 // What a question for the changes that hide a cell comes to, and one for the public shape.
 ghost use Rattle.std.specs.Prelude.{◌≡◌, ◌<◌, ℕ, List, true, None, Ok, Err, Result, length, map, IfOk, IfErr};
 ghost use Rattle.std.specs.List.{All};
-ghost use Rattle.cube_model.specs.declared.ask.Inner.TheVariants as inner;
+ghost use Rattle.cube_model.specs.declared.ask.Question.TheVariants as question;
 ghost use Rattle.cube_model.specs.declared.request.What.TheVariants as what;
 ghost use Rattle.cube_model.specs.Cores.{shown, world};
 ghost use Rattle.cube_model.specs.Cubes.{are_levels};
 ghost use Rattle.cube_model.specs.Dims.{plains};
+ghost use Rattle.cube_admit.specs.States.{StandsFor};
 ghost use Rattle.cube_query.specs.Canonical.{is_request};
 ghost use Rattle.cube_query.specs.Faults.{fault_status, fault_body};
 ghost use Rattle.cube_witness.specs.Grounds.{IsGrounds};
 ghost use Rattle.cube_engine.specs.Changes as said;
 ghost use Rattle.cube_engine.specs.Changes.{Found, Refuses, found_at, found_by, text_of, twin_for};
-ghost use Rattle.cube_engine.specs.Prepared.{InnerComes};
+ghost use Rattle.cube_engine.specs.Prepared.{QuestionComes};
 ghost use Rattle.cube_engine.specs.declared.witness.NoChanges.TheVariants as nothing;
 
 use crate::holding::Holding;
 use crate::prepared::Prepared;
+use cube_admit::State;
+use cube_core::Core;
 use cube_lattice::grain;
 use cube_model::{
-    Cell, Changes, Dims, Fixed, Key, Kind, Method, NoMemory, Outcome, Pick, Reply, Request, Text,
-    What,
+    Cell, Changes, Dims, Fixed, Key, Kind, Method, NoMemory, Outcome, Pick, Policy, Reply, Request,
+    Text, What,
 };
 use cube_query::{RequestFault, all_one, groups, read_request};
 use cube_shape::shape_text;
@@ -106,6 +109,24 @@ fn cell_of(alloc: Global, request: &Request) -> Result<Cell, NoMemory>
     })
 }
 
+/// What is kept of the history of a measure, by its method.
+pub fn grounds_of<'a>(core: &Core, policy: &Policy, state: &'a State, measure: u32) -> Grounds<'a>
+    requires stands { StandsFor (shown core.now policy.now) state.now }
+    requires none { state.now.pending ≡ None }
+    requires measure { measure < length policy.now.methods }
+    ensures { IsGrounds (shown core.now policy.now) state.now.history measure result }
+{
+    let _core = core;
+    match policy.method(measure) {
+        Method::Plain => Grounds::Plain,
+        Method::Lattice => Grounds::Source(state.source(measure)),
+        Method::Parity => match state.colouring(measure) {
+            Some(colouring) => Grounds::Pairs(colouring),
+            None => unreachable!(),
+        },
+    }
+}
+
 impl Holding {
     // What is kept of the history of a measure, by its method.
     fn grounds(&self, measure: u32) -> Grounds<'_>
@@ -113,14 +134,7 @@ impl Holding {
         requires measure { measure < length self.now.policy.methods }
         ensures { IsGrounds (shown self.now.core self.now.policy) self.now.history measure result }
     {
-        match self.policy.methods.as_slice()[measure as usize] {
-            Method::Plain => Grounds::Plain,
-            Method::Lattice => Grounds::Source(self.state.source(measure)),
-            Method::Parity => match self.state.colouring(measure) {
-                Some(colouring) => Grounds::Pairs(colouring),
-                None => unreachable!(),
-            },
-        }
+        grounds_of(&self.core, &self.policy, &self.state, measure)
     }
 
     // The changes for a cell of a measure.
@@ -213,7 +227,7 @@ impl Holding {
     /// What a question for the changes that hide a cell comes to.
     pub(crate) fn witness(&self, alloc: Global, text: &[u8]) -> Prepared
         requires none { self.now.waiting ≡ None }
-        ensures { InnerComes self.now.core.dims (world self.now.core self.now.policy) self.now.history (inner.Witness text.now) None result }
+        ensures { QuestionComes self.now.core.dims (world self.now.core self.now.policy) self.now.history (question.Witness text.now) None result }
     {
         match self.changes_text(alloc, text) {
             Ok(body) => Prepared::Said(
@@ -240,7 +254,7 @@ impl Holding {
 
     /// What a question for the public shape comes to.
     pub(crate) fn shape(&self, alloc: Global) -> Prepared
-        ensures { InnerComes self.now.core.dims (world self.now.core self.now.policy) self.now.history inner.Shape None result }
+        ensures { QuestionComes self.now.core.dims (world self.now.core self.now.policy) self.now.history question.Shape None result }
     {
         match shape_text(alloc, self.core(), self.policy()) {
             Ok(body) => Prepared::Said(

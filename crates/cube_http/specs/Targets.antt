@@ -3,9 +3,8 @@ use Rattle.std.specs.Prelude.{ℕ, ◌&&◌, ◌||◌, ◌==◌, Bool, List, [],
 use Rattle.std.specs.List.{starts_with, list_all, before_first, after_first, position_or_len}
 use Rattle.std.specs.Char.{is_ascii_alphanumeric}
 use Rattle.cube_model.specs.declared.ask.Ask.{Ask}
-use Rattle.cube_model.specs.declared.ask.Ask.TheVariants as ask
-use Rattle.cube_model.specs.declared.ask.Inner.{Inner}
-use Rattle.cube_model.specs.declared.ask.Inner.TheVariants as inner
+use Rattle.cube_model.specs.declared.ask.Question.{Question}
+use Rattle.cube_model.specs.declared.ask.Question.TheVariants as question
 use Rattle.cube_model.specs.declared.reply.Fixed.TheVariants.{NoPath, MethodForm, MethodGet, NoQuery}
 use Rattle.cube_http.specs.declared.targets.Wanted.{Wanted}
 use Rattle.cube_http.specs.declared.targets.Wanted.TheVariants.{Asked, Constant}
@@ -57,16 +56,9 @@ is_name_byte b = is_ascii_alphanumeric b || b == 95 || b == 45
 abbrev pub is_group_name : List ℕ → Bool
 is_group_name name = nat_lt 0 (length name) && nat_le (length name) 32 && list_all is_name_byte name
 
--- an ask of the server's own cube
-abbrev pub plain : Inner → Ask
-plain (inner.Query text) = ask.Query text
-plain (inner.Witness text) = ask.Witness text
-plain inner.Shape = ask.Shape
-
--- how an inner ask becomes one of the server
-abbrev pub aimed : Option (List ℕ) → Inner → Ask
-aimed None i = plain i
-aimed (Some name) i = ask.Group name i
+-- what is asked of a group, or of the server's own cube
+abbrev pub aimed : Option (List ℕ) → Question → Ask
+aimed group question = record { group = group; question = question }
 
 -- behind `/g/` a name and a path of the table
 abbrev pub group_way : List ℕ → Option (Option (List ℕ) × Route)
@@ -82,15 +74,15 @@ found path =
 abbrev pub text_of : MethodKind → List ℕ → List ℕ → Option (List ℕ)
 text_of kind query body = first_named (codes "q") (if is_post kind then body else query)
 
-abbrev pub or_no_query : (List ℕ → Inner) → Option (List ℕ) → Option (List ℕ) → Wanted
+abbrev pub or_no_query : (List ℕ → Question) → Option (List ℕ) → Option (List ℕ) → Wanted
 or_no_query make group None = Constant NoQuery
 or_no_query make group (Some text) = Asked (aimed group (make text))
 
 -- what is asked for by a route, of a group or of the server's own cube
 abbrev pub by_route : MethodKind → List ℕ → List ℕ → Option (List ℕ) → Route → Wanted
-by_route kind query body group route.Query = if is_read kind || is_post kind then or_no_query inner.Query group (text_of kind query body) else Constant MethodForm
-by_route kind query body group route.Witness = if is_read kind || is_post kind then or_no_query inner.Witness group (text_of kind query body) else Constant MethodForm
-by_route kind query body group route.Shape = if is_read kind then Asked (aimed group inner.Shape) else Constant MethodGet
+by_route kind query body group route.Query = if is_read kind || is_post kind then or_no_query question.Query group (text_of kind query body) else Constant MethodForm
+by_route kind query body group route.Witness = if is_read kind || is_post kind then or_no_query question.Witness group (text_of kind query body) else Constant MethodForm
+by_route kind query body group route.Shape = if is_read kind then Asked (aimed group question.Shape) else Constant MethodGet
 
 abbrev pub wanted_by : MethodKind → List ℕ → List ℕ → Option (Option (List ℕ) × Route) → Wanted
 wanted_by kind target body None = Constant NoPath

@@ -1,16 +1,16 @@
 // What a request asks for.
-ghost use Rattle.std.specs.Prelude.{◌≡◌, IfOk, option_map, position, codes, if◌then◌else◌, take};
+ghost use Rattle.std.specs.Prelude.{◌≡◌, IfOk, option_map, position, codes, if◌then◌else◌};
 ghost use Rattle.std.specs.List.{list_all, before_first, after_first};
 ghost use Rattle.cube_http.specs.Targets as spec;
 ghost use Rattle.cube_http.specs.Methods as methods;
 ghost use Rattle.cube_http.specs.Form.{first_named};
 ghost use Rattle.cube_http.specs.Ways.{way_view, by_way};
-ghost use Rattle.cube_model.specs.declared.ask.Inner.TheVariants as inner;
+ghost use Rattle.cube_model.specs.declared.ask.Question.TheVariants as question;
 ghost use Rattle.cube_http.specs.declared.targets.Wanted.TheVariants as wanted;
 
 use crate::form::find_value;
 use crate::head::{MethodKind, is_post};
-use cube_model::{Ask, Fixed, Inner, NoMemory, Text};
+use cube_model::{Ask, Fixed, NoMemory, Question, Text};
 use std::alloc::Global;
 
 /// What a path leads to.
@@ -176,46 +176,33 @@ fn is_read(method: MethodKind) -> bool
     }
 }
 
-// An ask of the server's own cube.
-fn make_plain(ask: Inner) -> Ask
-    ensures { result ≡ spec.plain ask }
-{
-    match ask {
-        Inner::Query(text) => Ask::Query(text),
-        Inner::Witness(text) => Ask::Witness(text),
-        Inner::Shape => Ask::Shape,
-    }
-}
-
 // An ask of a group, or of the server's own cube.
-fn aim(alloc: Global, group: Option<&[u8]>, ask: Inner) -> Result<Wanted, NoMemory>
-    ensures { IfOk result (λ w. w ≡ wanted.Asked (spec.aimed (option_map (λ g. g.now) group.entry) ask)) }
+fn aim(alloc: Global, group: Option<&[u8]>, question: Question) -> Result<Wanted, NoMemory>
+    ensures { IfOk result (λ w. w ≡ wanted.Asked (spec.aimed (option_map (λ g. g.now) group.entry) question)) }
 {
-    match group {
-        None => Ok(Wanted::Asked(make_plain(ask))),
-        Some(name) => {
-            let name = Text::from_bytes(alloc, name)?;
-            Ok(Wanted::Asked(Ask::Group { name, ask }))
-        }
-    }
+    let group = match group {
+        None => None,
+        Some(name) => Some(Text::from_bytes(alloc, name)?),
+    };
+    Ok(Wanted::Asked(Ask { group, question }))
 }
 
 // What is asked by a query's text, if there is one.
 fn ask_query(alloc: Global, group: Option<&[u8]>, text: Option<Text>) -> Result<Wanted, NoMemory>
-    ensures { IfOk result (λ w. w ≡ spec.or_no_query inner.Query (option_map (λ g. g.now) group.entry) text) }
+    ensures { IfOk result (λ w. w ≡ spec.or_no_query question.Query (option_map (λ g. g.now) group.entry) text) }
 {
     match text {
-        Some(text) => aim(alloc, group, Inner::Query(text)),
+        Some(text) => aim(alloc, group, Question::Query(text)),
         None => Ok(Wanted::Constant(Fixed::NoQuery)),
     }
 }
 
 // What is asked by a cell's text, if there is one.
 fn ask_witness(alloc: Global, group: Option<&[u8]>, text: Option<Text>) -> Result<Wanted, NoMemory>
-    ensures { IfOk result (λ w. w ≡ spec.or_no_query inner.Witness (option_map (λ g. g.now) group.entry) text) }
+    ensures { IfOk result (λ w. w ≡ spec.or_no_query question.Witness (option_map (λ g. g.now) group.entry) text) }
 {
     match text {
-        Some(text) => aim(alloc, group, Inner::Witness(text)),
+        Some(text) => aim(alloc, group, Question::Witness(text)),
         None => Ok(Wanted::Constant(Fixed::NoQuery)),
     }
 }
@@ -240,7 +227,7 @@ fn ask_by(
             let text = find_text(alloc, method, query, body)?;
             ask_witness(alloc, way.group, text)
         }
-        Route::Shape if is_read(method) => aim(alloc, way.group, Inner::Shape),
+        Route::Shape if is_read(method) => aim(alloc, way.group, Question::Shape),
         Route::Shape => Ok(Wanted::Constant(Fixed::MethodGet)),
         _ => Ok(Wanted::Constant(Fixed::MethodForm)),
     }

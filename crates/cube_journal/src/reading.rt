@@ -1,5 +1,5 @@
 // The entries that the lines of a journal write.
-ghost use Rattle.std.specs.Prelude.{◌≡◌, ◌≤◌, ◌<◌, ◌^◌, ◌∷◌, [], ◌≢◌, Ok, ◌&&◌, ◌||◌, ◌==◌, length, drop, true, false, None, Some, slice_index_or, is_some, IfOk, IfSome, IfNone, MatchOption, option_map};
+ghost use Rattle.std.specs.Prelude.{◌≡◌, ◌≤◌, ◌<◌, ◌^◌, ◌∷◌, [], ◌≢◌, Ok, ◌&&◌, ◌||◌, ◌==◌, length, drop, true, false, None, Some, is_some, IfOk, IfSome, IfNone, MatchOption, option_map};
 ghost use Rattle.cube_model.specs.Answers.{Answers};
 ghost use Rattle.cube_model.specs.Cubes.{are_levels};
 ghost use Rattle.cube_model.specs.Dims.{plains};
@@ -9,29 +9,18 @@ ghost use Rattle.std.specs.List.{position};
 ghost use Rattle.cube_journal.specs.Recovery.{is_controlled, asked_if, is_plain, number_of, numbers_of, fields, source_of, linked_if, link_of, is_request_line, entry_of};
 ghost use Rattle.cube_query.specs.Faults.{request_of};
 ghost use Rattle.cube_query.specs.Canonical.{is_request};
-ghost use Rattle.cube_model.specs.declared.policy.Method.TheVariants.{Plain};
 
 use cube_model::{Dims, Entry, Items, Levels, Link, Method, NoMemory, Policy, Request, What};
 use cube_query::{RequestFault, print, read_request};
 use cube_text::read_digits;
 use std::alloc::Global;
 
-/// How a measure is controlled.
-fn method_of(policy: &Policy, measure: u32) -> Method
-    ensures { result ≡ slice_index_or policy.now.methods measure Plain }
-{
-    match policy.methods.as_slice().get(measure as usize) {
-        Some(method) => *method,
-        None => Method::Plain,
-    }
-}
-
 fn is_controlled(policy: &Policy, what: What) -> bool
     ensures { result ≡ is_controlled policy.now what }
 {
     match what {
         What::Count => false,
-        What::Measure(measure) => method_of(policy, measure) != Method::Plain,
+        What::Measure(measure) => policy.method(measure) != Method::Plain,
     }
 }
 
@@ -143,7 +132,7 @@ fn read_source(dims: &Dims, policy: &Policy, numbers: Items<u32>) -> Option<Entr
         return None;
     }
     let measure = levels.remove(0);
-    if method_of(policy, measure) == Method::Lattice && are_levels(dims, &levels) {
+    if policy.method(measure) == Method::Lattice && are_levels(dims, &levels) {
         let levels = Levels::from_vec(levels);
         Some(Entry::Source { measure, levels })
     } else {
@@ -164,7 +153,7 @@ fn is_link(places: u32, link: Link) -> bool
 fn read_linked(policy: &Policy, places: u32, measure: u32, link: Link) -> Option<Entry>
     ensures { result ≡ linked_if policy.now places measure link }
 {
-    if method_of(policy, measure) == Method::Parity && is_link(places, link) {
+    if policy.method(measure) == Method::Parity && is_link(places, link) {
         Some(Entry::Linked { measure, link })
     } else {
         None

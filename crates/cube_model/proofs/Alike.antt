@@ -24,9 +24,11 @@ use Rattle.cube_model.specs.Links.{links, suits_link, suits, small_lists, suitin
 use Rattle.cube_model.specs.Entries.{requests}
 use Rattle.cube_model.specs.Verdicts.{fixes, source, links_of, narrowed, holds_grain, most_held, fixed_by, unless_uncut, unless_stopped, judged, judged_what, verdict, IsAdmissible}
 use Rattle.cube_model.specs.Twins.{by_walks, walks, change_under, changes}
-use Rattle.cube_model.specs.Runs.{Question, Reply, told, entered, witnessed, replied, grown, reply_by, next_by, next}
+use Rattle.cube_model.specs.Runs.{Question, Reply, told, entered, witnessed, replied, grown, reply_by, next_by, next, by_rules}
 use Rattle.cube_model.specs.Runs.Question.{Query, Witness, Shape}
-use Rattle.cube_model.specs.Runs.Reply.{Refused, EmptyCell, Changed, NotProtected, Malformed}
+use Rattle.cube_model.specs.Runs.QueryReply.{Refused}
+use Rattle.cube_model.specs.Runs.Reply.{Malformed, ToQuery, ToWitness}
+use Rattle.cube_model.specs.Runs.WitnessReply.{EmptyCell, Changed, NotProtected}
 use Rattle.cube_model.specs.Compaction.{HoldTheSame, AlikeRunAlike}
 use Rattle.cube_model.specs.LinkLaws.{SuitsAll, IsOfPlaces}
 use Rattle.cube_model.proofs.Growth.{cond_left}
@@ -170,11 +172,11 @@ entered_alike g h k r (SingleFixes j x i) p = p
 
 -- the reply doesn't say that the history is full
 abbrev IsNotFull : Reply → Type 0
-IsNotFull x = (held : ℕ) → x ≡ Refused (Full held) → ⊥
+IsNotFull x = (held : ℕ) → x ≡ ToQuery (Refused (Full held)) → ⊥
 
 module _ (w : World) (h k : List Entry) (ok : IsWorld w) (adm : IsAdmissible w.shown h) (also : IsAdmissible w.shown k) (alike : HoldTheSame w.shown h k) (fewer : length (requests k) ≤ length (requests h)) where
   one_verdict : (r : Request) → is_valid w.shown r ≡ true → IsNotFull (replied (Query r) w h) → verdict w.shown k r ≡ verdict w.shown h r
-  one_verdict r valid f = verdict_alike w.shown h k alike fewer r (λ held e. f held (ap (λ b. cond b (told w r (verdict w.shown h r)) Malformed) valid ∙ ap (told w r) e))
+  one_verdict r valid f = verdict_alike w.shown h k alike fewer r (λ held e. f held (ap (λ b. cond b (ToQuery (told w r (verdict w.shown h r))) Malformed) valid ∙ ap (λ v. ToQuery (told w r v)) e))
 
   is_protected : (m : ℕ) (t : Cell) → list_any (same_cell t) (protected w.shown m) ≡ true → IsIn t (protected w.shown m)
   is_protected m t e = let a = any_from (same_cell t) (protected w.shown m) e in subst (λ s. IsIn s (protected w.shown m)) (sym (same_cell_eq t a.0 a.2)) a.1
@@ -185,11 +187,11 @@ module _ (w : World) (h k : List Entry) (ok : IsWorld w) (adm : IsAdmissible w.s
       (cond_left (list_any (same_cell t) (protected w.shown m)) (Changed (changes w.shown k m t)) (Changed (changes w.shown h m t)) NotProtected (λ e. ap Changed (changes_alike w h k m t ok adm (admissible_allowed w.shown [] k also) alike (is_protected m t e))))
 
   replied_alike : (q : Question) → IsNotFull (replied q w h) → replied q w k ≡ replied q w h
-  replied_alike (Query r) f = cond_left (is_valid w.shown r) (told w r (verdict w.shown k r)) (told w r (verdict w.shown h r)) Malformed (λ valid. ap (told w r) (one_verdict r valid f))
-  replied_alike (Witness what t) f = witnessed_alike what t
+  replied_alike (Query r) f = cond_left (is_valid w.shown r) (ToQuery (told w r (verdict w.shown k r))) (ToQuery (told w r (verdict w.shown h r))) Malformed (λ valid. ap (λ v. ToQuery (told w r v)) (one_verdict r valid f))
+  replied_alike (Witness what t) f = ap ToWitness (witnessed_alike what t)
   replied_alike Shape f = refl
 
-  reply_alike : (o : Outcome) (q : Question) → IsNotFull (reply_by o q w h) → reply_by o q w k ≡ reply_by o q w h
+  reply_alike : (o : Outcome) (q : Question) → IsNotFull (reply_by by_rules o q w h) → reply_by by_rules o q w k ≡ reply_by by_rules o q w h
   reply_alike Given q f = replied_alike q f
   reply_alike JournalFault q f = refl
   reply_alike NoMemory q f = refl
@@ -202,7 +204,7 @@ module _ (w : World) (h k : List Entry) (ok : IsWorld w) (adm : IsAdmissible w.s
   grown_alike (Witness what t) f = (alike, fewer)
   grown_alike Shape f = (alike, fewer)
 
-  next_alike : (o : Outcome) (q : Question) → IsNotFull (reply_by o q w h) → KeepsAlike w.shown (next_by o q w.shown h) (next_by o q w.shown k)
+  next_alike : (o : Outcome) (q : Question) → IsNotFull (reply_by by_rules o q w h) → KeepsAlike w.shown (next_by by_rules o q w.shown h) (next_by by_rules o q w.shown k)
   next_alike Given q f = grown_alike q f
   next_alike JournalFault q f = (alike, fewer)
   next_alike NoMemory q f = (alike, fewer)
@@ -211,7 +213,7 @@ pub alike_run_alike : AlikeRunAlike
 alike_run_alike w h k [] ok adm also alike fewer none = record { same_replies = refl; alike_at_end = alike }
 alike_run_alike w h k (a ∷ rest) ok adm also alike fewer none =
     let kept = next_alike w h k ok adm also alike fewer a.outcome a.question none.0 in
-    let later = alike_run_alike w (next w.shown h a) (next w.shown k a) rest ok (admissible_next w.shown h a.question a.outcome adm) (admissible_next w.shown k a.question a.outcome also) kept.0 kept.1 none.1 in
+    let later = alike_run_alike w (next by_rules w.shown h a) (next by_rules w.shown k a) rest ok (admissible_next w.shown h a.question a.outcome adm) (admissible_next w.shown k a.question a.outcome also) kept.0 kept.1 none.1 in
     record {
       same_replies = ap₂ (λ x xs. x ∷ xs) (reply_alike w h k ok adm also alike fewer a.outcome a.question none.0) later.same_replies;
       alike_at_end = later.alike_at_end;

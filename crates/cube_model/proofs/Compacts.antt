@@ -18,7 +18,7 @@ use Rattle.cube_model.specs.Protection.{method, guarded, uncut, is_cut, protecte
 use Rattle.cube_model.specs.Links.{linked, links, suiting, has_plus, follows, basis}
 use Rattle.cube_model.specs.Entries.{requests, is_on, on, levels_in, links_in, is_link, is_allowed}
 use Rattle.cube_model.specs.Verdicts.{source, links_of, narrowed, holds_grain, fixed_by, taken, AdmissibleFrom, IsAdmissible}
-use Rattle.cube_model.specs.Runs.{end}
+use Rattle.cube_model.specs.Runs.{end, by_rules}
 use Rattle.cube_model.specs.Compaction.{source_entry, compacted_by, compacted_on, compacted, HoldTheSame, CompactedStands, CompactedRunsAlike, EarlierLivesStayOpen}
 use Rattle.cube_model.specs.TwoWorlds.{HoldsMore}
 use Rattle.cube_model.specs.LinkLaws.{SuitsAll}
@@ -370,11 +370,11 @@ alike_more g h k alike = record {
 pub earlier_lives_stay_open : EarlierLivesStayOpen
 earlier_lives_stay_open w h asks later m t ok adm is_in =
     let g : Public = w.shown in
-    let first_end : List Entry = end g h asks in
+    let first_end : List Entry = end by_rules g h asks in
     let a : IsAdmissible g first_end = stays_admissible g h asks adm in
     let c : List Entry = compacted g first_end in
     let b : IsAdmissible g c = compacted_admissible g first_end a in
-    let last : IsAdmissible g (end g c later) = stays_admissible g c later b in
-    changes_of_more w h (end g c later) asks m t ok adm last
-    (more_trans g first_end c (end g c later) (alike_more g first_end c (compacted_alike g first_end a)) (extended g c (end g c later) (admissible_allowed g [] (end g c later) last) (end_grows g c later)))
+    let last : IsAdmissible g (end by_rules g c later) = stays_admissible g c later b in
+    changes_of_more w h (end by_rules g c later) asks m t ok adm last
+    (more_trans g first_end c (end by_rules g c later) (alike_more g first_end c (compacted_alike g first_end a)) (extended g c (end by_rules g c later) (admissible_allowed g [] (end by_rules g c later) last) (end_grows g c later)))
     is_in

@@ -21,7 +21,7 @@ use Rattle.cube_model.specs.Protection.{method, guarded, uncut}
 use Rattle.cube_model.specs.Links.{links, follows, suiting}
 use Rattle.cube_model.specs.Entries.{requests}
 use Rattle.cube_model.specs.Verdicts.{source, links_of, narrowed, holds_grain, most_held, fixed_by, first_stop, stopped_at, unless_stopped, unless_uncut, judged, judged_what, verdict}
-use Rattle.cube_model.specs.Runs.{entered, grown, next_by}
+use Rattle.cube_model.specs.Runs.{entered, grown, next_by, by_rules}
 use Rattle.cube_model.specs.Runs.Question.{Query}
 use Rattle.cube_model.specs.Fresh.{is_fresh_by, is_fresh_on, NotFreshIsAnswered, FullIs, is_open_by, is_open, OpenLeavesHistory}
 use Rattle.cube_model.proofs.Parities.{no_answer_fixes, no_full_fixes}
@@ -110,10 +110,10 @@ open_grown g h r e = ap (λ v. cond (is_valid g r) (entered h r v) h) (open_on r
     both true = refl
     both false = refl
 
-open_next : (o : Outcome) (g : Public) (h : List Entry) (r : Request) → is_open g r.what ≡ true → next_by o (Query r) g h ≡ h
+open_next : (o : Outcome) (g : Public) (h : List Entry) (r : Request) → is_open g r.what ≡ true → next_by by_rules o (Query r) g h ≡ h
 open_next Given g h r e = open_grown g h r e
 open_next JournalFault g h r e = refl
 open_next NoMemory g h r e = refl
 
 pub open_leaves_history : OpenLeavesHistory
-open_leaves_history g h a r q e = ap (λ x. next_by a.outcome x g h) q ∙ open_next a.outcome g h r e
+open_leaves_history g h a r q e = ap (λ x. next_by by_rules a.outcome x g h) q ∙ open_next a.outcome g h r e

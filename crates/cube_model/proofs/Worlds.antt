@@ -17,7 +17,7 @@ use Rattle.cube_model.specs.Protection.{method, protected_by, protected}
 use Rattle.cube_model.specs.Entries.{is_allowed}
 use Rattle.cube_model.specs.Verdicts.{IsAdmissible, AdmissibleFrom, verdict, taken_by, taken}
 use Rattle.cube_model.specs.Twins.{changes, change_by, twin}
-use Rattle.cube_model.specs.Runs.{Question, Ask, entered, grown, next_by, next, end}
+use Rattle.cube_model.specs.Runs.{Question, Ask, entered, grown, next_by, next, end, by_rules}
 use Rattle.cube_model.specs.Runs.Question.{Query, Witness, Shape}
 use Rattle.cube_model.specs.TwoWorlds.{IsOpen, TwoWorlds, LaterChanges, ChangesOfMore, StaysAdmissible}
 use Rattle.cube_model.proofs.Growth.{Leaves, replies_alike, extends_refl}
@@ -43,7 +43,7 @@ in_list (x ∷ xs) zero h = omega arith
 in_list (x ∷ xs) (suc m) h = let i : m < length xs = in_list xs m h in omega arith
 
 -- what two worlds take
-open_by : (w : World) (h last : List Entry) (asks : List Ask) (m : ℕ) (t : Cell) → IsWorld w → HeldBy w.shown last (end w.shown h asks) → (method w.shown m ≡ Plain → ⊥) → Leaves w.shown last m (changes w.shown last m t) → total (changes w.shown last m t) (covered w.shown t) ≡ pos 1 → IsOpen w (twin w m (changes w.shown last m t)) h asks m t
+open_by : (w : World) (h last : List Entry) (asks : List Ask) (m : ℕ) (t : Cell) → IsWorld w → HeldBy w.shown last (end by_rules w.shown h asks) → (method w.shown m ≡ Plain → ⊥) → Leaves w.shown last m (changes w.shown last m t) → total (changes w.shown last m t) (covered w.shown t) ≡ pos 1 → IsOpen w (twin w m (changes w.shown last m t)) h asks m t
 open_by w h last asks m t ok ext way leaves sum =
     let a : m < length w.shown.policy.methods = in_list w.shown.policy.methods m way in
     let e : length w.shown.policy.methods ≡ length w.cube = ok.methods in
@@ -56,7 +56,7 @@ open_by w h last asks m t ok ext way leaves sum =
     }
 
 -- the changes of an admissible history that holds all
-held_changes : (w : World) (h last : List Entry) (asks : List Ask) (m : ℕ) (t : Cell) → IsWorld w → IsAdmissible w.shown last → HeldBy w.shown last (end w.shown h asks) → IsIn t (protected w.shown m) → IsOpen w (twin w m (changes w.shown last m t)) h asks m t
+held_changes : (w : World) (h last : List Entry) (asks : List Ask) (m : ℕ) (t : Cell) → IsWorld w → IsAdmissible w.shown last → HeldBy w.shown last (end by_rules w.shown h asks) → IsIn t (protected w.shown m) → IsOpen w (twin w m (changes w.shown last m t)) h asks m t
 unfolding protected
 held_changes w h last asks m t ok adm held is_in = go (method w.shown m) refl
   where
@@ -66,7 +66,7 @@ held_changes w h last asks m t ok adm held is_in = go (method w.shown m) refl
     go Parity e = open_by w h last asks m t ok held (λ p. absurd (cc)) (parity_leaves w m t last ok e adm is_in) (parity_sum w m t last ok e (admissible_allowed w.shown [] last adm) is_in)
 
 pub later_changes : LaterChanges
-later_changes w h last asks m t ok adm ext is_in = held_changes w h last asks m t ok adm (Each-append_left (λ e. is_allowed w.shown e ≡ true) (end w.shown h asks) ext.0 (subst (AreAllowed w.shown) ext.1 all), extended w.shown (end w.shown h asks) last all ext) is_in
+later_changes w h last asks m t ok adm ext is_in = held_changes w h last asks m t ok adm (Each-append_left (λ e. is_allowed w.shown e ≡ true) (end by_rules w.shown h asks) ext.0 (subst (AreAllowed w.shown) ext.1 all), extended w.shown (end by_rules w.shown h asks) last all ext) is_in
   where
     all : AreAllowed w.shown last
     all = admissible_allowed w.shown [] last adm
@@ -98,17 +98,17 @@ admissible_grown g h (Query r) a = go (is_valid g r) refl
 admissible_grown g h (Witness what t) a = a
 admissible_grown g h Shape a = a
 
-pub admissible_next : (g : Public) (h : List Entry) (q : Question) (o : Outcome) → IsAdmissible g h → IsAdmissible g (next_by o q g h)
+pub admissible_next : (g : Public) (h : List Entry) (q : Question) (o : Outcome) → IsAdmissible g h → IsAdmissible g (next_by by_rules o q g h)
 admissible_next g h q Given a = admissible_grown g h q a
 admissible_next g h q JournalFault a = a
 admissible_next g h q NoMemory a = a
 
 pub stays_admissible : StaysAdmissible
 stays_admissible g h [] a = a
-stays_admissible g h (ask ∷ asks) a = stays_admissible g (next g h ask) asks (admissible_next g h ask.question ask.outcome a)
+stays_admissible g h (ask ∷ asks) a = stays_admissible g (next by_rules g h ask) asks (admissible_next g h ask.question ask.outcome a)
 
 pub two_worlds : TwoWorlds
-two_worlds w h asks m t ok a is_in = later_changes w h (end w.shown h asks) asks m t ok (stays_admissible w.shown h asks a) (extends_refl (end w.shown h asks)) is_in
+two_worlds w h asks m t ok a is_in = later_changes w h (end by_rules w.shown h asks) asks m t ok (stays_admissible w.shown h asks a) (extends_refl (end by_rules w.shown h asks)) is_in
 
 pub changes_of_more : ChangesOfMore
-changes_of_more w h last asks m t ok a adm more is_in = held_changes w h last asks m t ok adm (admissible_allowed w.shown [] (end w.shown h asks) (stays_admissible w.shown h asks a), more) is_in
+changes_of_more w h last asks m t ok a adm more is_in = held_changes w h last asks m t ok adm (admissible_allowed w.shown [] (end by_rules w.shown h asks) (stays_admissible w.shown h asks a), more) is_in

@@ -12,8 +12,9 @@ use Rattle.cube_model.specs.Links.{basis}
 use Rattle.cube_model.specs.Entries.{requests}
 use Rattle.cube_model.specs.Verdicts.{source, links_of, IsAdmissible}
 use Rattle.cube_model.specs.Twins.{changes, twin}
-use Rattle.cube_model.specs.Runs.{Ask, Reply, replies, end}
-use Rattle.cube_model.specs.Runs.Reply.{Refused}
+use Rattle.cube_model.specs.Runs.{Ask, Reply, replies, end, by_rules}
+use Rattle.cube_model.specs.Runs.QueryReply.{Refused}
+use Rattle.cube_model.specs.Runs.Reply.{ToQuery}
 use Rattle.cube_model.specs.TwoWorlds.{IsOpen}
 use Rattle.cube_model.specs.LinkLaws.{SuitsAll}
 
@@ -52,21 +53,21 @@ CompactedStands = (w : World) (h : List Entry) → IsWorld w → IsAdmissible w.
 
 -- no reply says that the history is full
 abbrev pub NoneIsFull : List Reply → Type 0
-NoneIsFull rs = Each (λ x. (held : ℕ) → x ≡ Refused (Full held) → ⊥) rs
+NoneIsFull rs = Each (λ x. (held : ℕ) → x ≡ ToQuery (Refused (Full held)) → ⊥) rs
 
 -- the replies are the same, and at the end the histories hold the same
 pub record RunAlike (w : World) (h k : List Entry) (asks : List Ask) : Type 0 where
-  pub same_replies : replies w k asks ≡ replies w h asks
-  pub alike_at_end : HoldTheSame w.shown (end w.shown h asks) (end w.shown k asks)
+  pub same_replies : replies by_rules w k asks ≡ replies by_rules w h asks
+  pub alike_at_end : HoldTheSame w.shown (end by_rules w.shown h asks) (end by_rules w.shown k asks)
 
 -- Histories that hold the same give the same replies, until the first is full.
 abbrev pub AlikeRunAlike : Type 0
-AlikeRunAlike = (w : World) (h k : List Entry) (asks : List Ask) → IsWorld w → IsAdmissible w.shown h → IsAdmissible w.shown k → HoldTheSame w.shown h k → length (requests k) ≤ length (requests h) → NoneIsFull (replies w h asks) → RunAlike w h k asks
+AlikeRunAlike = (w : World) (h k : List Entry) (asks : List Ask) → IsWorld w → IsAdmissible w.shown h → IsAdmissible w.shown k → HoldTheSame w.shown h k → length (requests k) ≤ length (requests h) → NoneIsFull (replies by_rules w h asks) → RunAlike w h k asks
 
 -- So does the compacted history.
 abbrev pub CompactedRunsAlike : Type 0
-CompactedRunsAlike = (w : World) (h : List Entry) (asks : List Ask) → IsWorld w → IsAdmissible w.shown h → NoneIsFull (replies w h asks) → RunAlike w h (compacted w.shown h) asks
+CompactedRunsAlike = (w : World) (h : List Entry) (asks : List Ask) → IsWorld w → IsAdmissible w.shown h → NoneIsFull (replies by_rules w h asks) → RunAlike w h (compacted w.shown h) asks
 
 -- The changes of a later life that began with the compacted history hold for all replies of the earlier one too.
 abbrev pub EarlierLivesStayOpen : Type 0
-EarlierLivesStayOpen = (w : World) (h : List Entry) (asks later : List Ask) (m : ℕ) (t : Cell) → IsWorld w → IsAdmissible w.shown h → IsIn t (protected w.shown m) → IsOpen w (twin w m (changes w.shown (end w.shown (compacted w.shown (end w.shown h asks)) later) m t)) h asks m t
+EarlierLivesStayOpen = (w : World) (h : List Entry) (asks later : List Ask) (m : ℕ) (t : Cell) → IsWorld w → IsAdmissible w.shown h → IsIn t (protected w.shown m) → IsOpen w (twin w m (changes w.shown (end by_rules w.shown (compacted w.shown (end by_rules w.shown h asks)) later) m t)) h asks m t

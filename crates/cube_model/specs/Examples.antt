@@ -14,10 +14,13 @@ use Rattle.cube_model.specs.declared.request.Pick.{Pick}
 use Rattle.cube_model.specs.declared.request.Request.{Request}
 use Rattle.cube_model.specs.declared.request.What.{What}
 use Rattle.cube_model.specs.declared.request.What.TheVariants.{Count, Measure}
+use Rattle.cube_model.specs.declared.verdict.Verdict.{Verdict}
 use Rattle.cube_model.specs.Cubes.{Dimension, World}
-use Rattle.cube_model.specs.Runs.{Ask, Reply}
+use Rattle.cube_model.specs.Runs.{Ask, Question, Reply}
 use Rattle.cube_model.specs.Runs.Question.{Query, Witness, Shape}
-use Rattle.cube_model.specs.Runs.Reply.{Answered}
+use Rattle.cube_model.specs.Runs.QueryReply.{Answered, Refused}
+use Rattle.cube_model.specs.Runs.Reply.{ToQuery, ToWitness}
+use Rattle.cube_model.specs.Runs.WitnessReply.{Changed}
 use Rattle.cube_model.specs.Rooms.{Room, Call}
 use Rattle.cube_model.specs.Reasons.{Origin, WalkStep}
 
@@ -207,10 +210,19 @@ line a b n = record { key = two a b; sum = pos n }
 abbrev pub line1 : ℕ → ℕ → AnswerRow
 line1 a n = record { key = a ∷ []; sum = pos n }
 
+abbrev pub answered : List AnswerRow → Reply
+answered rows = ToQuery (Answered rows)
+
+abbrev pub refused : Verdict → Reply
+refused v = ToQuery (Refused v)
+
+abbrev pub changed : List ℤ → Reply
+changed changes = ToWitness (Changed changes)
+
 -- one sum each
 abbrev pub sums : List ℕ → List Reply
 sums [] = []
-sums (n ∷ ns) = Answered (line 0 0 n ∷ []) ∷ sums ns
+sums (n ∷ ns) = answered (line 0 0 n ∷ []) ∷ sums ns
 
 -- ---- histories
 -- pay by month was answered
@@ -247,8 +259,8 @@ board = 98 ∷ []
 abbrev pub two_rooms : List Room
 two_rooms = record { name = staff; world = pay_cube; history = [] } ∷ record { name = board; world = pay_cube; history = [] } ∷ []
 
-abbrev pub of_group : List ℕ → Ask → Call
-of_group name a = record { group = Some name; ask = a }
+abbrev pub of_group : List ℕ → Ask → Call Question
+of_group name a = record { group = Some name; turn = a }
 
 -- ---- reasons
 abbrev pub step : ℕ → ℕ → Origin → WalkStep

@@ -14,7 +14,7 @@ use Rattle.cube_model.specs.Protection.{method}
 use Rattle.cube_model.specs.Links.{links, follows}
 use Rattle.cube_model.specs.Entries.{requests}
 use Rattle.cube_model.specs.Verdicts.{source, links_of, holds_grain, most_held, verdict}
-use Rattle.cube_model.specs.Runs.{Ask, next}
+use Rattle.cube_model.specs.Runs.{Ask, next, by_rules}
 use Rattle.cube_model.specs.Runs.Question.{Query}
 
 -- the request narrows the source, or one of its links does not follow; on an open measure nothing is fresh
@@ -50,4 +50,4 @@ is_open g (Measure m) = is_open_by (method g m)
 
 -- what is open leaves the history
 abbrev pub OpenLeavesHistory : Type 0
-OpenLeavesHistory = (g : Public) (h : List Entry) (a : Ask) (r : Request) → a.question ≡ Query r → is_open g r.what ≡ true → next g h a ≡ h
+OpenLeavesHistory = (g : Public) (h : List Entry) (a : Ask) (r : Request) → a.question ≡ Query r → is_open g r.what ≡ true → next by_rules g h a ≡ h

@@ -9,6 +9,10 @@ use Rattle.cube_model.specs.declared.request.What.{What}
 use Rattle.cube_model.specs.declared.request.What.TheVariants.{Count, Measure}
 use Rattle.cube_model.specs.Cubes.{distinct, names_at, Dimension, Public, World, up, same, in_order, places, point, key_at}
 
+-- the request of all places by their keys at some levels
+abbrev pub whole : What → List ℕ → Request
+whole what levels = record { what = what; group = levels; picks = map (λ l. None) levels }
+
 -- the ancestor lies between the first and the last member of the pick
 abbrev pub in_pick : Dimension → Option Pick → ℕ → Bool
 in_pick d None x = true

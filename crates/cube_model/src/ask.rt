@@ -1,9 +1,9 @@
 // What is asked of a server.
 use crate::Text;
 
-/// What is asked of one cube.
+/// What is asked of one cube, in words.
 #[derive(Debug, Drop)]
-pub enum Inner {
+pub enum Question {
     /// The answer to a query's text.
     Query(Text),
     /// The changes that hide a cell, by the cell's text.
@@ -12,20 +12,11 @@ pub enum Inner {
     Shape,
 }
 
-/// What is asked of a server: of its cube, or of that of a group.
+/// What is asked of a server: a question to its cube, or to that of a group.
 #[derive(Debug, Drop)]
-pub enum Ask {
-    /// The answer to a query's text.
-    Query(Text),
-    /// The changes that hide a cell, by the cell's text.
-    Witness(Text),
-    /// The public shape.
-    Shape,
-    /// The same of the cube of a group.
-    Group {
-        /// The group's name: 1 to 32 letters, digits, `_` or `-`.
-        name: Text,
-        /// What is asked of it.
-        ask: Inner,
-    },
+pub struct Ask {
+    /// The group's name, 1 to 32 letters, digits, `_` or `-`; none for the cube of the server itself.
+    pub group: Option<Text>,
+    /// The question.
+    pub question: Question,
 }

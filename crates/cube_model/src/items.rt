@@ -107,6 +107,17 @@ impl<T> Items<T> {
     }
 }
 
+impl<T: Copy> Items<T> {
+    /// The same items again.
+    pub fn copied(&self, alloc: Global) -> Result<Items<T>, NoMemory>
+        ensures { IfOk result (λ copy. copy ≡ self.now) }
+    {
+        Ok(Items {
+            items: Vec::from_slice(alloc, self.items.as_slice())?,
+        })
+    }
+}
+
 impl Items<u8> {
     /// The text of some bytes.
     pub fn from_bytes(alloc: Global, bytes: &[u8]) -> Result<Self, NoMemory>

@@ -28,7 +28,7 @@ mod shape;
 mod verdict;
 
 pub use answer::{Answer, AnswerRow, Row, Rows};
-pub use ask::{Ask, Inner};
+pub use ask::{Ask, Question};
 pub use cell::{Cell, Cells, Cuboids};
 pub use change::{Change, Changes};
 pub use dims::{Dimension, Dims, Measure, NumberedNames};
@@ -38,7 +38,7 @@ pub use limit::LimitKind;
 pub use link::{Link, LinkList, Signs};
 pub use memory::NoMemory;
 pub use outcome::{Outcome, Outcomes};
-pub use policy::{Method, Methods, Object, Objects, Policy, Slice, Within};
+pub use policy::{Method, Methods, Object, Objects, Policy, Slice, Within, method_of};
 pub use reply::{Fixed, Kind, Reply};
 pub use request::{Pick, Picks, Request, What};
 pub use shape::{Cube, Shape, Values};

@@ -1,4 +1,7 @@
 // What an owner writes down of protection.
+ghost use Rattle.std.specs.Prelude.{◌≡◌, slice_index_or};
+ghost use Rattle.cube_model.specs.declared.policy.Method.TheVariants as method;
+
 use crate::{Items, Levels};
 
 /// How the sums of a measure are controlled.
@@ -14,6 +17,16 @@ pub enum Method {
 
 /// One method for each measure.
 pub type Methods = Items<Method>;
+
+/// The method of a measure; a measure that there is not is open.
+pub fn method_of(methods: &[Method], measure: u32) -> Method
+    ensures { result ≡ slice_index_or methods.now measure method.Plain }
+{
+    match methods.get(measure as usize) {
+        Some(method) => *method,
+        None => Method::Plain,
+    }
+}
 
 /// The members of one level of a dimension that a slice lists.
 #[derive(Drop)]
@@ -51,4 +64,13 @@ pub struct Policy {
     pub methods: Methods,
     /// The protected objects, in the order of the policy.
     pub objects: Objects,
+}
+
+impl Policy {
+    /// How a measure is controlled; a measure that there is not is open.
+    pub fn method(&self, measure: u32) -> Method
+        ensures { result ≡ slice_index_or self.now.methods measure method.Plain }
+    {
+        method_of(self.methods.as_slice(), measure)
+    }
 }

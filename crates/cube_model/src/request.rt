@@ -1,8 +1,9 @@
 // What a user asks for.
-ghost use Rattle.std.specs.Prelude.{◌≡◌};
-ghost use Rattle.cube_model.specs.Requests.{asks};
+ghost use Rattle.std.specs.Prelude.{◌≡◌, IfOk, None, map};
+ghost use Rattle.cube_model.specs.Requests.{asks, whole};
 
-use crate::{Items, Levels};
+use crate::{Items, Levels, NoMemory};
+use std::alloc::Global;
 
 /// What is summed.
 #[derive(Clone, Copy, Debug, PartialEq, Eq)]
@@ -39,7 +40,40 @@ pub struct Request {
     pub picks: Picks,
 }
 
+/// For each level no pick.
+fn no_picks(alloc: Global, levels: &[u32]) -> Result<Picks, NoMemory>
+    ensures { IfOk result (λ picks. picks ≡ map (λ level. None) levels.now) }
+{
+    let mut picks = Picks::new(alloc);
+    'levels: for _level in levels {
+        picks.push(None)?;
+    }
+    Ok(picks)
+}
+
 impl Request {
+    /// The request of all places by their keys at some levels.
+    pub fn whole(alloc: Global, what: What, levels: &Levels) -> Result<Request, NoMemory>
+        ensures { IfOk result (λ request. request ≡ whole what levels.now) }
+    {
+        Ok(Request {
+            what,
+            group: levels.copied(alloc)?,
+            picks: no_picks(alloc, levels.as_slice())?,
+        })
+    }
+
+    /// The same request again.
+    pub fn copied(&self, alloc: Global) -> Result<Request, NoMemory>
+        ensures { IfOk result (λ copy. copy ≡ self.now) }
+    {
+        Ok(Request {
+            what: self.what,
+            group: self.group.copied(alloc)?,
+            picks: self.picks.copied(alloc)?,
+        })
+    }
+
     /// Whether the request asks for the measure.
     pub fn asks_for(&self, measure: u32) -> bool
         ensures { result ≡ asks measure self.now }

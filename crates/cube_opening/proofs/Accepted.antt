@@ -8,7 +8,7 @@ use Rattle.cube_model.specs.declared.policy.Policy.{Policy}
 use Rattle.cube_io.specs.Causes.{Rose}
 use Rattle.cube_io.specs.Files.{file_of}
 use Rattle.cube_io.specs.Seen.{FolderState, Seen}
-use Rattle.cube_opening.specs.Opening.{dims_said, facts_said, policy_said, Says, Makes, MakesAll, RefusesFacts, RefusesPolicy, EndsUnopened, HasAll}
+use Rattle.cube_opening.specs.Opening.{dims_said, facts_said, policy_said, FileSays, Makes, MakesAll, RefusesFacts, RefusesPolicy, EndsUnopened, HasAll}
 use Rattle.cube_opening.specs.declared.cube_files.CubeFiles.{CubeFiles}
 use Rattle.cube_opening.specs.declared.report.Report.{Report}
 
@@ -47,12 +47,12 @@ dims_refused P text (Some bytes) h k = by_result (dims_said bytes) h k
 
 one_core : (cube : CubeFiles) (core other : Core) (known : List (List ℕ × List ℕ)) → Makes cube core known → Makes cube other known → core ≡ other
 one_core cube core other known h k =
-    under_both (λ s. Says (facts_said s) cube.facts known (Ok core)) (λ s. Says (facts_said s) cube.facts known (Ok other)) (core ≡ other)
+    under_both (λ s. FileSays (facts_said s) cube.facts known (Ok core)) (λ s. FileSays (facts_said s) cube.facts known (Ok other)) (core ≡ other)
     (λ s x y. says_one (facts_said s) core other (file_of known cube.facts) x y) (file_of known cube.dims) h k
 
 facts_refused : (cube : CubeFiles) (text : List ℕ) (core : Core) (known : List (List ℕ × List ℕ)) → Makes cube core known → RefusesFacts cube text known → ⊥
 facts_refused cube text core known h k =
-    under_both (λ s. Says (facts_said s) cube.facts known (Ok core)) (λ s. Says (facts_said s) cube.facts known (Err text)) ⊥
+    under_both (λ s. FileSays (facts_said s) cube.facts known (Ok core)) (λ s. FileSays (facts_said s) cube.facts known (Err text)) ⊥
     (λ s x y. not_both (facts_said s) core text (file_of known cube.facts) x y) (file_of known cube.dims) h k
 
 policy_refused : (cube : CubeFiles) (text : List ℕ) (core : Core) (policy : Policy) (known : List (List ℕ × List ℕ)) → MakesAll cube core policy known → RefusesPolicy cube text known → ⊥
@@ -69,7 +69,7 @@ accepted cube folder known r core policy is m q (inl (inr (inl e))) = e.0
 accepted cube folder known r core policy is m q (inl (inr (inr (inl e)))) = absurd (q e.1)
 accepted cube folder known r core policy is m q (inl (inr (inr (inr (inl e))))) = absurd (q e.1)
 accepted cube folder known r core policy is m q (inl (inr (inr (inr (inr (inl e)))))) =
-    absurd (dims_refused (λ x. Says (facts_said x) cube.facts known (Ok core)) r.text (file_of known cube.dims) m.0 (rw is at e.1))
+    absurd (dims_refused (λ x. FileSays (facts_said x) cube.facts known (Ok core)) r.text (file_of known cube.dims) m.0 (rw is at e.1))
 accepted cube folder known r core policy is m q (inl (inr (inr (inr (inr (inr e)))))) = absurd (facts_refused cube r.text core known m.0 (rw is at e.1))
 accepted cube folder known r core policy is m q (inr (inl e)) = absurd (q e.1)
 accepted cube folder known r core policy is m q (inr (inr e)) = absurd (policy_refused cube r.text core policy known m (rw is at e.1))

@@ -51,8 +51,8 @@ policy_said s bytes = unless_long (codes "policy") bytes (faulted (λ fault. fau
 -- ---- one file
 
 -- the file of this name is there and says this
-abbrev pub Says : {X : Type 0} → (List ℕ → Result X (List ℕ)) → List ℕ → List (List ℕ × List ℕ) → Result X (List ℕ) → Type 0
-Says said name known result = IsSomeAnd (file_of known name) (λ bytes. said bytes ≡ result)
+abbrev pub FileSays : {X : Type 0} → (List ℕ → Result X (List ℕ)) → List ℕ → List (List ℕ × List ℕ) → Result X (List ℕ) → Type 0
+FileSays said name known result = IsSomeAnd (file_of known name) (λ bytes. said bytes ≡ result)
 
 abbrev pub unreadable_text : List ℕ → List ℕ
 unreadable_text name = codes "cannot read " ++ name ++ codes "\n"
@@ -71,7 +71,7 @@ Unopened said name folder r =
     NoRoom r
     ⊎ IsReport 7 (codes "no memory\n") r
     ⊎ (IsReport 5 (unreadable_text name) r × Rose folder.before.faults folder.after.faults)
-    ⊎ (IsReport 3 r.text r × IfSome folder.before.files (λ known. Says said name known (Err r.text)))
+    ⊎ (IsReport 3 r.text r × IfSome folder.before.files (λ known. FileSays said name known (Err r.text)))
 
 -- the folder counted no fault
 abbrev pub IsSteady : {F : Type 0} → Seen FolderState F → Type 0
@@ -100,7 +100,7 @@ pub record Reads {X F : Type 0} (folder : Seen FolderState F) (result : Result X
 -- the dimension file and the fact file of these names are there and make this core
 abbrev pub Makes : CubeFiles → Core → List (List ℕ × List ℕ) → Type 0
 Makes cube core known =
-    IsSomeAnd (file_of known cube.dims) (λ bytes. IsOkAnd (dims_said bytes) (λ s. Says (facts_said s) cube.facts known (Ok core)))
+    IsSomeAnd (file_of known cube.dims) (λ bytes. IsOkAnd (dims_said bytes) (λ s. FileSays (facts_said s) cube.facts known (Ok core)))
 
 -- the dimension file is there and is accepted
 abbrev pub HasDims : List ℕ → List (List ℕ × List ℕ) → Type 0
@@ -109,7 +109,7 @@ HasDims dims_name known = IsSomeAnd (file_of known dims_name) (λ bytes. IsOk (d
 -- the dimension file is accepted, and the fact file is refused with this text
 abbrev pub RefusesFacts : CubeFiles → List ℕ → List (List ℕ × List ℕ) → Type 0
 RefusesFacts cube text known =
-    IsSomeAnd (file_of known cube.dims) (λ bytes. IsOkAnd (dims_said bytes) (λ s. Says (facts_said s) cube.facts known (Err text)))
+    IsSomeAnd (file_of known cube.dims) (λ bytes. IsOkAnd (dims_said bytes) (λ s. FileSays (facts_said s) cube.facts known (Err text)))
 
 -- how a run ends at these two files
 abbrev pub EndsTwo : {F : Type 0} → CubeFiles → Seen FolderState F → Report → Type 0
@@ -118,7 +118,7 @@ EndsTwo cube folder r =
     ⊎ IsReport 7 (codes "no memory\n") r
     ⊎ (IsReport 5 (unreadable_text cube.dims) r × Rose folder.before.faults folder.after.faults)
     ⊎ (IsReport 5 (unreadable_text cube.facts) r × Rose folder.before.faults folder.after.faults × IfSome folder.before.files (HasDims cube.dims))
-    ⊎ (IsReport 3 r.text r × IfSome folder.before.files (λ known. Says dims_said cube.dims known (Err r.text)))
+    ⊎ (IsReport 3 r.text r × IfSome folder.before.files (λ known. FileSays dims_said cube.dims known (Err r.text)))
     ⊎ (IsReport 3 r.text r × IfSome folder.before.files (RefusesFacts cube r.text))
 
 -- The names that were asked for behind those asked for before, where the run ended at these two files: up to that of the file that is
@@ -126,14 +126,14 @@ EndsTwo cube folder r =
 abbrev pub AsksTwo : {F : Type 0} → CubeFiles → Seen FolderState F → List (List ℕ) → List (List ℕ) → Report → Type 0
 AsksTwo cube folder o n r =
     ((n ≡ o) × Failed folder r)
-    ⊎ ((n ≡ o ++ cube.dims ∷ []) × (Failed folder r ⊎ ((r.status ≡ 3) × IfSome folder.before.files (λ known. Says dims_said cube.dims known (Err r.text)))))
+    ⊎ ((n ≡ o ++ cube.dims ∷ []) × (Failed folder r ⊎ ((r.status ≡ 3) × IfSome folder.before.files (λ known. FileSays dims_said cube.dims known (Err r.text)))))
     ⊎ ((n ≡ o ++ cube.dims ∷ cube.facts ∷ []) × (Failed folder r ⊎ ((r.status ≡ 3) × IfSome folder.before.files (RefusesFacts cube r.text))))
 
 -- ---- all three files
 
 -- the files of these names are there and make this core and this policy
 abbrev pub MakesAll : CubeFiles → Core → Policy → List (List ℕ × List ℕ) → Type 0
-MakesAll cube core policy known = Makes cube core known × Says (policy_said core.dims) cube.policy known (Ok policy)
+MakesAll cube core policy known = Makes cube core known × FileSays (policy_said core.dims) cube.policy known (Ok policy)
 
 -- the files make this core and this policy, where the folder tells them
 abbrev pub Make : CubeFiles → FolderState → Core → Policy → Type 0
@@ -141,7 +141,7 @@ Make cube folder core policy = IfSome folder.files (MakesAll cube core policy)
 
 -- the dimension file and the fact file make a core, and the policy file is refused with this text
 abbrev pub RefusesPolicy : CubeFiles → List ℕ → List (List ℕ × List ℕ) → Type 0
-RefusesPolicy cube text known = (core : Core) × (Makes cube core known × Says (policy_said core.dims) cube.policy known (Err text))
+RefusesPolicy cube text known = (core : Core) × (Makes cube core known × FileSays (policy_said core.dims) cube.policy known (Err text))
 
 -- how a run ends at the files
 abbrev pub EndsUnopened : {F : Type 0} → CubeFiles → Seen FolderState F → Report → Type 0

@@ -13,6 +13,10 @@ IsReport status text r = (r.status ≡ status) × (r.outcomes ≡ []) × (r.text
 abbrev pub NoRoom : Report → Type 0
 NoRoom r = IsReport 7 [] r
 
+-- all was done, or memory ran out
+abbrev pub IsDone : Report → Type 0
+IsDone r = (r.status ≡ 0) ⊎ (r.status ≡ 7)
+
 -- a text was put on the sink
 abbrev pub Prints : {O : Type 0} → List ℕ → Seen SinkState O → Report → Type 0
 Prints text out r =

@@ -10,7 +10,7 @@ ghost use Rattle.cube_policy.specs.Words as policy_words;
 ghost use Rattle.cube_policy.specs.declared.fault.PolicyFault.TheVariants as policy_faults;
 ghost use Rattle.cube_model.specs.Policies.{IsPolicy};
 ghost use Rattle.cube_opening.specs.Reports.{IsReport, NoRoom};
-ghost use Rattle.cube_opening.specs.Opening.{fault_text, unreadable_text as unreadable_words, dims_said, facts_said, policy_said, flat_said, Says, Unread, Unopened, AskedFor, AsksOnce, Reads, Makes, Make, EndsTwo, AsksTwo, EndsUnopened, AsksAll, names_of};
+ghost use Rattle.cube_opening.specs.Opening.{fault_text, unreadable_text as unreadable_words, dims_said, facts_said, policy_said, flat_said, FileSays, Unread, Unopened, AskedFor, AsksOnce, Reads, Makes, Make, EndsTwo, AsksTwo, EndsUnopened, AsksAll, names_of};
 
 use crate::cube_files::CubeFiles;
 use crate::report::{Report, Room, no_room, with_text};
@@ -149,7 +149,7 @@ fn open_dims<F: Folder>(
     files: &mut F,
 ) -> Result<Opened<Dims>, Report>
     requires { room ≡ [] }
-    ensures ok { IfOk result (λ opened. (opened.room ≡ []) × IfSome (F.state files.old).files (λ known. Says dims_said name.now known (Ok opened.value))) }
+    ensures ok { IfOk result (λ opened. (opened.room ≡ []) × IfSome (F.state files.old).files (λ known. FileSays dims_said name.now known (Ok opened.value))) }
     ensures err { IfErr result (Unopened dims_said name.now (seen F.state files.old files.new)) }
     ensures asks_ok { OnOk result (AskedFor (name.now ∷ []) (seen F.state files.old files.new)) }
     ensures asks_err { IfErr result (AsksOnce name.now (seen F.state files.old files.new)) }
@@ -193,7 +193,7 @@ fn open_facts<F: Folder>(
     files: &mut F,
 ) -> Result<Opened<Core>, Report>
     requires { room ≡ [] }
-    ensures ok { IfOk result (λ opened. (opened.room ≡ []) × IfSome (F.state files.old).files (λ known. Says (facts_said dims) name.now known (Ok opened.value))) }
+    ensures ok { IfOk result (λ opened. (opened.room ≡ []) × IfSome (F.state files.old).files (λ known. FileSays (facts_said dims) name.now known (Ok opened.value))) }
     ensures err { IfErr result (Unopened (facts_said dims) name.now (seen F.state files.old files.new)) }
     ensures asks_ok { OnOk result (AskedFor (name.now ∷ []) (seen F.state files.old files.new)) }
     ensures asks_err { IfErr result (AsksOnce name.now (seen F.state files.old files.new)) }
@@ -214,7 +214,7 @@ pub fn open_flat<F: Folder>(
     files: &mut F,
 ) -> Result<Opened<Flat>, Report>
     requires { room ≡ [] }
-    ensures ok { IfOk result (λ opened. (opened.room ≡ []) × IfSome (F.state files.old).files (λ known. Says flat_said name.now known (Ok opened.value))) }
+    ensures ok { IfOk result (λ opened. (opened.room ≡ []) × IfSome (F.state files.old).files (λ known. FileSays flat_said name.now known (Ok opened.value))) }
     ensures err { IfErr result (Unopened flat_said name.now (seen F.state files.old files.new)) }
     ensures asks_ok { OnOk result (AskedFor (name.now ∷ []) (seen F.state files.old files.new)) }
     ensures asks_err { IfErr result (AsksOnce name.now (seen F.state files.old files.new)) }
@@ -263,7 +263,7 @@ fn open_policy<F: Folder>(
     files: &mut F,
 ) -> Result<Opened<Policy>, Report>
     requires { room ≡ [] }
-    ensures ok { IfOk result (λ opened. (opened.room ≡ []) × IfSome (F.state files.old).files (λ known. Says (policy_said dims.now) name.now known (Ok opened.value))) }
+    ensures ok { IfOk result (λ opened. (opened.room ≡ []) × IfSome (F.state files.old).files (λ known. FileSays (policy_said dims.now) name.now known (Ok opened.value))) }
     ensures rules { IfOk result (λ opened. IsPolicy dims.now opened.value) }
     ensures err { IfErr result (Unopened (policy_said dims.now) name.now (seen F.state files.old files.new)) }
     ensures asks_ok { OnOk result (AskedFor (name.now ∷ []) (seen F.state files.old files.new)) }

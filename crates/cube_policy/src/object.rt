@@ -1,5 +1,5 @@
 // One object of a policy file.
-ghost use Rattle.std.specs.Prelude.{◌≡◌, ◌==◌, codes, is_none, slice_index_or};
+ghost use Rattle.std.specs.Prelude.{◌≡◌, ◌==◌, codes, is_none};
 ghost use Rattle.std.specs.List.{list_all};
 ghost use Rattle.toml.specs.View.{table_view};
 ghost use Rattle.cube_model.specs.Answers.{Answers};
@@ -15,7 +15,7 @@ use crate::fault::PolicyFault;
 use crate::keys::{Kind, check_keys};
 use crate::slice::read_slice;
 use cube_dims::find_measure;
-use cube_model::{Dims, Method, Object, Text};
+use cube_model::{Dims, Method, Object, Text, method_of};
 use cube_tables::{key_text, read_text};
 use std::alloc::Global;
 use toml::Table;
@@ -58,16 +58,6 @@ fn is_misplaced(method: Method, levels: &[u32]) -> bool
     }
 }
 
-/// The method of a measure.
-fn method_at(methods: &[Method], measure: u32) -> Method
-    ensures { result ≡ slice_index_or methods.now measure method.Plain }
-{
-    match methods.get(measure as usize) {
-        Some(method) => *method,
-        None => Method::Plain,
-    }
-}
-
 /// Checks that an object goes on a measure at these levels.
 fn check_place(
     alloc: Global,
@@ -101,7 +91,7 @@ pub(crate) fn read_object(
     let levels = read_levels(alloc, dims, &below, table)?;
     let within = key_text(alloc, entry, b"slice")?;
     let slice = read_slice(alloc, dims, &within, table)?;
-    check_place(alloc, entry, method_at(methods, measure), levels.as_slice())?;
+    check_place(alloc, entry, method_of(methods, measure), levels.as_slice())?;
     Ok(Object {
         measure,
         levels,

@@ -1,6 +1,6 @@
 -- The nonempty cells of a cuboid with their sums, and when they stand for a core.
 use Rattle.std.specs.List.{list_all, sum}
-use Rattle.std.specs.Prelude.{◌≡◌, ℕ, ◌<◌, ◌≤◌, Bool, true, ◌&&◌, List, [], length, map, slice_index_or, ℤ, None, is_none}
+use Rattle.std.specs.Prelude.{◌≡◌, ℕ, ◌<◌, ◌≤◌, Bool, true, ◌&&◌, List, [], length, map, slice_index_or, ℤ, is_none}
 use Rattle.cube_model.specs.declared.answer.AnswerRow.{AnswerRow}
 use Rattle.cube_model.specs.declared.answer.Row.{Row}
 use Rattle.cube_model.specs.declared.policy.Policy.{Policy}
@@ -9,7 +9,7 @@ use Rattle.cube_model.specs.declared.request.What.TheVariants.{Measure}
 use Rattle.cube_model.specs.Cores.{Core, IsCore, AreSumsOf, shown, world}
 use Rattle.cube_model.specs.Cubes.{Public, World, are_levels, covered, in_order, key_at, places, point, same}
 use Rattle.cube_model.specs.Dims.{Dims, plains}
-use Rattle.cube_model.specs.Requests.{total, values}
+use Rattle.cube_model.specs.Requests.{total, values, whole as all_of}
 use Rattle.cube_core.specs.Rows.{ArePlaces}
 
 -- A cuboid of a measure: its levels, its cells with their sums, and for each cell a point that it covers, from which the
@@ -62,7 +62,7 @@ pub record AreBounded (sums : List ℤ) : Type 0 where
 
 -- the request of all places by their keys at some levels
 abbrev pub whole : ℕ → List ℕ → Request
-whole m levels = record { what = Measure m; group = levels; picks = map (λ l. None) levels }
+whole m levels = all_of (Measure m) levels
 
 -- the request groups at just these levels and picks nothing, so that its rows are the cells at them
 abbrev pub takes_all : List ℕ → Request → Bool

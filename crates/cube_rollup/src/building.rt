@@ -4,45 +4,13 @@ ghost use Rattle.std.specs.List.{sum_by, AllByRecursion};
 ghost use Rattle.cube_core.specs.Rows.{ArePlaces};
 ghost use Rattle.cube_model.specs.Cubes.{are_levels};
 ghost use Rattle.cube_model.specs.Dims.{plains};
-ghost use Rattle.cube_rollup.specs.Cuboids as said;
 ghost use Rattle.cube_rollup.specs.Cuboids.{first_of_row, summed_row, AreRowsOf, StandsFor};
 
 use crate::Cuboid;
 use cube_core::{Core, Steps};
-use cube_model::{
-    Answer, AnswerRow, Items, Key, Levels, NoMemory, Picks, Request, Row, Rows, What,
-};
+use cube_model::{Answer, AnswerRow, Items, Key, Levels, NoMemory, Request, Row, Rows, What};
 use std::alloc::Global;
 use std::sync::ledger::Ledger;
-
-/// A copy of numbers.
-fn copy(alloc: Global, numbers: &Items<u32>) -> Result<Items<u32>, NoMemory>
-    ensures { IfOk result (λ copy. copy ≡ numbers.now) }
-{
-    Ok(Items::from_vec(Vec::from_slice(alloc, numbers.as_slice())?))
-}
-
-/// For each level no pick.
-fn no_picks(alloc: Global, levels: &[u32]) -> Result<Picks, NoMemory>
-    ensures { IfOk result (λ picks. picks ≡ map (λ level. None) levels.now) }
-{
-    let mut picks = Picks::new(alloc);
-    'levels: for _level in levels {
-        picks.push(None)?;
-    }
-    Ok(picks)
-}
-
-/// The request of all places by their keys at some levels.
-fn make_request(alloc: Global, measure: u32, levels: &Levels) -> Result<Request, NoMemory>
-    ensures { IfOk result (λ request. request ≡ said.whole measure levels.now) }
-{
-    Ok(Request {
-        what: What::Measure(measure),
-        group: copy(alloc, levels)?,
-        picks: no_picks(alloc, levels.as_slice())?,
-    })
-}
 
 /// The point of the first place of a row.
 fn first_point(alloc: Global, core: &Core, row: &Row) -> Result<Key, NoMemory>
@@ -50,7 +18,7 @@ fn first_point(alloc: Global, core: &Core, row: &Row) -> Result<Key, NoMemory>
     ensures { IfOk result (λ point. point ≡ first_of_row core.now row.now) }
 {
     let place = row.places.as_slice()[0];
-    copy(alloc, &core.shape().points.as_slice()[place as usize])
+    core.shape().points.as_slice()[place as usize].copied(alloc)
 }
 
 /// The point of the first place of each row.
@@ -104,8 +72,8 @@ impl Cuboid {
         ensures steps { steps.new ≤ steps.old + length core.now.shape.points }
     {
         let _rules = core.dims();
-        let kept = copy(alloc, levels)?;
-        let request = make_request(alloc, measure, levels)?;
+        let kept = levels.copied(alloc)?;
+        let request = Request::whole(alloc, What::Measure(measure), levels)?;
         let rows = core.rows(alloc, &request)?;
         let points = first_points(alloc, core, rows.as_slice())?;
         let cells = sum_rows(alloc, core, measure, rows, steps)?;

@@ -1,5 +1,5 @@
 // The text of a log.
-ghost use Rattle.std.specs.Prelude.{◌≡◌, ◌<◌, ◌≤◌, ◌+◌, ◌++◌, length, take, OnOk, OnErr};
+ghost use Rattle.std.specs.Prelude.{◌≡◌, ◌<◌, ◌≤◌, take, OnOk, OnErr};
 ghost use Rattle.std.specs.Io.KnownBytes.{Appends};
 ghost use Rattle.cube_io.specs.Causes.{HasCause};
 ghost use Rattle.cube_io.specs.Content.{AppendsPrefix};
@@ -9,24 +9,11 @@ ghost use Rattle.cube_io.specs.Wires.LogEntry.{Sent, Shut};
 ghost use Rattle.cube_script.specs.Heads.{sent_head, shut_line};
 
 use cube_io::{Failed, Note, Scroll, Sink};
+use cube_text::{LINE, write_at};
 use itoa::Buffer;
 
-// No head has more bytes.
-const HEAD: usize = 64;
-
-// Writes a text behind what was written. Tells how much is written then.
-fn write_at(buf: &mut [u8; HEAD], at: usize, text: &[u8]) -> usize
-    requires { at + length text.now ≤ 64 }
-    ensures end { result ≡ at + length text.now }
-    ensures written { take result buf.new ≡ take at buf.old ++ text.now }
-{
-    let end = at + text.len();
-    buf[at..end].copy_from_slice(text);
-    end
-}
-
 // Writes the line before the bytes of a send.
-fn write_sent(buf: &mut [u8; HEAD], c: u32, piece: &[u8]) -> usize
+fn write_sent(buf: &mut [u8; LINE], c: u32, piece: &[u8]) -> usize
     ensures written { take result buf.new ≡ sent_head c piece.now }
     ensures short { result ≤ 64 }
 {
@@ -39,7 +26,7 @@ fn write_sent(buf: &mut [u8; HEAD], c: u32, piece: &[u8]) -> usize
 }
 
 // Writes the line of a close.
-fn write_shut(buf: &mut [u8; HEAD], c: u32) -> usize
+fn write_shut(buf: &mut [u8; LINE], c: u32) -> usize
     ensures written { take result buf.new ≡ shut_line c }
     ensures short { result ≤ 64 }
 {
@@ -55,7 +42,7 @@ fn put_sent<O: Sink>(out: &mut O, c: u32, piece: &[u8]) -> Result<(), Failed>
     ensures err { OnErr result (AppendsPrefix (O.state out.old).written (O.state out.new).written (rendered (Sent c piece.now))) }
     ensures cause { HasCause (O.state out.old).faults (O.state out.new).faults result }
 {
-    let mut head = [0u8; HEAD];
+    let mut head = [0u8; LINE];
     let end = write_sent(&mut head, c, piece);
     out.put(&head[..end])?;
     out.put(piece)?;
@@ -69,7 +56,7 @@ fn put_shut<O: Sink>(out: &mut O, c: u32) -> Result<(), Failed>
     ensures err { OnErr result (AppendsPrefix (O.state out.old).written (O.state out.new).written (rendered (Shut c))) }
     ensures cause { HasCause (O.state out.old).faults (O.state out.new).faults result }
 {
-    let mut line = [0u8; HEAD];
+    let mut line = [0u8; LINE];
     let end = write_shut(&mut line, c);
     out.put(&line[..end])?;
     Ok(())

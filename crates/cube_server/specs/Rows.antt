@@ -1,8 +1,9 @@
 -- A manner of the worked examples: a query is answered with its text, and no room changes.
-use Rattle.std.specs.Prelude.{◌≡◌, refl, ℕ, Bool, true, List, [], ◌∷◌, ◌++◌, take, drop, map, Option, Some, None, codes}
+use Rattle.std.specs.Prelude.{refl, ℕ, Bool, true, List, [], ◌∷◌, ◌++◌, take, drop, map, Option, Some, None, codes}
 use Rattle.std.specs.List.{filter_map}
 use Rattle.cube_model.specs.declared.ask.Ask.{Ask}
-use Rattle.cube_model.specs.declared.ask.Ask.TheVariants as ask
+use Rattle.cube_model.specs.declared.ask.Question.{Question}
+use Rattle.cube_model.specs.declared.ask.Question.TheVariants as question
 use Rattle.cube_model.specs.declared.outcome.Outcome.{Outcome}
 use Rattle.cube_model.specs.declared.outcome.Outcome.TheVariants.{Given, JournalFault, NoMemory}
 use Rattle.cube_model.specs.declared.reply.Fixed.{Fixed}
@@ -18,23 +19,24 @@ use Rattle.cube_http.specs.Examples.{head, host}
 use Rattle.cube_http.specs.Responses.{head_bytes}
 use Rattle.cube_server.specs.Logs.{Luck, log_of, calls_of}
 
+abbrev pub said_again : Question → Reply
+said_again (question.Query text) = reply.Made 200 kind.Csv text
+said_again (question.Witness text) = reply.Fixed constant.NoPath
+said_again question.Shape = reply.Fixed constant.NoPath
+
 abbrev pub echoed : Ask → Outcome → Reply
-echoed (ask.Query text) Given = reply.Made 200 kind.Csv text
-echoed (ask.Witness text) Given = reply.Fixed constant.NoPath
-echoed ask.Shape Given = reply.Fixed constant.NoPath
-echoed (ask.Group name inner) Given = reply.Fixed constant.NoPath
+echoed a Given = said_again a.question
 echoed a JournalFault = reply.Fixed constant.JournalFault
 echoed a NoMemory = reply.Fixed constant.NoMemory
 
 abbrev pub echo : Manner
 echo = record { reply = λ rooms a o. echoed a o; next = λ rooms a o. rooms }
 
--- the text of a query
-abbrev pub text_of : Ask → List ℕ
-text_of (ask.Query text) = text
-text_of (ask.Witness text) = text
-text_of ask.Shape = []
-text_of (ask.Group name inner) = name
+-- the text of a question
+abbrev pub text_of : Question → List ℕ
+text_of (question.Query text) = text
+text_of (question.Witness text) = text
+text_of question.Shape = []
 
 -- a log without its events
 abbrev pub is_out : LogEntry → Option LogEntry
@@ -49,7 +51,7 @@ played events luck = filter_map is_out (log_of echo [] events luck)
 
 -- the texts that are asked
 abbrev pub texts : List Arrival → Luck → List (List ℕ)
-texts events luck = map (λ c. text_of c.ask) (calls_of echo [] events luck)
+texts events luck = map (λ c. text_of c.ask.question) (calls_of echo [] events luck)
 
 abbrev pub get : List ℕ → List ℕ
 get q = head ((codes "GET /v1/query?q=" ++ q ++ codes " HTTP/1.1") ∷ host ∷ [])
@@ -76,18 +78,6 @@ anew_events = Opened 1 ∷ Came 1 (take 20 (get (codes "a"))) ∷ Closed 1 ∷ C
 abbrev pub refused_with : ℕ → Fixed → List ℕ → List LogEntry
 refused_with c f text = Sent c (head_bytes (reply.Fixed f) true) ∷ Sent c (text ++ 10 ∷ []) ∷ Shut c ∷ []
 
-fault_reply : (a : Ask) → echoed a JournalFault ≡ reply.Fixed constant.JournalFault
-fault_reply (ask.Query text) = refl
-fault_reply (ask.Witness text) = refl
-fault_reply ask.Shape = refl
-fault_reply (ask.Group name inner) = refl
-
-memory_reply : (a : Ask) → echoed a NoMemory ≡ reply.Fixed constant.NoMemory
-memory_reply (ask.Query text) = refl
-memory_reply (ask.Witness text) = refl
-memory_reply ask.Shape = refl
-memory_reply (ask.Group name inner) = refl
-
 -- what failed gets its constant reply
 pub echo_is_constant : IsConstant echo
-echo_is_constant = record { fault = λ rooms a. (fault_reply a, refl); memory = λ rooms a. (memory_reply a, refl) }
+echo_is_constant = record { fault = λ rooms a. (refl, refl); memory = λ rooms a. (refl, refl) }

@@ -1,3 +1,4 @@
+pub mod Started
 pub mod Phrases
 pub mod Wired
 pub mod Played

@@ -1,10 +1,10 @@
 -- Each reply of an engine has a status with a phrase.
-use Rattle.std.proofs.Common.{◌≡◌, ℕ, Bool, true, false, cond, IsTrue, List, Option, Some, None, Ok, Err, refl}
+use Rattle.std.proofs.Common.{ℕ, Bool, true, false, cond, IsTrue, List, Option, Some, None, Ok, Err, refl}
 use Rattle.std.specs.Prelude.{Result, ⊤}
 use Rattle.cube_http.specs.Responses.{has_phrase, status_of}
 use Rattle.cube_model.specs.declared.ask.Ask.{Ask}
-use Rattle.cube_model.specs.declared.ask.Inner.{Inner}
-use Rattle.cube_model.specs.declared.ask.Inner.TheVariants.{Query, Witness, Shape}
+use Rattle.cube_model.specs.declared.ask.Question.{Question}
+use Rattle.cube_model.specs.declared.ask.Question.TheVariants.{Query, Witness, Shape}
 use Rattle.cube_model.specs.declared.cell.Cell.{Cell}
 use Rattle.cube_model.specs.declared.entry.Entry.{Entry}
 use Rattle.cube_model.specs.declared.outcome.Outcome.{Outcome}
@@ -14,13 +14,16 @@ use Rattle.cube_model.specs.declared.request.What.{What}
 use Rattle.cube_model.specs.declared.request.What.TheVariants.{Count, Measure}
 use Rattle.cube_model.specs.Cubes.{Public, World}
 use Rattle.cube_model.specs.Dims.{Dims}
-use Rattle.cube_model.specs.Rooms.{Room, aim, room_of}
-use Rattle.cube_model.specs.Runs.{Reply as Told, Reply as told, Question as question, replied, witnessed}
+use Rattle.cube_model.specs.Rooms.{Room, aim, room_of, missed_by, reply_by_room}
+use Rattle.cube_model.specs.Runs.{QueryReply, WitnessReply, told, witnessed, reply_by}
+use Rattle.cube_model.specs.Runs.QueryReply.{Answered, Refused}
+use Rattle.cube_model.specs.Runs.WitnessReply.{NotOfMeasure, EmptyCell, NotProtected, Changed}
+use Rattle.cube_model.specs.Verdicts.{verdict}
 use Rattle.cube_query.specs.Faults.{request_of, fault_status}
 use Rattle.cube_query.specs.declared.fault.RequestFault.{RequestFault}
 use Rattle.cube_query.specs.declared.fault.RequestFault.TheVariants as fault
 use Rattle.cube_engine.specs.Changes.{Found, is_cell, cell_of, found_of, found_at, found_by, no_cell, text_of}
-use Rattle.cube_engine.specs.Steps.{in_words, reply_where_read, text_reply, given_reply, inner_reply, reply_of, group_of, inner_of, manner}
+use Rattle.cube_engine.specs.Steps.{by_words, call, in_words, reply_where_read, text_reply, given_reply, manner}
 use Rattle.cube_server.specs.Steps.{IsPhrased}
 
 fault_phrased : (f : RequestFault) → IsTrue (has_phrase (fault_status f))
@@ -33,21 +36,12 @@ fault_phrased (fault.UnknownMember at) = refl
 fault_phrased (fault.Backwards at) = refl
 fault_phrased fault.NoMemory = refl
 
-words_phrased : (s : Dims) (g : Public) (r : Request) (t : Told) → IsTrue (has_phrase (status_of (in_words s g r t)))
-words_phrased s g r (told.Answered rows) = refl
-words_phrased s g r (told.Refused v) = refl
-words_phrased s g r told.Malformed = refl
-words_phrased s g r told.NotOfMeasure = refl
-words_phrased s g r told.EmptyCell = refl
-words_phrased s g r told.NotProtected = refl
-words_phrased s g r (told.Changed changes) = refl
-words_phrased s g r (told.Known g') = refl
-words_phrased s g r (told.Failed o) = refl
-words_phrased s g r told.NoPath = refl
-words_phrased s g r told.UnknownGroup = refl
+words_phrased : (s : Dims) (g : Public) (r : Request) (t : QueryReply) → IsTrue (has_phrase (status_of (in_words s g r t)))
+words_phrased s g r (Answered rows) = refl
+words_phrased s g r (Refused v) = refl
 
 read_phrased : (s : Dims) (w : World) (h : List Entry) (asked : Result Request RequestFault) → IsTrue (has_phrase (status_of (reply_where_read s w h asked)))
-read_phrased s w h (Ok r) = words_phrased s w.shown r (replied (question.Query r) w h)
+read_phrased s w h (Ok r) = words_phrased s w.shown r (told w r (verdict w.shown h r))
 read_phrased s w h (Err f) = fault_phrased f
 
 -- what is found has a text, or a status with a phrase
@@ -55,18 +49,11 @@ abbrev IsFine : Found → Type 0
 IsFine (Ok found) = ⊤
 IsFine (Err why) = IsTrue (has_phrase why.0)
 
-told_fine : (g : Public) (m : ℕ) (t : Told) → IsFine (found_of g m t)
-told_fine g m (told.Answered rows) = refl
-told_fine g m (told.Refused v) = refl
-told_fine g m told.Malformed = refl
-told_fine g m told.NotOfMeasure = refl
-told_fine g m told.EmptyCell = refl
-told_fine g m told.NotProtected = refl
-told_fine g m (told.Changed changes) = tt
-told_fine g m (told.Known g') = refl
-told_fine g m (told.Failed o) = refl
-told_fine g m told.NoPath = refl
-told_fine g m told.UnknownGroup = refl
+told_fine : (g : Public) (m : ℕ) (t : WitnessReply) → IsFine (found_of g m t)
+told_fine g m NotOfMeasure = refl
+told_fine g m EmptyCell = refl
+told_fine g m NotProtected = refl
+told_fine g m (Changed changes) = tt
 
 at_fine : (g : Public) (h : List Entry) (what : What) (t : Cell) → IsFine (found_at g h what t)
 at_fine g h Count t = refl
@@ -84,25 +71,25 @@ text_phrased : (s : Dims) (g : Public) (x : Found) → IsFine x → IsTrue (has_
 text_phrased s g (Ok found) f = refl
 text_phrased s g (Err why) f = f
 
-given_phrased : (s : Dims) (w : World) (h : List Entry) (a : Inner) → IsTrue (has_phrase (status_of (given_reply s w h a)))
-given_phrased s w h (Query text) = read_phrased s w h (request_of s text)
-given_phrased s w h (Witness text) = text_phrased s w.shown (found_by s w.shown h (request_of s text)) (by_fine s w.shown h (request_of s text))
-given_phrased s w h Shape = refl
+given_phrased : (s : Dims) (q : Question) (w : World) (h : List Entry) → IsTrue (has_phrase (status_of (given_reply s q w h)))
+given_phrased s (Query text) w h = read_phrased s w h (request_of s text)
+given_phrased s (Witness text) w h = text_phrased s w.shown (found_by s w.shown h (request_of s text)) (by_fine s w.shown h (request_of s text))
+given_phrased s Shape w h = refl
 
-inner_phrased : (o : Outcome) (s : Dims) (w : World) (h : List Entry) (a : Inner) → IsTrue (has_phrase (status_of (inner_reply o s w h a)))
-inner_phrased Given s w h a = given_phrased s w h a
-inner_phrased JournalFault s w h a = refl
-inner_phrased NoMemory s w h a = refl
+question_phrased : (s : Dims) (o : Outcome) (q : Question) (w : World) (h : List Entry) → IsTrue (has_phrase (status_of (reply_by (by_words s) o q w h)))
+question_phrased s Given q w h = given_phrased s q w h
+question_phrased s JournalFault q w h = refl
+question_phrased s NoMemory q w h = refl
 
-missed_phrased : (o : Outcome) (group : Option (List ℕ)) (s : Dims) (a : Ask) → group_of a ≡ group → IsTrue (has_phrase (status_of (reply_of None s a o)))
-missed_phrased Given None s a e = rw e refl
-missed_phrased Given (Some name) s a e = rw e refl
-missed_phrased JournalFault group s a e = refl
-missed_phrased NoMemory group s a e = refl
+missed_phrased : (s : Dims) (o : Outcome) (group : Option (List ℕ)) → IsTrue (has_phrase (status_of (missed_by (by_words s) o group)))
+missed_phrased s Given None = refl
+missed_phrased s Given (Some name) = refl
+missed_phrased s JournalFault group = refl
+missed_phrased s NoMemory group = refl
 
-found_phrased : (found : Option Room) (s : Dims) (a : Ask) (o : Outcome) → IsTrue (has_phrase (status_of (reply_of found s a o)))
-found_phrased None s a o = missed_phrased o (group_of a) s a refl
-found_phrased (Some room) s a o = inner_phrased o s room.world room.history (inner_of a)
+found_phrased : (s : Dims) (found : Option Room) (a : Ask) (o : Outcome) → IsTrue (has_phrase (status_of (reply_by_room (by_words s) found (call a o))))
+found_phrased s None a o = missed_phrased s o a.group
+found_phrased s (Some room) a o = question_phrased s o a.question room.world room.history
 
 pub phrased : (s : Dims) → IsPhrased (manner s)
-phrased s rooms a o = found_phrased (room_of (aim (group_of a)) rooms) s a o
+phrased s rooms a o = found_phrased s (room_of (aim a.group) rooms) a o

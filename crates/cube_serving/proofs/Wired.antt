@@ -2,8 +2,6 @@
 use Rattle.std.proofs.Common.{◌≡◌, ◌≤◌, ◌^◌, ◌∙◌, refl, sym, ap, subst, ℕ, zero, suc, Bool, false, IsTrue, List, [], ◌∷◌, ◌++◌, cond, inl, inr, arith}
 use Rattle.std.proofs.lemmas.List.Sums.{sum_by-cons}
 use Rattle.std.specs.Prelude.{min, ◌+◌, ◌-◌, ◌<◌, ◌⊎◌, Result, Ok, Err, OnOk, OnErr, IfErr, length}
-use Rattle.cube_model.specs.declared.ask.Ask.{Ask}
-use Rattle.cube_model.specs.declared.ask.Ask.TheVariants as ask
 use Rattle.cube_model.specs.declared.cell.Cell.{Cell}
 use Rattle.cube_model.specs.declared.entry.Entry.{Entry}
 use Rattle.cube_model.specs.declared.outcome.Outcome.{Outcome}
@@ -30,9 +28,9 @@ use Rattle.cube_io.proofs.Trails.{gained_then, gained_map}
 use Rattle.cube_journal.specs.Keeping.{IsInRecovery}
 use Rattle.cube_engine.specs.Engines.{Engine, rooms_of, book_of}
 use Rattle.cube_engine.specs.Kept.{history_of, IsExact}
-use Rattle.cube_engine.specs.Steps.{manner, next_in, inner_of, inner_history}
+use Rattle.cube_engine.specs.Steps.{manner}
 use Rattle.cube_engine.specs.Worlds.{first_history, IsRuled}
-use Rattle.cube_engine.proofs.Worlds.{room_open, other_sum, inner_grows, inner_stays}
+use Rattle.cube_engine.proofs.Worlds.{Reads, texts_read, room_open, other_sum, behind_ask, next_alone, ask_grows, ask_stays}
 use Rattle.cube_server.specs.Alike.{SameReplies}
 use Rattle.cube_server.specs.Crashes.{after, Reaches, OnTheWay, Endures, faults_in, is_fault}
 use Rattle.cube_server.specs.Logs.{Call, Luck, calls_of, end_of}
@@ -46,56 +44,26 @@ use Rattle.cube_talk.specs.Talk.{max_input}
 use Rattle.cube_opening.specs.Opening.{Make}
 use Rattle.cube_opening.specs.declared.cube_files.CubeFiles.{CubeFiles}
 use Rattle.cube_serving.specs.Serving.{Asking, asking, desk_before, Tells, Ends, Wired, Served}
-use Rattle.cube_starting.specs.Starting.{IsBetween, Survived}
-use Rattle.cube_starting.proofs.Started.{exact_of, within_of, begun}
-
--- ---- the history behind an ask of the one room
-
-abbrev step_of : Dims → Public → List Entry → Ask → Outcome → List Entry
-step_of s g h (ask.Query text) o = inner_history o s g h (inner_of (ask.Query text))
-step_of s g h (ask.Witness text) o = inner_history o s g h (inner_of (ask.Witness text))
-step_of s g h ask.Shape o = inner_history o s g h (inner_of ask.Shape)
-step_of s g h (ask.Group [] inner) o = inner_history o s g h inner
-step_of s g h (ask.Group (x ∷ name) inner) o = h
-
-next_alone : (s : Dims) (w : World) (h : List Entry) (a : Ask) (o : Outcome) → next_in s (alone w h) a o ≡ alone w (step_of s w.shown h a o)
-next_alone s w h (ask.Query text) o = refl
-next_alone s w h (ask.Witness text) o = refl
-next_alone s w h ask.Shape o = refl
-next_alone s w h (ask.Group [] inner) o = refl
-next_alone s w h (ask.Group (x ∷ name) inner) o = refl
-
-step_grows : (s : Dims) (g : Public) (h : List Entry) (a : Ask) (o : Outcome) → Extends h (step_of s g h a o)
-step_grows s g h (ask.Query text) o = inner_grows s g h (inner_of (ask.Query text)) o
-step_grows s g h (ask.Witness text) o = inner_grows s g h (inner_of (ask.Witness text)) o
-step_grows s g h ask.Shape o = inner_grows s g h (inner_of ask.Shape) o
-step_grows s g h (ask.Group [] inner) o = inner_grows s g h inner o
-step_grows s g h (ask.Group (x ∷ name) inner) o = extends_refl h
-
-step_stays : (s : Dims) (g : Public) (h : List Entry) (a : Ask) (o : Outcome) → IsAdmissible g h → IsAdmissible g (step_of s g h a o)
-step_stays s g h (ask.Query text) o adm = inner_stays s g h (inner_of (ask.Query text)) o adm
-step_stays s g h (ask.Witness text) o adm = inner_stays s g h (inner_of (ask.Witness text)) o adm
-step_stays s g h ask.Shape o adm = inner_stays s g h (inner_of ask.Shape) o adm
-step_stays s g h (ask.Group [] inner) o adm = inner_stays s g h inner o adm
-step_stays s g h (ask.Group (x ∷ name) inner) o adm = adm
+use Rattle.cube_serving.specs.Starting.{IsBetween, Survived}
+use Rattle.cube_serving.proofs.Started.{exact_of, within_of, begun}
 
 -- ---- behind some asks
 
 abbrev steps : Dims → Public → List Entry → List Call → List Entry
 steps s g h [] = h
-steps s g h (c ∷ calls) = steps s g (step_of s g h c.ask c.outcome) calls
+steps s g h (c ∷ calls) = steps s g (behind_ask s g h c.ask c.outcome) calls
 
 after_alone : (s : Dims) (w : World) (h : List Entry) (calls : List Call) → after (manner s) (alone w h) calls ≡ alone w (steps s w.shown h calls)
 after_alone s w h [] = refl
-after_alone s w h (c ∷ calls) = ap (λ (rs : List Room). after (manner s) rs calls) (next_alone s w h c.ask c.outcome) ∙ after_alone s w (step_of s w.shown h c.ask c.outcome) calls
+after_alone s w h (c ∷ calls) = ap (λ (rs : List Room). after (manner s) rs calls) (next_alone s w h c.ask c.outcome) ∙ after_alone s w (behind_ask s w.shown h c.ask c.outcome) calls
 
 steps_grow : (s : Dims) (g : Public) (h : List Entry) (calls : List Call) → Extends h (steps s g h calls)
 steps_grow s g h [] = extends_refl h
-steps_grow s g h (c ∷ calls) = let next = step_of s g h c.ask c.outcome in extends_trans h next (steps s g next calls) (step_grows s g h c.ask c.outcome) (steps_grow s g next calls)
+steps_grow s g h (c ∷ calls) = let next = behind_ask s g h c.ask c.outcome in extends_trans h next (steps s g next calls) (ask_grows s g h c.ask c.outcome) (steps_grow s g next calls)
 
 steps_stay : (s : Dims) (g : Public) (h : List Entry) (calls : List Call) → IsAdmissible g h → IsAdmissible g (steps s g h calls)
 steps_stay s g h [] adm = adm
-steps_stay s g h (c ∷ calls) adm = steps_stay s g (step_of s g h c.ask c.outcome) calls (step_stays s g h c.ask c.outcome adm)
+steps_stay s g h (c ∷ calls) adm = steps_stay s g (behind_ask s g h c.ask c.outcome) calls (ask_stays s g h c.ask c.outcome adm)
 
 -- ---- the same replies
 
@@ -103,17 +71,17 @@ same_self : (m : Manner) (rooms : List Room) (calls : List Call) → SameReplies
 same_self m rooms [] = tt
 same_self m rooms (c ∷ calls) = (refl, same_self m (m.next rooms c.ask c.outcome) calls)
 
-same_replies : (s : Dims) (w : World) (h last : List Entry) (calls : List Call) (m : ℕ) (t : Cell) → IsWorld w → IsAdmissible w.shown last → Extends (steps s w.shown h calls) last → IsIn t (protected w.shown m)
+same_replies : (s : Dims) (w : World) (h last : List Entry) (calls : List Call) (m : ℕ) (t : Cell) → IsWorld w → Reads s w.shown → IsAdmissible w.shown last → Extends (steps s w.shown h calls) last → IsIn t (protected w.shown m)
     → SameReplies (manner s) (alone w h) (alone (twin w m (changes w.shown last m t)) h) calls
-same_replies s w h last [] m t ok adm ext within = tt
-same_replies s w h last (c ∷ calls) m t ok adm ext within =
+same_replies s w h last [] m t ok reads adm ext within = tt
+same_replies s w h last (c ∷ calls) m t ok reads adm ext within =
     let v = twin w m (changes w.shown last m t) in
-    let next = step_of s w.shown h c.ask c.outcome in
+    let next = behind_ask s w.shown h c.ask c.outcome in
     let on : Extends next last = extends_trans next (steps s w.shown next calls) last (steps_grow s w.shown next calls) ext in
-    let here = room_open s w h last c.ask c.outcome m t ok adm (subst (λ (rs : List Room). Extends (first_history rs) last) (sym (next_alone s w h c.ask c.outcome)) on) within in
-    let more = same_replies s w next last calls m t ok adm ext within in (
+    let here = room_open s w h last c.ask c.outcome m t ok reads adm on within in
+    let more = same_replies s w next last calls m t ok reads adm ext within in (
       here,
-      subst (λ (rs : List Room). SameReplies (manner s) rs (next_in s (alone v h) c.ask c.outcome) calls) (sym (next_alone s w h c.ask c.outcome))
+      subst (λ (rs : List Room). SameReplies (manner s) rs ((manner s).next (alone v h) c.ask c.outcome) calls) (sym (next_alone s w h c.ask c.outcome))
           (subst (λ (rs : List Room). SameReplies (manner s) (alone w next) rs calls) (sym (next_alone s v h c.ask c.outcome)) more),
     )
 
@@ -158,7 +126,7 @@ told core policy a behind log is_core is_policy adm at room outcomes served =
         admissible = subst (IsAdmissible w.shown) (sym is) (steps_stay s w.shown a.first calls adm);
         hides = λ later good ext m t within.
             let on : Extends (steps s w.shown a.first calls) later = subst (λ (k : List Entry). Extends k later) is ext in
-            let alike = logs_are_alike (manner s) (alone w a.first) (alone (twin w m (changes w.shown later m t)) a.first) events luck (same_replies s w a.first later calls m t ok good on within) in
+            let alike = logs_are_alike (manner s) (alone w a.first) (alone (twin w m (changes w.shown later m t)) a.first) events luck (same_replies s w a.first later calls m t ok (texts_read core policy is_core is_policy) good on within) in
             record { same = served.told ∙ sym alike.same_log; other_sum = other_sum w later m t ok good within };
       };
     }

@@ -6,11 +6,13 @@ use Rattle.std.specs.Io.KnownBytes.{Appends}
 use Rattle.cube_model.specs.declared.outcome.Outcome.{Outcome}
 use Rattle.cube_model.specs.declared.policy.Policy.{Policy}
 use Rattle.cube_model.specs.Cores.{Core}
+use Rattle.cube_io.specs.Causes.{Rose}
 use Rattle.cube_io.specs.Content.{AppendsPrefix}
-use Rattle.cube_io.specs.Seen.{FolderState, SinkState, StoreState, Seen}
+use Rattle.cube_io.specs.Seen.{FolderState, SinkState, StoreState, Seen, Unused}
 use Rattle.cube_io.specs.Wires.{Arrival, LogEntry, events_in, render}
 use Rattle.cube_io.specs.Wires.Arrival.{End}
-use Rattle.cube_opening.specs.Opening.{fault_text, faulted, unless_long, Says, Unopened, Failed, AsksTwo, Make, names_of}
+use Rattle.cube_opening.specs.Opening.{fault_text, faulted, unless_long, FileSays, Unopened, Failed, IsSteady, AsksTwo, EndsUnopened, Make, HasAll, names_of}
+use Rattle.cube_opening.specs.Reports.{IsReport, IsDone}
 use Rattle.cube_opening.specs.declared.cube_files.CubeFiles.{CubeFiles}
 use Rattle.cube_opening.specs.declared.report.Report.{Report}
 use Rattle.cube_script.specs.Playing.{Playing, IsPlaying, starting, has_torn}
@@ -19,7 +21,8 @@ use Rattle.cube_script.specs.declared.script_wire.SendRoom.{SendRoom}
 use Rattle.cube_script.specs.declared.script_wire.TheConstants.{MAX_SENDS, MAX_SENT_BYTES}
 use Rattle.cube_server.specs.declared.serving.ServeFault.{ServeFault}
 use Rattle.cube_server.specs.declared.serving.ServeFault.TheVariants.{WireFailed}
-use Rattle.cube_serving.specs.Serving.{Asking, Served, served_status, served_text}
+use Rattle.cube_serving.specs.Serving.{Asking, Served, Unserved, served_status, served_text}
+use Rattle.cube_serving.specs.Starting.{EndsUnstarted, HasJournal}
 
 -- ---- the script
 
@@ -53,7 +56,7 @@ AsksFour cube script_name files r =
 
 -- the script is there and is accepted
 abbrev pub HasScript : List ℕ → FolderState → Type 0
-HasScript script_name files = IsSomeAnd files.files (λ known. (script : List Arrival) × Says script_said script_name known (Ok script))
+HasScript script_name files = IsSomeAnd files.files (λ known. (script : List Arrival) × FileSays script_said script_name known (Ok script))
 
 -- ---- how a play ended
 
@@ -84,10 +87,25 @@ pub record Replayed {S O : Type 0} (cube : CubeFiles) (script_name : List ℕ) (
   pub stated_is : asking.stated ≡ stated
   pub outcomes_are : r.outcomes ≡ asking.outcomes
   pub end : Result (Unit {0}) ServeFault
-  pub said : IfSome files.files (λ known. Says script_said script_name known (Ok script))
+  pub said : IfSome files.files (λ known. FileSays script_said script_name known (Ok script))
   pub plays : (wire.script ≡ (wire_of script).script) × (wire.most ≡ room_for_sends)
   pub playing : IsPlaying wire
   pub served : Served cube files store asking end true wire.log
   pub whole : (u : Unit {0}) → end ≡ Ok u → events_in wire.log ≡ script ++ End ∷ []
   pub unfailed : has_torn wire.log ≡ false → end ≢ Err WireFailed
   pub writes : Writes end wire.log out r
+
+-- a run of `replay` ends at a file, at the script or at the journal, or for want of memory behind it; or it plays the script and writes
+-- the log
+abbrev pub ReplayEnds : {F S O : Type 0} → CubeFiles → List ℕ → ℕ → Seen FolderState F → Seen StoreState S → Seen SinkState O → Report → Type 0
+ReplayEnds cube script_name stated files store out r =
+    (EndsUnopened cube files r × Unused store × Unused out)
+    ⊎ (Unscripted cube script_name files r × Unused store × Unused out)
+    ⊎ (EndsUnstarted cube files.before store r × IsSteady files × Unused out)
+    ⊎ (Unserved cube files.before store × IsReport 7 (codes "no memory\n") r × IsSteady files × Unused out)
+    ⊎ (Replayed cube script_name stated files.before store out r × IsSteady files)
+
+-- where the files, the script and the journal are accepted, no count rose and less was taken than is taken at most, all is done
+abbrev pub ReplayCompletes : {F S O : Type 0} → CubeFiles → List ℕ → Seen FolderState F → Seen StoreState S → Seen SinkState O → Report → Type 0
+ReplayCompletes cube script_name files store out r = HasAll cube files.before → HasScript script_name files.before → HasJournal cube files.before store.before → r.status ≢ 10
+    → ¬ Rose files.before.faults files.after.faults → (r.outcomes ≡ [] → ¬ Rose store.before.faults store.after.faults) → ¬ Rose out.before.faults out.after.faults → IsDone r

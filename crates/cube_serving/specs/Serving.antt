@@ -1,5 +1,5 @@
 -- What is told to the connections of a wire that a cube serves.
-use Rattle.std.specs.Prelude.{◌≡◌, ◌⊎◌, ◌<◌, ◌+◌, ℕ, Bool, false, IsTrue, List, [], ◌∷◌, ◌++◌, length, codes, decimal}
+use Rattle.std.specs.Prelude.{◌≡◌, ◌≢◌, ◌⊎◌, ◌<◌, ◌+◌, ℕ, Bool, false, IsTrue, List, [], ◌∷◌, ◌++◌, length, codes, decimal}
 use Rattle.std.specs.declared.result.Result.{Result}
 use Rattle.std.specs.declared.result.Result.TheVariants.{Ok, Err}
 use Rattle.cube_model.specs.declared.entry.Entry.{Entry}
@@ -9,15 +9,15 @@ use Rattle.cube_model.specs.Cores.{Core, shown, world}
 use Rattle.cube_model.specs.Rooms.{alone}
 use Rattle.cube_model.specs.Verdicts.{IsAdmissible}
 use Rattle.cube_io.specs.Causes.{Rose}
-use Rattle.cube_io.specs.Seen.{FolderState, StoreState, WireState, Seen}
+use Rattle.cube_io.specs.Seen.{FolderState, StoreState, WireState, Seen, Unused, seen}
 use Rattle.cube_io.specs.Wires.{Arrival, LogEntry, events_in}
 use Rattle.cube_io.specs.Wires.Arrival.{End}
 use Rattle.cube_engine.specs.Engines.{Engine}
 use Rattle.cube_engine.specs.Headline.{Hides}
 use Rattle.cube_engine.specs.Kept.{history_of, IsExact}
 use Rattle.cube_engine.specs.Steps.{manner}
-use Rattle.cube_opening.specs.Opening.{Make}
-use Rattle.cube_opening.specs.Reports.{IsReport}
+use Rattle.cube_opening.specs.Opening.{IsSteady, EndsUnopened, Make, HasAll}
+use Rattle.cube_opening.specs.Reports.{IsReport, IsDone}
 use Rattle.cube_opening.specs.declared.cube_files.CubeFiles.{CubeFiles}
 use Rattle.cube_opening.specs.declared.report.Report.{Report}
 use Rattle.cube_server.specs.Logs.{log_of}
@@ -25,7 +25,7 @@ use Rattle.cube_server.specs.Seen.{DeskState}
 use Rattle.cube_server.specs.Steps.{Serves, IsCounted, has_end, sends_in, luck_of, stated_at}
 use Rattle.cube_server.specs.declared.serving.ServeFault.{ServeFault}
 use Rattle.cube_server.specs.declared.serving.ServeFault.TheVariants.{WireFailed, Spent}
-use Rattle.cube_starting.specs.Starting.{Recovers, Survived}
+use Rattle.cube_serving.specs.Starting.{EndsUnstarted, HasJournal, Recovers, Survived}
 use Rattle.cube_talk.specs.Asks.{NoneFailed}
 use Rattle.cube_talk.specs.Talk.{max_input}
 
@@ -105,7 +105,7 @@ pub record Unserved {S : Type 0} (cube : CubeFiles) (files : FolderState) (store
   pub exact : IsTrue store.before.told → IsExact core policy history (store.after.logs 0).state
 
 -- the connections of a wire were served, by at most so many asks
-pub record Answered {S W : Type 0} (cube : CubeFiles) (stated : ℕ) (files : FolderState) (store : Seen StoreState S) (wire : Seen WireState W) (r : Report) : Type 0 where
+pub record ServedConnections {S W : Type 0} (cube : CubeFiles) (stated : ℕ) (files : FolderState) (store : Seen StoreState S) (wire : Seen WireState W) (r : Report) : Type 0 where
   pub asking : Asking
   pub stated_is : asking.stated ≡ stated
   pub outcomes_are : r.outcomes ≡ asking.outcomes
@@ -121,3 +121,21 @@ Hears address wire r = IsTrue wire.before.told → (wire.after.heard ≡ wire.be
 -- a run ended where it was to listen: the wire failed, or memory ran out
 abbrev pub Unheard : {W : Type 0} → Seen WireState W → Report → Type 0
 Unheard wire r = (IsReport 8 (codes "wire failed\n") r × Rose wire.before.faults wire.after.faults) ⊎ IsReport 7 (codes "no memory\n") r
+
+-- a run of `serve` ends at a file, at the journal, or where it is to listen; or it serves the connections of the wire
+abbrev pub ServeEnds : {F S W : Type 0} → CubeFiles → ℕ → Seen FolderState F → Seen StoreState S → Seen WireState W → Report → Type 0
+ServeEnds cube stated files store wire r =
+    (EndsUnopened cube files r × Unused store × Unused wire)
+    ⊎ (EndsUnstarted cube files.before store r × IsSteady files × Unused wire)
+    ⊎ (Unserved cube files.before store × Unheard wire r × IsSteady files × (IsTrue wire.before.told → wire.after.log ≡ []))
+    ⊎ (ServedConnections cube stated files.before store wire r × IsSteady files)
+
+-- where the files and the journal are accepted, no count rose and less was taken than is taken at most, all is done
+abbrev pub ServeCompletes : {F S W : Type 0} → CubeFiles → Seen FolderState F → Seen StoreState S → Seen WireState W → Report → Type 0
+ServeCompletes cube files store wire r = HasAll cube files.before → HasJournal cube files.before store.before → r.status ≢ 10
+    → ¬ Rose files.before.faults files.after.faults → (r.outcomes ≡ [] → ¬ Rose store.before.faults store.after.faults) → ¬ Rose wire.before.faults wire.after.faults → IsDone r
+
+-- What asks over an opened log leave of it, seen from before the opening: where the log was exact behind that, it survived.
+abbrev pub SurvivesFrom : {S : Type 0} → (S → StoreState) → Core → Policy → Asking → S → S → Type 0
+SurvivesFrom {S} tells core policy a old new = IsTrue (tells old).told → IsExact core policy a.first ((tells old).logs 0).state
+    → (opened : S) → Recovers core policy (seen tells opened old) → (tells opened).told ≡ (tells old).told → Survived core policy a.first a.last a.outcomes (seen tells opened new)

@@ -1,28 +1,27 @@
 // `replay`: the cube of the files is asked by the connections of a script, and the log of what was sent is written.
-ghost use Rattle.std.specs.Prelude.{◌≡◌, ◌≢◌, ◌⊎◌, ◌≤◌, ◌+◌, ◌++◌, ◌∷◌, [], List, decimal, codes, true, false, length, is_err, IsTrue, IfOk, IfErr, OnOk, IfSome, IsSomeAnd, Ok, Err};
+ghost use Rattle.std.specs.Prelude.{◌≡◌, ◌≢◌, ◌⊎◌, ◌≤◌, ◌+◌, ◌++◌, ◌∷◌, [], List, decimal, codes, true, false, length, is_err, IsTrue, IfOk, IfErr, OnOk, IfSome, Ok, Err};
 ghost use Rattle.std.specs.List.{list_any};
 ghost use Rattle.cube_io.specs.Causes.{Rose};
 ghost use Rattle.cube_io.specs.Files.{max_file};
 ghost use Rattle.cube_io.specs.Seen.{seen};
 ghost use Rattle.cube_io.specs.Told.{OthersStay};
 ghost use Rattle.cube_io.specs.Wires.{Arrival};
-ghost use Rattle.cube_opening.specs.Opening.{Says, Unopened, EndsUnopened, AskedFor, AsksOnce, Reads, HasAll, IsSteady};
+ghost use Rattle.cube_opening.specs.Opening.{FileSays, Unopened, AskedFor, AsksOnce, Reads, IsSteady};
 ghost use Rattle.cube_opening.specs.Reports.{IsReport};
 ghost use Rattle.cube_script.specs.Playing.{has_torn};
 ghost use Rattle.cube_server.specs.Steps.{is_end};
 ghost use Rattle.cube_server.specs.declared.serving.ServeFault.TheVariants as fault;
-ghost use Rattle.cube_serving.specs.Serving.{Unserved};
-ghost use Rattle.cube_serving.specs.Replaying.{script_said, wire_of, Unscripted, AsksFour, HasScript, played_status, played_text, Replayed};
-ghost use Rattle.cube_starting.specs.Starting.{EndsUnstarted, AsksStore, HasJournal};
+ghost use Rattle.cube_serving.specs.Replaying.{script_said, wire_of, AsksFour, ReplayEnds, ReplayCompletes, played_status, played_text};
+ghost use Rattle.cube_serving.specs.Starting.{AsksStore};
 
 use crate::serving::{report_serving, serve_engine};
+use crate::starting::open_engine;
 use cube_engine::Engine;
 use cube_io::{Failed, Folder, Sink, Store};
 use cube_model::Text;
 use cube_opening::{CubeFiles, Guarded, Opened, Report, Room, open_guarded, read_bytes};
 use cube_script::{ScriptFault, ScriptWire};
 use cube_server::{Pool, ServeFault};
-use cube_starting::open_engine;
 use std::alloc::Global;
 
 // The wire that plays the script of these bytes.
@@ -51,7 +50,7 @@ fn open_script<F: Folder>(
     files: &mut F,
 ) -> Result<Opened<ScriptWire>, Report>
     requires { room ≡ [] }
-    ensures ok { IfOk result (λ opened. (opened.room ≡ []) × ((script : List Arrival) × (opened.value ≡ wire_of script) × (list_any is_end script ≡ false) × IfSome (F.state files.old).files (λ known. Says script_said name.now known (Ok script)))) }
+    ensures ok { IfOk result (λ opened. (opened.room ≡ []) × ((script : List Arrival) × (opened.value ≡ wire_of script) × (list_any is_end script ≡ false) × IfSome (F.state files.old).files (λ known. FileSays script_said name.now known (Ok script)))) }
     ensures err { IfErr result (Unopened script_said name.now (seen F.state files.old files.new)) }
     ensures asks_ok { OnOk result (AskedFor (name.now ∷ []) (seen F.state files.old files.new)) }
     ensures asks_err { IfErr result (AsksOnce name.now (seen F.state files.old files.new)) }
@@ -113,11 +112,7 @@ pub fn replay_cube<F: Folder, S: Store, O: Sink>(
 ) -> Report
     requires room { room ≡ [] }
     requires stated { 1 ≤ stated }
-    ensures answers { (EndsUnopened cube.now (seen F.state files.old files.new) result × (store.new ≡ store.old) × (out.new ≡ out.old))
-        ⊎ (Unscripted cube.now script_name.now (seen F.state files.old files.new) result × (store.new ≡ store.old) × (out.new ≡ out.old))
-        ⊎ (EndsUnstarted cube.now (F.state files.old) (seen S.state store.old store.new) result × IsSteady (seen F.state files.old files.new) × (out.new ≡ out.old))
-        ⊎ (Unserved cube.now (F.state files.old) (seen S.state store.old store.new) × IsReport 7 (codes "no memory\n") result × IsSteady (seen F.state files.old files.new) × (out.new ≡ out.old))
-        ⊎ (Replayed cube.now script_name.now stated (F.state files.old) (seen S.state store.old store.new) (seen O.state out.old out.new) result × IsSteady (seen F.state files.old files.new)) }
+    ensures answers { ReplayEnds cube.now script_name.now stated (seen F.state files.old files.new) (seen S.state store.old store.new) (seen O.state out.old out.new) result }
     ensures asks { AsksFour cube.now script_name.now (seen F.state files.old files.new) result }
     ensures names { (store.new ≡ store.old) ⊎ AsksStore journal.now (seen S.state store.old store.new) result }
     ensures others { OthersStay 0 (S.state store.old) (S.state store.new) }
@@ -128,8 +123,7 @@ pub fn replay_cube<F: Folder, S: Store, O: Sink>(
     ensures steady { result.status ≢ 5 → IsSteady (seen F.state files.old files.new) }
     ensures output_steady { result.status ≢ 6 → (O.state out.new).faults ≡ (O.state out.old).faults }
     ensures memory { result.status ≡ 7 → (result.outcomes ≡ []) × (out.new ≡ out.old) }
-    ensures complete { HasAll cube.now (F.state files.old) → HasScript script_name.now (F.state files.old) → HasJournal cube.now (F.state files.old) (S.state store.old) → result.status ≢ 10
-        → ¬ Rose (F.state files.old).faults (F.state files.new).faults → (result.outcomes ≡ [] → ¬ Rose (S.state store.old).faults (S.state store.new).faults) → ¬ Rose (O.state out.old).faults (O.state out.new).faults → (result.status ≡ 0) ⊎ (result.status ≡ 7) }
+    ensures complete { ReplayCompletes cube.now script_name.now (seen F.state files.old files.new) (seen S.state store.old store.new) (seen O.state out.old out.new) result }
     ensures wire { result.status ≢ 8 }
     ensures words { result.status ≢ 2 }
 {

@@ -3,20 +3,20 @@ ghost use Rattle.std.specs.Prelude.{◌≡◌, ◌≢◌, ◌⊎◌, ◌≤◌, 
 ghost use Rattle.cube_io.specs.Causes.{Rose};
 ghost use Rattle.cube_io.specs.Seen.{seen};
 ghost use Rattle.cube_io.specs.Told.{OthersStay, PlaysOn};
-ghost use Rattle.cube_engine.specs.Kept.{IsKept, IsExact};
-ghost use Rattle.cube_opening.specs.Opening.{EndsUnopened, AsksAll, HasAll, IsSteady};
+ghost use Rattle.cube_engine.specs.Kept.{IsKept};
+ghost use Rattle.cube_opening.specs.Opening.{AsksAll, IsSteady};
 ghost use Rattle.cube_server.specs.Pools.{IsFree};
 ghost use Rattle.cube_server.specs.declared.serving.ServeFault.TheVariants as fault;
-ghost use Rattle.cube_serving.specs.Serving.{asking, Wired, Unserved, Answered, Hears, Unheard, served_status, served_text};
-ghost use Rattle.cube_starting.specs.Starting.{EndsUnstarted, AsksStore, HasJournal, Recovers, Survived};
+ghost use Rattle.cube_serving.specs.Serving.{asking, Wired, ServeEnds, ServeCompletes, SurvivesFrom, Hears, served_status, served_text};
+ghost use Rattle.cube_serving.specs.Starting.{AsksStore};
 ghost use Rattle.cube_talk.specs.Asks.{NoneFailed};
 
+use crate::starting::open_engine;
 use cube_engine::Engine;
 use cube_io::{Folder, Store, Wire};
 use cube_model::Text;
 use cube_opening::{CubeFiles, Guarded, Report, Room, open_guarded, spent_room};
 use cube_server::{Pool, ServeFault, serve};
-use cube_starting::open_engine;
 use std::alloc::Global;
 
 // The most events that are taken of a wire.
@@ -38,9 +38,7 @@ pub(crate) fn serve_engine<S: Store, W: Wire>(
     requires pool { IsFree pool.old }
     requires quiet { IsTrue (W.state wire.old).told → (W.state wire.old).log ≡ [] }
     ensures wired { Wired engine.old.core engine.old.policy (asking engine.old engine.new) result (W.state wire.old).told (W.state wire.new).log }
-    ensures survived { IsTrue (S.state store.old).told → IsExact engine.old.core engine.old.policy engine.old.history ((S.state store.old).logs 0).state
-        → (opened : S) → Recovers engine.old.core engine.old.policy (seen S.state opened store.old) → (S.state opened).told ≡ (S.state store.old).told
-        → Survived engine.old.core engine.old.policy engine.old.history engine.new.history engine.new.outcomes (seen S.state opened store.new) }
+    ensures survived { SurvivesFrom S.state engine.old.core engine.old.policy (asking engine.old engine.new) store.old store.new }
     ensures others { OthersStay 0 (S.state store.old) (S.state store.new) }
     ensures calm { ¬ Rose (S.state store.old).faults (S.state store.new).faults → NoneFailed engine.new.outcomes }
     ensures failed { result ≡ Err fault.WireFailed → Rose (W.state wire.old).faults (W.state wire.new).faults }
@@ -84,10 +82,7 @@ pub fn serve_cube<F: Folder, S: Store, W: Wire>(
     requires room { room ≡ [] }
     requires stated { 1 ≤ stated }
     requires quiet { IsTrue (W.state wire.old).told → (W.state wire.old).log ≡ [] }
-    ensures answers { (EndsUnopened cube.now (seen F.state files.old files.new) result × (store.new ≡ store.old) × (wire.new ≡ wire.old))
-        ⊎ (EndsUnstarted cube.now (F.state files.old) (seen S.state store.old store.new) result × IsSteady (seen F.state files.old files.new) × (wire.new ≡ wire.old))
-        ⊎ (Unserved cube.now (F.state files.old) (seen S.state store.old store.new) × Unheard (seen W.state wire.old wire.new) result × IsSteady (seen F.state files.old files.new) × (IsTrue (W.state wire.old).told → (W.state wire.new).log ≡ []))
-        ⊎ (Answered cube.now stated (F.state files.old) (seen S.state store.old store.new) (seen W.state wire.old wire.new) result × IsSteady (seen F.state files.old files.new)) }
+    ensures answers { ServeEnds cube.now stated (seen F.state files.old files.new) (seen S.state store.old store.new) (seen W.state wire.old wire.new) result }
     ensures asks { AsksAll cube.now (seen F.state files.old files.new) result }
     ensures names { (store.new ≡ store.old) ⊎ AsksStore journal.now (seen S.state store.old store.new) result }
     ensures heard { (wire.new ≡ wire.old) ⊎ Hears address.now (seen W.state wire.old wire.new) result }
@@ -99,8 +94,7 @@ pub fn serve_cube<F: Folder, S: Store, W: Wire>(
     ensures steady { result.status ≢ 5 → IsSteady (seen F.state files.old files.new) }
     ensures wire_steady { result.status ≢ 8 → (W.state wire.new).faults ≡ (W.state wire.old).faults }
     ensures memory { result.status ≡ 7 → (result.outcomes ≡ []) × (IsTrue (W.state wire.old).told → (W.state wire.new).log ≡ []) }
-    ensures complete { HasAll cube.now (F.state files.old) → HasJournal cube.now (F.state files.old) (S.state store.old) → result.status ≢ 10
-        → ¬ Rose (F.state files.old).faults (F.state files.new).faults → (result.outcomes ≡ [] → ¬ Rose (S.state store.old).faults (S.state store.new).faults) → ¬ Rose (W.state wire.old).faults (W.state wire.new).faults → (result.status ≡ 0) ⊎ (result.status ≡ 7) }
+    ensures complete { ServeCompletes cube.now (seen F.state files.old files.new) (seen S.state store.old store.new) (seen W.state wire.old wire.new) result }
     ensures output { result.status ≢ 6 }
     ensures words { result.status ≢ 2 }
 {

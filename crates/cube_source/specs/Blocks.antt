@@ -1,6 +1,6 @@
 -- The blocks of a source cuboid, each the places that it has together, and how cells lie in them.
 use Rattle.std.specs.List.{list_any, All}
-use Rattle.std.specs.Prelude.{◌≡◌, ℕ, ◌<◌, Bool, false, not, length, ◌&&◌, List, [], map, slice_index_or, None}
+use Rattle.std.specs.Prelude.{◌≡◌, ℕ, ◌<◌, Bool, false, not, length, ◌&&◌, List, [], slice_index_or}
 use Rattle.cube_model.specs.declared.answer.Row.{Row}
 use Rattle.cube_model.specs.declared.cell.Cell.{Cell}
 use Rattle.cube_model.specs.declared.policy.Policy.{Policy}
@@ -9,6 +9,7 @@ use Rattle.cube_model.specs.declared.request.What.TheVariants.{Count}
 use Rattle.cube_model.specs.Cores.{Core, shown}
 use Rattle.cube_model.specs.Cubes.{Public, covers, together}
 use Rattle.cube_model.specs.Protection.{listed}
+use Rattle.cube_model.specs.Requests.{whole as all_of}
 use Rattle.cube_core.specs.Rows.{ArePlaces}
 
 -- a core where nothing is protected
@@ -20,7 +21,7 @@ bare c = shown c no_policy
 
 -- the request of all places by their keys at a cuboid
 abbrev pub whole : List ℕ → Request
-whole c = record { what = Count; group = c; picks = map (λ l. None) c }
+whole c = all_of Count c
 
 -- the places do not all have one key at the cuboid
 abbrev pub is_split : Public → List ℕ → List ℕ → Bool

@@ -1,5 +1,5 @@
 // The rows of all places at a cuboid, and the places of rows that another cuboid tells apart.
-ghost use Rattle.std.specs.Prelude.{◌≡◌, ◌<◌, ℕ, true, false, ◌||◌, map, length, replicate, slice_index_or, IfOk};
+ghost use Rattle.std.specs.Prelude.{◌≡◌, ◌<◌, ℕ, true, false, ◌||◌, length, replicate, slice_index_or, IfOk};
 ghost use Rattle.std.specs.List.{list_any, All};
 ghost use Rattle.cube_model.specs.Cubes.{are_levels};
 ghost use Rattle.cube_model.specs.Dims.{plains};
@@ -10,37 +10,8 @@ ghost use Rattle.cube_source.specs.Blocks.{bare, AreBlocks, AreFlags};
 
 use crate::places::together;
 use cube_core::Core;
-use cube_model::{Levels, NoMemory, Picks, Request, Row, Rows, What};
+use cube_model::{Levels, NoMemory, Request, Row, Rows, What};
 use std::alloc::Global;
-
-/// A copy of some levels.
-pub(crate) fn copy_levels(alloc: Global, levels: &Levels) -> Result<Levels, NoMemory>
-    ensures { IfOk result (λ copy. copy ≡ levels.now) }
-{
-    Ok(Levels::from_vec(Vec::from_slice(alloc, levels.as_slice())?))
-}
-
-/// For each level no pick.
-fn no_picks(alloc: Global, levels: &[u32]) -> Result<Picks, NoMemory>
-    ensures { IfOk result (λ picks. picks ≡ map (λ level. None) levels.now) }
-{
-    let mut picks = Picks::new(alloc);
-    'levels: for _level in levels {
-        picks.push(None)?;
-    }
-    Ok(picks)
-}
-
-/// The request of all places by their keys at a cuboid.
-fn make_request(alloc: Global, levels: &Levels) -> Result<Request, NoMemory>
-    ensures { IfOk result (λ request. request ≡ said.whole levels.now) }
-{
-    Ok(Request {
-        what: What::Count,
-        group: copy_levels(alloc, levels)?,
-        picks: no_picks(alloc, levels.as_slice())?,
-    })
-}
 
 /// The rows of all places at a cuboid, in the order of their keys.
 pub(crate) fn rows_at(alloc: Global, core: &Core, levels: &Levels) -> Result<Rows, NoMemory>
@@ -48,7 +19,7 @@ pub(crate) fn rows_at(alloc: Global, core: &Core, levels: &Levels) -> Result<Row
     ensures rows { IfOk result (λ rows. rows ≡ requests.rows (bare core.now) (said.whole levels.now)) }
     ensures places { IfOk result (λ rows. AreBlocks (length core.now.shape.points) rows) }
 {
-    let request = make_request(alloc, levels)?;
+    let request = Request::whole(alloc, What::Count, levels)?;
     core.rows(alloc, &request)
 }
 

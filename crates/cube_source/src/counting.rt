@@ -11,7 +11,7 @@ ghost use Rattle.cube_source.specs.Fresh.{is_fresh};
 ghost use Rattle.cube_source.specs.Objects.{IsPlaced, of_measure};
 
 use crate::fresh::add_fresh;
-use crate::protecting::{is_guarded, method_of};
+use crate::protecting::is_guarded;
 use cube_core::Core;
 use cube_lattice::cuboids_below;
 use cube_model::{Cells, Levels, Method, NoMemory, Object, Policy};
@@ -111,7 +111,7 @@ pub fn count_protected(
     ensures small { IfOk result (λ count. count ≤ 1073741824) }
 {
     let objects = policy.objects.as_slice();
-    match method_of(policy, measure) {
+    match policy.method(measure) {
         Method::Plain => Ok(0),
         Method::Lattice => count_lattice(alloc, core, objects, measure),
         Method::Parity => Ok(count_parity(core, objects, measure)),

@@ -12,9 +12,9 @@ ghost use Rattle.cube_source.specs.Blocks.{bare, is_parted, row_cell, AreBlocks}
 ghost use Rattle.cube_source.specs.Judged.{judged_of};
 ghost use Rattle.cube_source.specs.Objects.{IsPlaced, of_measure};
 
-use crate::blocks::{copy_levels, meets, mixed_places, rows_at};
+use crate::blocks::{meets, mixed_places, rows_at};
 use crate::places::{finest, in_slice, key_of, touches};
-use crate::protecting::{is_guarded, method_of};
+use crate::protecting::is_guarded;
 use cube_core::Core;
 use cube_lattice::cuboids_below;
 use cube_model::{Cell, Key, Levels, Method, NoMemory, Object, Policy, Row};
@@ -47,8 +47,8 @@ pub(crate) fn make_cell(alloc: Global, levels: &Levels, key: &Key) -> Result<Cel
     ensures { IfOk result (λ cell. cell ≡ record { levels = levels.now; key = key.now }) }
 {
     Ok(Cell {
-        levels: copy_levels(alloc, levels)?,
-        key: copy_levels(alloc, key)?,
+        levels: levels.copied(alloc)?,
+        key: key.copied(alloc)?,
     })
 }
 
@@ -212,7 +212,7 @@ fn first_uncut(
     ensures { IfOk result (λ found. found ≡ uncut (shown core.now policy.now) levels.now measure) }
 {
     let objects = policy.objects.as_slice();
-    match method_of(policy, measure) {
+    match policy.method(measure) {
         Method::Plain => Ok(None),
         Method::Lattice => {
             let blocks = rows_at(alloc, core, levels)?;

@@ -12,7 +12,7 @@ ghost use Rattle.cube_source.specs.Objects.{IsPlaced, of_measure};
 
 use crate::fresh::add_fresh;
 use crate::places::{finest, key_of};
-use crate::protecting::{is_guarded, method_of};
+use crate::protecting::is_guarded;
 use cube_core::Core;
 use cube_lattice::cuboids_below;
 use cube_model::{Cell, Cells, Method, NoMemory, Object, Places, Policy};
@@ -131,7 +131,7 @@ pub fn protected(
     ensures { IfOk result (λ cells. cells ≡ take most (protection.protected (shown core.now policy.now) measure)) }
 {
     let objects = policy.objects.as_slice();
-    match method_of(policy, measure) {
+    match policy.method(measure) {
         Method::Plain => Ok(Cells::new(alloc)),
         Method::Lattice => lattice_cells(alloc, core, objects, measure, most),
         Method::Parity => parity_cells(alloc, core, objects, measure, most),

@@ -1,5 +1,5 @@
 // Whether a cell is among the protected cells of a measure.
-ghost use Rattle.std.specs.Prelude.{◌≡◌, ◌<◌, ◌==◌, ◌&&◌, true, length, slice_index_or};
+ghost use Rattle.std.specs.Prelude.{◌≡◌, ◌<◌, ◌==◌, ◌&&◌, true, length};
 ghost use Rattle.std.specs.List.{list_any, list_all};
 ghost use Rattle.cube_model.specs.Cores.{shown};
 ghost use Rattle.cube_model.specs.Cubes as cubes;
@@ -15,14 +15,6 @@ use crate::places::{covers, in_slice};
 use cube_core::Core;
 use cube_lattice::finer_or_equal;
 use cube_model::{Cell, Method, Object, Policy};
-
-/// How a measure is controlled.
-pub(crate) fn method_of(policy: &Policy, measure: u32) -> Method
-    requires { measure < length policy.now.methods }
-    ensures { result ≡ slice_index_or policy.now.methods measure Method.Plain }
-{
-    policy.methods.as_slice()[measure as usize]
-}
 
 /// Whether one of the objects is of the measure.
 fn has_measure(objects: &[Object], measure: u32) -> bool
@@ -124,7 +116,7 @@ pub fn protects(core: &Core, policy: &Policy, measure: u32, cell: &Cell) -> bool
     ensures { result ≡ list_any (same_cell cell.now) (protected (shown core.now policy.now) measure) }
 {
     let objects = policy.objects.as_slice();
-    match method_of(policy, measure) {
+    match policy.method(measure) {
         Method::Plain => false,
         Method::Lattice => stands_under(core, objects, measure, cell),
         Method::Parity => is_guarded_core(core, objects, measure, cell),

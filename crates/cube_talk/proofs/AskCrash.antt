@@ -13,7 +13,7 @@ use Rattle.cube_model.specs.declared.reply.Reply.TheVariants.{Fixed}
 use Rattle.cube_model.specs.Rooms.{Room}
 use Rattle.cube_talk.specs.AskLaws.{asks_one, rooms_one, said_one, within_one}
 use Rattle.cube_talk.specs.Asks.{ask_of, is_too_long, too_large, Answers}
-use Rattle.cube_talk.specs.Crashes.{IsSame, IsPassed, Survives, Serves}
+use Rattle.cube_talk.specs.Crashes.{IsSame, IsPassed, Survives, AnswersDurably}
 use Rattle.cube_talk.specs.Moments.{Moment}
 use Rattle.cube_talk.specs.Replies.{reply_text}
 use Rattle.cube_talk.proofs.AskTalk.{too_long_said, too_long_adds}
@@ -31,7 +31,7 @@ too_long_survives x ls = record {
   others = λ t log no. refl;
 }
 
-pub too_long_serves : (x : Moment) (line : List ℕ) → 65536 < length line → 1 ≤ x.room → Serves x x (line ∷ []) too_large
+pub too_long_serves : (x : Moment) (line : List ℕ) → 65536 < length line → 1 ≤ x.room → AnswersDurably x x (line ∷ []) too_large
 too_long_serves x line h some = (
   too_long_said x line h some,
   subst (λ (added : List Outcome). Survives x x (line ∷ []) added) (sym (too_long_adds x line h some)) (too_long_survives x (line ∷ [])),
@@ -69,7 +69,7 @@ pub one_serves : (x y : Moment) (line : List ℕ) (reply : Reply)
     → (IsTrue x.store.told → (log : ℕ) → x.within x.rooms log (x.store.logs log).state → y.within y.rooms log (y.store.logs log).state)
     → (y.outcomes ≢ x.outcomes ++ JournalFault ∷ [] → IsTrue x.store.told → (log : ℕ) → x.exact x.rooms log (x.store.logs log).state → y.exact y.rooms log (y.store.logs log).state)
     → ForeignStay x.within x.store y.store
-    → Serves x y (line ∷ []) (reply_text reply)
+    → AnswersDurably x y (line ∷ []) (reply_text reply)
 unfolding answered_one
 one_serves x y line reply short same some left a tells named exactly wholly passed ends only others =
     let answers = answered_one x y line reply short same some left a in (
@@ -111,7 +111,7 @@ missed x y line reply idle always is added stays = record {
 
 pub missed_serves : (x y : Moment) (line : List ℕ) (reply : Reply) → y.store ≡ x.store
     → length line ≤ 65536 → y.manner ≡ x.manner → 1 ≤ x.room → y.room + 1 ≡ x.room → IsConstant x.manner → reply ≡ Fixed constant.NoMemory → y.outcomes ≡ x.outcomes ++ NoMemory ∷ [] → y.rooms ≡ x.rooms → IsSame y.exact x.exact → IsSame y.within x.within
-    → Serves x y (line ∷ []) (reply_text reply)
+    → AnswersDurably x y (line ∷ []) (reply_text reply)
 missed_serves x y line reply idle short same some left always is added stays exactly wholly =
     let logs = λ (log : ℕ). ap (λ (s : StoreState). s.logs log) idle in
     one_serves x y line reply short same some left (missed x y line reply idle always is added stays)

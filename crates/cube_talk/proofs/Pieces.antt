@@ -7,7 +7,7 @@ use Rattle.std.proofs.lemmas.List.Elements.{All-append}
 use Rattle.std.proofs.lemmas.List.Splits.{slice_split_none, slice_split_at}
 use Rattle.cube_talk.specs.Lines.{is_feed, front, last_part, parts, open_line}
 use Rattle.cube_talk.specs.Talk.{up_to, IsKept, Spoke}
-use Rattle.cube_talk.specs.Piece.{Says, HeardLine, HeardAll, HeardSome}
+use Rattle.cube_talk.specs.Piece.{PieceSays, HeardLine, HeardAll, HeardSome}
 use Rattle.cube_talk.specs.declared.talk.Heard.{Heard}
 use Rattle.cube_talk.specs.declared.talk.Heard.TheVariants as heard
 use Rattle.cube_talk.proofs.Cuts.{some_parts, front_behind}
@@ -49,7 +49,7 @@ next_part now rest line behind clean is fed =
     ap parts whole ∙ slice_split_at is_feed (now ++ line) 10 behind (All-append (λ b. is_feed b ≡ false) now line clean fed) refl
 
 -- what was said, and then more
-says_then : (h : Heard) (a b p q r : List ℕ) (w x y : Option (List ℕ)) → Spoke a p q w x → Says h q r x y b → Says h p r w y (a ++ b)
+says_then : (h : Heard) (a b p q r : List ℕ) (w x y : Option (List ℕ)) → Spoke a p q w x → PieceSays h q r x y b → PieceSays h p r w y (a ++ b)
 says_then heard.All a b p q r w x y s t = spoke_then a b p q r w x y s t
 says_then heard.Spent a b p q r w x y s t = spoke_then a b p q r w x y s t
 says_then heard.NoMemory a b p q r w x y s t = spoke_then a b p q r w x y s t
@@ -61,11 +61,11 @@ pub record Answered {A B : Type 0} (says : A → B → List (List ℕ) → A →
   pub split : parts (open_part ++ piece) ≡ first ++ parts behind
   pub text : List ℕ
   pub answered : says a b (map strip_carriage_return first) a' b' text
-  pub went : Says h waiting waiting' w w' text
+  pub went : PieceSays h waiting waiting' w w' text
 
 pub one_more : {A B : Type 0} (sp : Speech A B) (h : Heard) (a a' a'' : A) (b b' b'' : B) (open_part piece rest line behind carry kept waiting waiting' waiting'' : List ℕ) (w w' w'' : Option (List ℕ))
     → Progress sp.says a a' b b' open_part piece rest carry waiting waiting' w w' → rest ≡ line ++ 10 ∷ behind → All (λ b. is_feed b ≡ false) line → kept ≡ carry ++ take (65538 - length carry) line
-    → HeardLine sp.says (Says h waiting' waiting'' w' w'') a' a'' b' b'' (strip_carriage_return kept)
+    → HeardLine sp.says (PieceSays h waiting' waiting'' w' w'') a' a'' b' b'' (strip_carriage_return kept)
     → Answered sp.says h a a'' b b'' open_part piece behind waiting waiting'' w w''
 one_more sp h a a' a'' b b' b'' open_part piece rest line behind carry kept waiting waiting' waiting'' w w' w'' p is fed more l =
     let whole : kept ≡ up_to 65538 (p.now ++ line) = more ∙ ap (λ (c : List ℕ). c ++ take (65538 - length c) line) p.kept.kept ∙ up_to_more 65538 p.now line in
@@ -92,7 +92,7 @@ go_on sp a a' b b' open_part piece behind carry waiting waiting' w w' n none = r
 }
 
 pub answered_some : {A B : Type 0} (sp : Speech A B) (h : Heard) (a a' : A) (b b' : B) (open_part piece behind waiting waiting' : List ℕ) (w w' : Option (List ℕ)) → Answered sp.says h a a' b b' open_part piece behind waiting waiting' w w'
-    → HeardSome sp.says (Says h waiting waiting' w w') a a' b b' open_part piece
+    → HeardSome sp.says (PieceSays h waiting waiting' w w') a a' b b' open_part piece
 answered_some sp h a a' b b' open_part piece behind waiting waiting' w w' n = record {
   first = n.first;
   more = front (parts behind);
@@ -103,7 +103,7 @@ answered_some sp h a a' b b' open_part piece behind waiting waiting' w w' n = re
 }
 
 pub progress_some : {A B : Type 0} (sp : Speech A B) (a a' a'' : A) (b b' b'' : B) (open_part piece rest carry waiting waiting' waiting'' : List ℕ) (w w' w'' : Option (List ℕ)) → Progress sp.says a a' b b' open_part piece rest carry waiting waiting' w w'
-    → a'' ≡ a' → b'' ≡ b' → waiting'' ≡ waiting' → w'' ≡ w' → HeardSome sp.says (Says heard.NoMemory waiting waiting'' w w'') a a'' b b'' open_part piece
+    → a'' ≡ a' → b'' ≡ b' → waiting'' ≡ waiting' → w'' ≡ w' → HeardSome sp.says (PieceSays heard.NoMemory waiting waiting'' w w'') a a'' b b'' open_part piece
 progress_some sp a a' a'' b b' b'' open_part piece rest carry waiting waiting' waiting'' w w' w'' p ea eb ew eo = rw (ea, eb, ew, eo) (record {
   first = p.first;
   more = front (parts (p.now ++ rest));
@@ -116,9 +116,9 @@ progress_some sp a a' a'' b b' b'' open_part piece rest carry waiting waiting' w
 -- the lines of the piece before one that ends the talk, and that line where it was answered
 pub line_some : {A B : Type 0} (sp : Speech A B) (h : Heard) (a a' a'' : A) (b b' b'' : B) (open_part piece rest line behind carry kept waiting waiting' waiting'' : List ℕ) (w w' w'' : Option (List ℕ))
     → Progress sp.says a a' b b' open_part piece rest carry waiting waiting' w w' → rest ≡ line ++ 10 ∷ behind → All (λ b. is_feed b ≡ false) line → kept ≡ carry ++ take (65538 - length carry) line
-    → (h ≢ heard.NoMemory → HeardLine sp.says (Says h waiting' waiting'' w' w'') a' a'' b' b'' (strip_carriage_return kept))
+    → (h ≢ heard.NoMemory → HeardLine sp.says (PieceSays h waiting' waiting'' w' w'') a' a'' b' b'' (strip_carriage_return kept))
     → (h ≡ heard.NoMemory → (a'' ≡ a') × (b'' ≡ b') × (waiting'' ≡ waiting') × (w'' ≡ w'))
-    → HeardSome sp.says (Says h waiting waiting'' w w'') a a'' b b'' open_part piece
+    → HeardSome sp.says (PieceSays h waiting waiting'' w w'') a a'' b b'' open_part piece
 line_some sp heard.NoMemory a a' a'' b b' b'' open_part piece rest line behind carry kept waiting waiting' waiting'' w w' w'' p is fed more said none =
     let (ea, eb, ew, eo) = none refl in
     progress_some sp a a' a'' b b' b'' open_part piece rest carry waiting waiting' waiting'' w w' w'' p ea eb ew eo
@@ -132,7 +132,7 @@ line_some sp heard.OutputFailed a a' a'' b b' b'' open_part piece rest line behi
 -- no line ends in the rest
 pub progress_all : {A B : Type 0} (sp : Speech A B) (a a' : A) (b b' : B) (open_part piece rest carry carry' waiting waiting' : List ℕ) (w w' : Option (List ℕ)) → Progress sp.says a a' b b' open_part piece rest carry waiting waiting' w w'
     → All (λ b. is_feed b ≡ false) rest → carry' ≡ carry ++ take (65538 - length carry) rest
-    → HeardAll sp.says (Says heard.All waiting waiting' w w') a a' b b' open_part piece carry'
+    → HeardAll sp.says (PieceSays heard.All waiting waiting' w w') a a' b b' open_part piece carry'
 progress_all sp a a' b b' open_part piece rest carry carry' waiting waiting' w w' p fed more =
     let clean = All-append (λ b. is_feed b ≡ false) p.now rest p.kept.clean fed in
     let one = slice_split_none is_feed (p.now ++ rest) clean in

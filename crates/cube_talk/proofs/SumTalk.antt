@@ -7,7 +7,7 @@ use Rattle.cube_facts.specs.Flat.{Flat}
 use Rattle.cube_io.specs.Seen.{SourceState, SinkState, Seen}
 use Rattle.cube_io.proofs.Told.{appends_same}
 use Rattle.cube_talk.specs.Lines.{ended_lines}
-use Rattle.cube_talk.specs.Sums.{Answers, answers, talk, max_lines, is_done, Says, Talked}
+use Rattle.cube_talk.specs.Sums.{Answers, answers, talk, max_lines, is_done, SumsSay, Talked}
 use Rattle.cube_talk.specs.SumLaws.{answers_append}
 use Rattle.cube_talk.specs.Talk.{up_to, Puts, Goes, Conversed}
 use Rattle.cube_talk.specs.declared.sums.Sums.{Sums}
@@ -43,7 +43,7 @@ open_yet y e = grind (arith, nat_tests)
 
 -- what was written of the first lines, by how the talk ended
 said_of : (ending : Ending) (flat : Flat) (x y : Sums) (text said : List ℕ) (first more : List (List ℕ)) (w w' : Option (List ℕ)) → x.lines ≡ 0 → x.flat ≡ flat → lines text ≡ first ++ more
-    → Answers x y first said → Puts ending w w' said → Goes ending text first more (is_done y) → Says flat ending text y.lines w w'
+    → Answers x y first said → Puts ending w w' said → Goes ending text first more (is_done y) → SumsSay flat ending text y.lines w w'
 said_of Ended flat x y text said first more w w' zero_lines is split a put (none, open_, short) =
     let all : lines text ≡ first = split ∙ rw none (append-nil first) in
     let few = open_yet y open_ in

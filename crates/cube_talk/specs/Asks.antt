@@ -1,12 +1,14 @@
 -- What is said to the lines of `ask`, each of which is an ask of a desk.
 use Rattle.std.specs.Prelude.{◌≡◌, ◌≢◌, ◌⊎◌, ⊤, ℕ, zero, suc, ◌+◌, ◌≤◌, ◌<◌, nat_lt, nat_eq, Bool, List, [], ◌∷◌, ◌++◌, length, drop, codes, if◌then◌else◌}
 use Rattle.std.specs.declared.option.Option.{Option}
+use Rattle.std.specs.declared.option.Option.TheVariants.{None}
 use Rattle.std.specs.List.{starts_with}
 use Rattle.std.specs.Str.{bytes_eq}
 use Rattle.std.specs.Str.Lines.{lines}
 use Rattle.std.specs.Io.KnownBytes.{Appends, Consumes}
 use Rattle.cube_model.specs.declared.ask.Ask.{Ask}
-use Rattle.cube_model.specs.declared.ask.Ask.TheVariants.{Query, Shape, Witness}
+use Rattle.cube_model.specs.declared.ask.Question.{Question}
+use Rattle.cube_model.specs.declared.ask.Question.TheVariants.{Query, Shape, Witness}
 use Rattle.cube_model.specs.declared.outcome.Outcome.{Outcome}
 use Rattle.cube_model.specs.declared.outcome.Outcome.TheVariants as outcome
 use Rattle.cube_model.specs.declared.reply.Fixed.TheVariants.{TooLarge}
@@ -33,12 +35,16 @@ is_too_long line = nat_lt max_line (length line)
 abbrev pub too_large : List ℕ
 too_large = reply_text (Fixed TooLarge)
 
--- the ask that a line is: the word `shape`, a cell behind the word `witness`, or else a query
-abbrev pub ask_of : List ℕ → Ask
-ask_of line =
+-- the question that a line is: the word `shape`, a cell behind the word `witness`, or else a query
+abbrev pub question_of : List ℕ → Question
+question_of line =
     if bytes_eq line (codes "shape") then Shape
     else if starts_with nat_eq line (codes "witness ") then Witness (drop 8 line)
     else Query line
+
+-- a line asks no group
+abbrev pub ask_of : List ℕ → Ask
+ask_of line = record { group = None; question = question_of line }
 
 -- how many of the lines are asks
 abbrev pub asks_in : List (List ℕ) → ℕ

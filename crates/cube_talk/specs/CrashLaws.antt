@@ -7,7 +7,7 @@ use Rattle.cube_io.specs.States.{State}
 use Rattle.cube_io.proofs.Trails.{gained_none, gained_then, gained_map}
 use Rattle.cube_talk.specs.AskLaws.{by_test, asks_long, asks_one, asks_append, rooms_long, rooms_one, rooms_append, too_long, none, none_adds, onward, onward_adds, alike, alike_adds}
 use Rattle.cube_talk.specs.Asks.{is_too_long, ask_of, asks_in, rooms_behind, NoneFailed, Answers}
-use Rattle.cube_talk.specs.Crashes.{IsOnTheWay, IsSame, IsPassed, Survives, Serves}
+use Rattle.cube_talk.specs.Crashes.{IsOnTheWay, IsSame, IsPassed, Survives, AnswersDurably}
 use Rattle.cube_talk.specs.Moments.{Moment}
 
 -- ---- relations on the states of logs
@@ -138,16 +138,16 @@ survives_alike x y line other os h k v = record {
   others = v.others;
 }
 
-pub serves_none : (x : Moment) → Serves x x [] []
+pub serves_none : (x : Moment) → AnswersDurably x x [] []
 serves_none x = (none x, subst (λ (added : List Outcome). Survives x x [] added) (sym (none_adds x)) (survives_none x))
 
-pub serves_onward : (x y z : Moment) (first more : List (List ℕ)) (text behind : List ℕ) → Serves x y first text → Serves y z more behind → Serves x z (first ++ more) (text ++ behind)
+pub serves_onward : (x y z : Moment) (first more : List (List ℕ)) (text behind : List ℕ) → AnswersDurably x y first text → AnswersDurably y z more behind → AnswersDurably x z (first ++ more) (text ++ behind)
 serves_onward x y z first more text behind h k = (
   onward x y z first more text behind h.0 k.0,
   subst (λ (added : List Outcome). Survives x z (first ++ more) added) (sym (onward_adds x y z first more text behind h.0 k.0)) (survives_onward x y z first more (k.0).added h.0 h.1 k.1),
 )
 
-pub serves_alike : (x y : Moment) (line other text : List ℕ) → 65536 < length line → 65536 < length other → Serves x y (line ∷ []) text → Serves x y (other ∷ []) text
+pub serves_alike : (x y : Moment) (line other text : List ℕ) → 65536 < length line → 65536 < length other → AnswersDurably x y (line ∷ []) text → AnswersDurably x y (other ∷ []) text
 serves_alike x y line other text h k v = (
   alike x y line other text h k v.0,
   subst (λ (added : List Outcome). Survives x y (other ∷ []) added) (sym (alike_adds x y line other text h k v.0)) (survives_alike x y line other (v.0).added h k v.1),

@@ -38,8 +38,8 @@ pub record Survives (before after : Moment) (ls : List (List ℕ)) (os : List Ou
   pub others : ForeignStay before.within before.store after.store
 
 -- some lines were answered, and a crash in between left what it may
-abbrev pub Serves : Moment → Moment → List (List ℕ) → List ℕ → Type 0
-Serves before after ls text = (a : Answers before after ls text) × Survives before after ls a.added
+abbrev pub AnswersDurably : Moment → Moment → List (List ℕ) → List ℕ → Type 0
+AnswersDurably before after ls text = (a : Answers before after ls text) × Survives before after ls a.added
 
 -- The lines of an input were answered: the talk of the desk was written, its rooms are those behind the lines that were answered, and a
 -- crash in between left what it may.

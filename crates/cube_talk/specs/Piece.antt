@@ -11,11 +11,11 @@ use Rattle.cube_talk.specs.declared.talk.Heard.{Heard}
 use Rattle.cube_talk.specs.declared.talk.Heard.TheVariants.{All, Spent, NoMemory, OutputFailed}
 
 -- a text was said, or a put of it failed
-abbrev pub Says : Heard → List ℕ → List ℕ → Option (List ℕ) → Option (List ℕ) → List ℕ → Type 0
-Says All waiting waiting' written written' text = Spoke text waiting waiting' written written'
-Says Spent waiting waiting' written written' text = Spoke text waiting waiting' written written'
-Says NoMemory waiting waiting' written written' text = Spoke text waiting waiting' written written'
-Says OutputFailed waiting waiting' written written' text = AppendsPrefix written written' (waiting ++ text)
+abbrev pub PieceSays : Heard → List ℕ → List ℕ → Option (List ℕ) → Option (List ℕ) → List ℕ → Type 0
+PieceSays All waiting waiting' written written' text = Spoke text waiting waiting' written written'
+PieceSays Spent waiting waiting' written written' text = Spoke text waiting waiting' written written'
+PieceSays NoMemory waiting waiting' written written' text = Spoke text waiting waiting' written written'
+PieceSays OutputFailed waiting waiting' written written' text = AppendsPrefix written written' (waiting ++ text)
 
 -- one line was answered
 pub record HeardLine {A B : Type 0} (says : A → B → List (List ℕ) → A → B → List ℕ → Type 0) (Went : List ℕ → Type 0) (a a' : A) (b b' : B) (line : List ℕ) : Type 0 where

@@ -62,16 +62,16 @@ IsSpent flat text count old new =
 -- What was written of the talk over the bytes of an input, by how it ended and how many lines were counted: all of it
 -- where the input came to its end; the answers to the ended lines where a read failed; a beginning of it where a put failed;
 -- the answers to the first lines where memory ran out.
-abbrev pub Says : Flat → Ending → List ℕ → ℕ → Option (List ℕ) → Option (List ℕ) → Type 0
-Says flat Ended text count old new = (count ≡ length (lines text)) × (count < max_lines) × (length text < max_input) × Appends old new (talk flat text)
-Says flat InputFailed text count old new = (length (ended_lines text) < max_lines) × (length text < max_input) × Appends old new (answers flat (ended_lines text))
-Says flat OutputFailed text count old new = AppendsPrefix old new (talk flat text)
-Says flat NoMemory text count old new = (first : List (List ℕ)) × (more : List (List ℕ)) × (up_to max_lines (lines text) ≡ first ++ more) × Appends old new (answers flat first)
-Says flat Spent text count old new = IsSpent flat text count old new
+abbrev pub SumsSay : Flat → Ending → List ℕ → ℕ → Option (List ℕ) → Option (List ℕ) → Type 0
+SumsSay flat Ended text count old new = (count ≡ length (lines text)) × (count < max_lines) × (length text < max_input) × Appends old new (talk flat text)
+SumsSay flat InputFailed text count old new = (length (ended_lines text) < max_lines) × (length text < max_input) × Appends old new (answers flat (ended_lines text))
+SumsSay flat OutputFailed text count old new = AppendsPrefix old new (talk flat text)
+SumsSay flat NoMemory text count old new = (first : List (List ℕ)) × (more : List (List ℕ)) × (up_to max_lines (lines text) ≡ first ++ more) × Appends old new (answers flat first)
+SumsSay flat Spent text count old new = IsSpent flat text count old new
 
 -- Of the bytes that were taken of an input, the talk was written, over so many lines.
 pub record Talked {I O : Type 0} (flat : Flat) (end : TalkEnd) (count : ℕ) (input : Seen SourceState I) (out : Seen SinkState O) : Type 0 where
   pub text : List ℕ
   pub taken : Consumes input.before.left input.after.left text
   pub counted : end.bytes ≡ length text
-  pub said : Says flat end.ending text count out.before.written out.after.written
+  pub said : SumsSay flat end.ending text count out.before.written out.after.written

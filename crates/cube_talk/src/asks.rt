@@ -2,8 +2,8 @@
 ghost use Rattle.std.specs.Prelude.{◌≡◌, ◌≢◌, ◌==◌, ◌≤◌, ◌∷◌, [], true, false, length, IfOk};
 ghost use Rattle.cube_io.specs.Causes.{Rose};
 ghost use Rattle.cube_io.specs.Seen.{seen};
-ghost use Rattle.cube_talk.specs.Asks.{NoneFailed, ask_of as ask_in};
-ghost use Rattle.cube_talk.specs.Crashes.{Serves, TalkedOver};
+ghost use Rattle.cube_talk.specs.Asks.{NoneFailed, ask_of as ask_in, question_of as question_in};
+ghost use Rattle.cube_talk.specs.Crashes.{AnswersDurably, TalkedOver};
 ghost use Rattle.cube_talk.specs.Moments.{moment};
 ghost use Rattle.cube_talk.specs.Replies.{reply_text};
 ghost use Rattle.cube_talk.specs.Talk.{RoseWhere};
@@ -14,7 +14,7 @@ use crate::replies::Said;
 use crate::responder::{MAX_LINE, Responder};
 use crate::talk::{Ending, TalkEnd, converse};
 use cube_io::{Desk, Sink, Source, Store};
-use cube_model::{Ask, Fixed, NoMemory, Reply, Text};
+use cube_model::{Ask, Fixed, NoMemory, Question, Reply, Text};
 use std::alloc::Global;
 
 /// Answers lines as asks of a desk. A line that is too long is no ask.
@@ -30,18 +30,28 @@ const SHAPE: &[u8] = b"shape";
 // What a line that asks for changes begins with.
 const WITNESS: &[u8] = b"witness ";
 
+// The question that a line is.
+fn question_of(alloc: Global, line: &[u8]) -> Result<Question, NoMemory>
+    ensures { IfOk result (λ question. question ≡ question_in line.now) }
+{
+    if line == SHAPE {
+        return Ok(Question::Shape);
+    }
+    if line.starts_with(WITNESS) {
+        let cell = Text::from_bytes(alloc, &line[WITNESS.len()..])?;
+        return Ok(Question::Witness(cell));
+    }
+    Ok(Question::Query(Text::from_bytes(alloc, line)?))
+}
+
 // What a line asks for.
 fn ask_of(alloc: Global, line: &[u8]) -> Result<Ask, NoMemory>
     ensures { IfOk result (λ ask. ask ≡ ask_in line.now) }
 {
-    if line == SHAPE {
-        return Ok(Ask::Shape);
-    }
-    if line.starts_with(WITNESS) {
-        let cell = Text::from_bytes(alloc, &line[WITNESS.len()..])?;
-        return Ok(Ask::Witness(cell));
-    }
-    Ok(Ask::Query(Text::from_bytes(alloc, line)?))
+    Ok(Ask {
+        group: None,
+        question: question_of(alloc, line)?,
+    })
 }
 
 // Asks the desk.
@@ -50,7 +60,7 @@ fn ask<S: Store, D: Desk<S>>(alloc: Global, desk: &mut D, store: &mut S, line: &
     requires room { 1 ≤ D.room desk.old }
     requires fits { D.fits desk.old store.old }
     ensures serves { let at = moment D.manner D.rooms D.outcomes D.room D.exact D.within in
-        Serves (at desk.old (S.state store.old)) (at desk.new (S.state store.new)) (line.now ∷ []) (reply_text result) }
+        AnswersDurably (at desk.old (S.state store.old)) (at desk.new (S.state store.new)) (line.now ∷ []) (reply_text result) }
     ensures fits { D.fits desk.new store.new }
 {
     match ask_of(alloc, line) {
@@ -62,7 +72,7 @@ fn ask<S: Store, D: Desk<S>>(alloc: Global, desk: &mut D, store: &mut S, line: &
 impl<S: Store, D: Desk<S> + Drop> Responder<S> for Asks<D> {
     ghost says = { λ x s ls y t text.
         let at = moment D.manner D.rooms D.outcomes D.room D.exact D.within in
-        Serves (at x.desk (S.state s)) (at y.desk (S.state t)) ls text };
+        AnswersDurably (at x.desk (S.state s)) (at y.desk (S.state t)) ls text };
 
     ghost stands = { λ x s. D.fits x.desk s };
 

@@ -9,6 +9,7 @@ ghost use Rattle.cube_talk.specs.Talk.{Spoke};
 use cube_http::{body_of, status_of};
 use cube_io::{Failed, Sink};
 use cube_model::{Reply, Text};
+use cube_text::{LINE, write_at};
 use itoa::Buffer;
 use std::alloc::Global;
 use std::marker::Model;
@@ -22,24 +23,10 @@ pub enum Said {
     Reply(Reply),
 }
 
-// No head has more bytes.
-const HEAD: usize = 32;
-
-// Writes a text behind what was written. Tells how much is written then.
-fn write_at(buf: &mut [u8; HEAD], at: usize, text: &[u8]) -> usize
-    requires { at + length text.now ≤ 32 }
-    ensures end { result ≡ at + length text.now }
-    ensures written { take result buf.new ≡ take at buf.old ++ text.now }
-{
-    let end = at + text.len();
-    buf[at..end].copy_from_slice(text);
-    end
-}
-
 // Writes the status and the length of a reply.
-fn write_head(buf: &mut [u8; HEAD], status: u16, len: usize) -> usize
+fn write_head(buf: &mut [u8; LINE], status: u16, len: usize) -> usize
     ensures written { take result buf.new ≡ head_text status len }
-    ensures short { result ≤ 32 }
+    ensures short { result ≤ 64 }
 {
     let mut number = Buffer::new();
     let at = write_at(buf, 0, number.format(status).as_bytes());
@@ -105,7 +92,7 @@ impl Replies {
         ensures cause { HasCause (O.state out.old).faults (O.state out.new).faults result }
     {
         let body = body_of(reply);
-        let mut head = [0u8; HEAD];
+        let mut head = [0u8; LINE];
         let end = write_head(&mut head, status_of(reply), body.len());
         self.put(out, &head[..end])?;
         self.put(out, body)?;

@@ -7,7 +7,7 @@ ghost use Rattle.cube_io.specs.Content.{AppendsPrefix};
 ghost use Rattle.cube_io.specs.Seen.{seen};
 ghost use Rattle.cube_talk.specs.Lines.{is_feed};
 ghost use Rattle.cube_talk.specs.Talk.{IsKept, Spoke, Puts, RoseWhere, Conversed};
-ghost use Rattle.cube_talk.specs.Piece.{Says, HeardLine, HeardAll, HeardSome, PutsBy, Follows, Stops};
+ghost use Rattle.cube_talk.specs.Piece.{PieceSays, HeardLine, HeardAll, HeardSome, PutsBy, Follows, Stops};
 
 use crate::carry::Carry;
 use crate::replies::Replies;
@@ -80,7 +80,7 @@ fn answer_line<S: Store, R: Responder<S>, O: Sink>(
 ) -> Heard
     requires stands { R.stands responder.old store.old }
     requires going { R.done responder.old ≡ false }
-    ensures said { result ≢ Heard.NoMemory → HeardLine R.says (Says result replies.old replies.new (O.state out.old).written (O.state out.new).written) responder.old responder.new store.old store.new line.now }
+    ensures said { result ≢ Heard.NoMemory → HeardLine R.says (PieceSays result replies.old replies.new (O.state out.old).written (O.state out.new).written) responder.old responder.new store.old store.new line.now }
     ensures memory { result ≡ Heard.NoMemory → (responder.new ≡ responder.old) × (store.new ≡ store.old) × (replies.new ≡ replies.old) × (out.new ≡ out.old) × (R.lacks ≡ true) }
     ensures going { result ≡ Heard.All → R.done responder.new ≡ false }
     ensures spent { result ≡ Heard.Spent → R.done responder.new ≡ true }
@@ -114,9 +114,9 @@ fn answer_piece<S: Store, R: Responder<S>, O: Sink>(
     requires stands { R.stands responder.old store.old }
     requires going { R.done responder.old ≡ false }
     ensures all { result ≡ Heard.All → (open_part : List ℕ) → IsKept carry.old open_part
-        → HeardAll R.says (Says result replies.old replies.new (O.state out.old).written (O.state out.new).written) responder.old responder.new store.old store.new open_part piece.now carry.new }
+        → HeardAll R.says (PieceSays result replies.old replies.new (O.state out.old).written (O.state out.new).written) responder.old responder.new store.old store.new open_part piece.now carry.new }
     ensures some { result ≢ Heard.All → (open_part : List ℕ) → IsKept carry.old open_part
-        → HeardSome R.says (Says result replies.old replies.new (O.state out.old).written (O.state out.new).written) responder.old responder.new store.old store.new open_part piece.now }
+        → HeardSome R.says (PieceSays result replies.old replies.new (O.state out.old).written (O.state out.new).written) responder.old responder.new store.old store.new open_part piece.now }
     ensures going { result ≡ Heard.All → R.done responder.new ≡ false }
     ensures spent { result ≡ Heard.Spent → R.done responder.new ≡ true }
     ensures memory { result ≡ Heard.NoMemory → R.lacks ≡ true }
@@ -143,7 +143,7 @@ fn answer_piece<S: Store, R: Responder<S>, O: Sink>(
 // Writes what waits behind lines that were answered so far. Says how the talk ends, if it does.
 #[tactic(auto, using(crate::proofs::Spoken::spoke_flushed, crate::proofs::Spoken::spoke_half))]
 fn settle<O: Sink>(heard: Heard, replies: &mut Replies, out: &mut O) -> Option<Ending>
-    ensures puts { (start : Option (List ℕ)) (text : List ℕ) → Says heard [] replies.old start (O.state out.old).written text → PutsBy result start (O.state out.new).written text }
+    ensures puts { (start : Option (List ℕ)) (text : List ℕ) → PieceSays heard [] replies.old start (O.state out.old).written text → PutsBy result start (O.state out.new).written text }
     ensures follows { Follows heard result }
     ensures empty { result ≡ None → replies.new ≡ [] }
     ensures quiet { replies.old ≡ [] → heard ≢ Heard.OutputFailed → result ≢ Some Ending.OutputFailed }

@@ -1,8 +1,8 @@
 // Talks of a desk that says its ask again, by the definitions alone.
 ghost use Rattle.std.specs.Prelude.{◌≡◌, ◌∷◌, [], codes};
-ghost use Rattle.cube_model.specs.declared.ask.Ask.TheVariants.{Query, Shape, Witness};
+ghost use Rattle.cube_model.specs.declared.ask.Question.TheVariants.{Query, Shape, Witness};
 ghost use Rattle.cube_model.specs.declared.outcome.Outcome.TheVariants.{Given as given, NoMemory};
-ghost use Rattle.cube_talk.specs.Asks.{ask_of, talk};
+ghost use Rattle.cube_talk.specs.Asks.{question_of, talk};
 ghost use Rattle.cube_talk.specs.Examples.{echo};
 
 /// What the definition writes to some lines: an ask that finds no memory takes its outcome, behind the stated asks nothing is said,
@@ -15,10 +15,10 @@ pub fn worked_talk()
 
 /// What the definition takes some lines for.
 pub fn worked_lines()
-    ensures shape { ask_of (codes "shape") ≡ Shape }
-    ensures longer { ask_of (codes "shapes") ≡ Query (codes "shapes") }
-    ensures witness { ask_of (codes "witness cell pay") ≡ Witness (codes "cell pay") }
-    ensures nothing { ask_of (codes "witness ") ≡ Witness [] }
-    ensures no_blank { ask_of (codes "witness") ≡ Query (codes "witness") }
-    ensures query { ask_of (codes "cell pay") ≡ Query (codes "cell pay") }
+    ensures shape { question_of (codes "shape") ≡ Shape }
+    ensures longer { question_of (codes "shapes") ≡ Query (codes "shapes") }
+    ensures witness { question_of (codes "witness cell pay") ≡ Witness (codes "cell pay") }
+    ensures nothing { question_of (codes "witness ") ≡ Witness [] }
+    ensures no_blank { question_of (codes "witness") ≡ Query (codes "witness") }
+    ensures query { question_of (codes "cell pay") ≡ Query (codes "cell pay") }
 {}

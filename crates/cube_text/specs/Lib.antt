@@ -2,3 +2,4 @@ pub mod Units
 pub mod UnitLaws
 pub mod Quoting
 pub mod Keys
+pub mod Counts

@@ -135,13 +135,13 @@ value_of s words = unwrap_or (value_behind (option_word s) words) []
 abbrev pub files_of : List (List ℕ) → CubeFiles
 files_of words = record { dims = value_of Dims words; facts = value_of Facts words; policy = value_of Policy words }
 
--- the stated number of asks
-abbrev pub stated_by : Option (List ℕ) → ℕ
-stated_by None = USUAL_REQUESTS
-stated_by (Some text) = digits_value 10 text
+-- the stated number of asks, or the usual one
+abbrev pub stated_by : ℕ → Option (List ℕ) → ℕ
+stated_by usual None = usual
+stated_by usual (Some text) = digits_value 10 text
 
-abbrev pub stated : List (List ℕ) → ℕ
-stated words = stated_by (value_behind (option_word Requests) words)
+abbrev pub stated : ℕ → List (List ℕ) → ℕ
+stated usual words = stated_by usual (value_behind (option_word Requests) words)
 
 -- the number and the size that a cube is made of
 abbrev pub making_of : List (List ℕ) → Making
@@ -155,11 +155,11 @@ orders_with command.Help words = orders.Help
 orders_with command.Version words = orders.Version
 orders_with command.Sum words = orders.Sum (value_of Facts words)
 orders_with command.Check words = orders.Check (files_of words)
-orders_with command.Ask words = orders.Ask (files_of words) (value_of Journal words) (stated words)
+orders_with command.Ask words = orders.Ask (files_of words) (value_of Journal words) (stated USUAL_REQUESTS words)
 orders_with command.Witness words = orders.Witness (files_of words) (value_of Journal words) (value_of Cell words)
 orders_with command.Twin words = orders.Twin (files_of words) (value_of Journal words) (value_of Cell words)
-orders_with command.Serve words = orders.Serve (files_of words) (value_of Journal words) (value_of Address words) (stated words)
-orders_with command.Replay words = orders.Replay (files_of words) (value_of Journal words) (value_of Script words) (stated words)
+orders_with command.Serve words = orders.Serve (files_of words) (value_of Journal words) (value_of Address words) (stated MAX_REQUESTS words)
+orders_with command.Replay words = orders.Replay (files_of words) (value_of Journal words) (value_of Script words) (stated USUAL_REQUESTS words)
 orders_with command.Demo words = orders.Demo (making_of words)
 
 abbrev pub unless_missing : Command → List (List ℕ) → Option Setting → Result Orders Usage

@@ -8,7 +8,7 @@ ghost use Rattle.cube_words.specs.declared.words.TheConstants.{MAX_SIZE};
 ghost use Rattle.cube_words.specs.Words.{option_word, needed as needed_by, value_behind as value_in, value_of, files_of as files_in, stated as stated_in, making_of as making_in, orders_with as orders_behind, IsRight, IsMade, Fits};
 
 use crate::words::{
-    Command, Setting, USUAL_REQUESTS, number_in, requests_in, size_in, value_behind,
+    Command, MAX_REQUESTS, Setting, USUAL_REQUESTS, number_in, requests_in, size_in, value_behind,
 };
 use cube_model::{NoMemory, Text};
 use cube_opening::CubeFiles;
@@ -122,15 +122,16 @@ fn files_of(alloc: Global, words: &[Text], command: Command) -> Result<CubeFiles
     })
 }
 
-// The stated number of asks.
-fn stated(words: &[Text], command: Command) -> u64
-    requires { IsRight command words.now }
-    ensures number { result ≡ stated_in words.now }
+// The stated number of asks, or the usual one.
+fn stated(words: &[Text], command: Command, usual: u64) -> u64
+    requires right { IsRight command words.now }
+    requires some { 1 ≤ usual }
+    ensures number { result ≡ stated_in usual words.now }
     ensures some { 1 ≤ result }
 {
     let _command = command;
     match value_given(words, Setting::Requests) {
-        None => USUAL_REQUESTS,
+        None => usual,
         Some(text) => match requests_in(text.as_slice()) {
             Some(number) => number,
             None => unreachable!(),
@@ -183,7 +184,7 @@ fn ask_with(alloc: Global, words: &[Text]) -> Result<Orders, NoMemory>
     Ok(Orders::Ask {
         files: files_of(alloc, words, command)?,
         journal: needed_text(alloc, words, command, Setting::Journal)?,
-        stated: stated(words, command),
+        stated: stated(words, command, USUAL_REQUESTS),
     })
 }
 
@@ -223,7 +224,7 @@ fn serve_with(alloc: Global, words: &[Text]) -> Result<Orders, NoMemory>
         files: files_of(alloc, words, command)?,
         journal: needed_text(alloc, words, command, Setting::Journal)?,
         address: needed_text(alloc, words, command, Setting::Address)?,
-        stated: stated(words, command),
+        stated: stated(words, command, MAX_REQUESTS),
     })
 }
 
@@ -237,7 +238,7 @@ fn replay_with(alloc: Global, words: &[Text]) -> Result<Orders, NoMemory>
         files: files_of(alloc, words, command)?,
         journal: needed_text(alloc, words, command, Setting::Journal)?,
         script: needed_text(alloc, words, command, Setting::Script)?,
-        stated: stated(words, command),
+        stated: stated(words, command, USUAL_REQUESTS),
     })
 }
 

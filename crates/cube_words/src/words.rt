@@ -85,10 +85,10 @@ const COMMANDS: [Command; 10] = [
     Command::Demo,
 ];
 
-// The most asks that may be stated.
-const MAX_REQUESTS: u64 = 16_777_216;
+/// The most asks that may be stated, and so many as a server takes where none are.
+pub const MAX_REQUESTS: u64 = 16_777_216;
 
-/// How many asks there are where none are stated.
+/// How many asks `ask` and `replay` take where none are stated.
 pub const USUAL_REQUESTS: u64 = 1_000_000;
 
 // The most digits of a number that a cube is made of.

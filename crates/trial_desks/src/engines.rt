@@ -2,7 +2,7 @@
 use crate::makers::{Cube, make_engine, null_store};
 use cube_engine::Engine;
 use cube_io::{Desk, NullStore, Store};
-use cube_model::{Ask, Inner, NoMemory, Reply, Text};
+use cube_model::{Ask, NoMemory, Question, Reply, Text};
 use std::alloc::Global;
 use std::process::Abort;
 use std::test::Fail;
@@ -35,15 +35,13 @@ pub(crate) enum Asking {
 
 pub(crate) fn ask_of(alloc: Global, kind: Asking, text: &[u8]) -> Result<Ask, NoMemory> {
     let text = Text::from_bytes(alloc, text)?;
-    match kind {
-        Asking::Query => Ok(Ask::Query(text)),
-        Asking::Group(name) => Ok(Ask::Group {
-            name: Text::from_bytes(alloc, name)?,
-            ask: Inner::Query(text),
-        }),
-        Asking::Witness => Ok(Ask::Witness(text)),
-        Asking::Shape => Ok(Ask::Shape),
-    }
+    let (group, question) = match kind {
+        Asking::Query => (None, Question::Query(text)),
+        Asking::Group(name) => (Some(Text::from_bytes(alloc, name)?), Question::Query(text)),
+        Asking::Witness => (None, Question::Witness(text)),
+        Asking::Shape => (None, Question::Shape),
+    };
+    Ok(Ask { group, question })
 }
 
 /// The status and the body that the reply to an ask has to have.

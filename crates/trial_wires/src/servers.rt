@@ -6,7 +6,7 @@ ghost use Rattle.cube_io.specs.Wires.{FitsBuffer};
 ghost use Rattle.cube_server.specs.Rows.{echo, echo_is_constant, echoed as spec_echoed};
 
 use cube_io::{Desk, Event, Failed, FailingSend, MemWire, NullStore, Play, Store, Wire};
-use cube_model::{Ask, Fixed, Kind, NoMemory, Outcome, Reply, Text};
+use cube_model::{Ask, Fixed, Kind, NoMemory, Outcome, Question, Reply, Text};
 use cube_server::{Pool, ServeFault, serve};
 use std::alloc::Global;
 use std::test::Fail;
@@ -31,8 +31,8 @@ fn make_echo(alloc: Global, left: u64) -> Result<Echo, NoMemory>
 fn echoed(alloc: Global, ask: &Ask) -> Result<Reply, NoMemory>
     ensures { IfOk result (λ reply. reply ≡ spec_echoed ask.now outcome.Given) }
 {
-    match ask {
-        Ask::Query(text) => Ok(Reply::Made {
+    match &ask.question {
+        Question::Query(text) => Ok(Reply::Made {
             status: 200,
             kind: Kind::Csv,
             body: Text::from_bytes(alloc, text.as_slice())?,

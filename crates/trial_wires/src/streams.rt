@@ -3,7 +3,7 @@ ghost use Rattle.std.specs.Prelude.{◌<◌, ◌≤◌, IsTrue};
 ghost use Rattle.cube_http.specs.Responses.{has_phrase, status_of};
 
 use cube_http::{Conn, DoneConn, Fed, HeadConn, Heard, Wanted, body_of, write_head};
-use cube_model::{Ask, Fixed, Inner, Kind, NoMemory, Reply, Text};
+use cube_model::{Ask, Fixed, Kind, NoMemory, Question, Reply, Text};
 use itoa::Buffer;
 use std::alloc::Global;
 use std::process::Abort;
@@ -196,37 +196,22 @@ fn fixed_words(fixed: Fixed) -> &'static [u8] {
     }
 }
 
-fn note_inner(log: &mut Text, ask: &Inner) -> Result<(), NoMemory> {
-    match ask {
-        Inner::Query(text) => {
-            log.extend(b"query ")?;
-            log.extend(text.as_slice())
-        }
-        Inner::Witness(text) => {
-            log.extend(b"witness ")?;
-            log.extend(text.as_slice())
-        }
-        Inner::Shape => log.extend(b"shape"),
-    }
-}
-
 fn note_ask(log: &mut Text, ask: &Ask) -> Result<(), NoMemory> {
-    match ask {
-        Ask::Query(text) => {
+    if let Some(name) = &ask.group {
+        log.extend(b"group ")?;
+        log.extend(name.as_slice())?;
+        log.extend(b" ")?;
+    }
+    match &ask.question {
+        Question::Query(text) => {
             log.extend(b"query ")?;
             log.extend(text.as_slice())
         }
-        Ask::Witness(text) => {
+        Question::Witness(text) => {
             log.extend(b"witness ")?;
             log.extend(text.as_slice())
         }
-        Ask::Shape => log.extend(b"shape"),
-        Ask::Group { name, ask } => {
-            log.extend(b"group ")?;
-            log.extend(name.as_slice())?;
-            log.extend(b" ")?;
-            note_inner(log, ask)
-        }
+        Question::Shape => log.extend(b"shape"),
     }
 }
 

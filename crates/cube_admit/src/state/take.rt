@@ -19,7 +19,6 @@ ghost use Rattle.cube_admit.specs.declared.held.Held.TheVariants as kinds;
 
 use super::{State, enter, judge_at, keep_at};
 use crate::Next;
-use crate::copies::copy_items;
 use crate::source::Step;
 use cube_core::Core;
 use cube_model::{Entry, Levels, Link, LinkList, NoMemory, Policy, Request, Taken, Verdict};
@@ -124,7 +123,7 @@ impl State {
         ensures err { OnErr result (self.new ≡ self.old) }
     {
         self.history.reserve(1)?;
-        let levels = copy_items(alloc, levels)?;
+        let levels = levels.copied(alloc)?;
         enter(&mut self.history, Entry::Source { measure, levels });
         keep_at(&mut self.held, measure, Next::Source(narrower));
         Ok(())
@@ -150,7 +149,7 @@ impl State {
         ensures stands { StandsFor (shown core.now policy.now) self.new }
     {
         let _rules = core.dims();
-        let asked = copy_items(alloc, levels)?;
+        let asked = levels.copied(alloc)?;
         let narrower = match self.step_with(measure, asked) {
             Step::Stays => return Ok(Taken::Passed),
             Step::Would(narrower) => narrower,

@@ -14,8 +14,9 @@ ghost use Rattle.cube_model.specs.Links.{links, basis, follows, is_free, pairs_a
 ghost use Rattle.cube_model.specs.Entries.{asked, is_allowed};
 ghost use Rattle.cube_model.specs.Verdicts.{source, links_of, IsAdmissible};
 ghost use Rattle.cube_model.specs.Twins.{changes, moves, twin};
-ghost use Rattle.cube_model.specs.Runs.{replies, end};
-ghost use Rattle.cube_model.specs.Runs.Reply.{Malformed, Answered, Refused, Changed, EmptyCell, NotProtected, NotOfMeasure, Known, Failed, NoPath, UnknownGroup};
+ghost use Rattle.cube_model.specs.Runs.{replies, end, by_rules};
+ghost use Rattle.cube_model.specs.Runs.Reply.{Malformed, ToWitness, Known, Failed, NoPath, UnknownGroup};
+ghost use Rattle.cube_model.specs.Runs.WitnessReply.{EmptyCell, NotProtected, NotOfMeasure};
 ghost use Rattle.cube_model.specs.EvenBoxes.{IsFull, IsEvenBox};
 ghost use Rattle.cube_model.specs.Kept.{unkept};
 ghost use Rattle.cube_model.specs.Compaction.{compacted};
@@ -26,20 +27,20 @@ ghost use Rattle.cube_model.specs.Reasons.Origin.{By, Own};
 ghost use Rattle.cube_model.specs.Reasons.Reason.{Blocks, Walk};
 ghost use Rattle.cube_model.specs.Safe.{finest};
 ghost use Rattle.cube_model.specs.Rooms.{replies_in, plain, AreApart};
-ghost use Rattle.cube_model.specs.Examples.{region, pay_cube, pay_open, pay_twice, pay_in_both, pay_and_third, hours_in_south, hours_in_either, hours_in_both, one_place_cube, empty_cube, two_row_cube, full_cube, day_cube, two, slice, range, picks, pick, leaves, count_by, by_level, ask, ask_fault, ask_no_memory, ask_witness, ask_shape, cell, cell_at, line, line1, sums, months, many, two_ranges, two_links, even_boxes, staff, board, two_rooms, of_group, step};
+ghost use Rattle.cube_model.specs.Examples.{region, pay_cube, pay_open, pay_twice, pay_in_both, pay_and_third, hours_in_south, hours_in_either, hours_in_both, one_place_cube, empty_cube, two_row_cube, full_cube, day_cube, two, slice, range, picks, pick, leaves, count_by, by_level, ask, ask_fault, ask_no_memory, ask_witness, ask_shape, cell, cell_at, line, line1, answered, refused, changed, sums, months, many, two_ranges, two_links, even_boxes, staff, board, two_rooms, of_group, step};
 
 /// Sums by month, by area and in one sum; numbers of facts; members of three levels; rows where
 /// nothing is picked and where there is nothing.
 pub fn answers_are_plain_sums()
-    ensures months { replies pay_cube [] (ask (slice 0 2 0) ∷ []) ≡ Answered (line 0 0 80 ∷ line 0 1 70 ∷ []) ∷ [] }
-    ensures areas { replies pay_cube [] (ask (slice 0 1 2) ∷ []) ≡ Answered (line 0 0 60 ∷ line 1 0 90 ∷ []) ∷ [] }
-    ensures quarter { replies pay_cube (months ∷ []) (ask (slice 0 2 1) ∷ []) ≡ Answered (line 0 0 150 ∷ []) ∷ [] }
-    ensures counts { replies pay_open [] (ask (count_by 1 2) ∷ ask (slice 0 2 0) ∷ []) ≡ Answered (line 0 0 6 ∷ line 1 0 2 ∷ []) ∷ Answered (line 0 0 80 ∷ line 0 1 70 ∷ []) ∷ [] }
-    ensures open_cells { replies pay_open [] (ask (slice 0 0 0) ∷ []) ≡ Answered (line 0 0 10 ∷ line 0 1 20 ∷ line 1 0 30 ∷ line 2 0 40 ∷ line 2 1 50 ∷ []) ∷ [] }
-    ensures upper_levels { replies day_cube [] (ask (by_level 1) ∷ ask (by_level 2) ∷ []) ≡ Answered (line1 0 3 ∷ line1 1 4 ∷ line1 2 8 ∷ []) ∷ Answered (line1 0 11 ∷ line1 1 4 ∷ []) ∷ [] }
-    ensures picked_above { replies day_cube [] (ask (record { what = Measure 0; group = 3 ∷ []; picks = pick 1 1 2 ∷ [] }) ∷ []) ≡ Answered (line1 0 12 ∷ []) ∷ [] }
-    ensures none_picked { replies pay_cube [] (ask (range 1 2 (leaves 1 1) (leaves 1 1)) ∷ []) ≡ Answered [] ∷ [] }
-    ensures no_facts { replies empty_cube [] (ask (slice 0 2 0) ∷ ask (slice 1 0 0) ∷ ask (count_by 2 2) ∷ []) ≡ Answered [] ∷ Answered [] ∷ Answered [] ∷ [] }
+    ensures months { replies by_rules pay_cube [] (ask (slice 0 2 0) ∷ []) ≡ answered (line 0 0 80 ∷ line 0 1 70 ∷ []) ∷ [] }
+    ensures areas { replies by_rules pay_cube [] (ask (slice 0 1 2) ∷ []) ≡ answered (line 0 0 60 ∷ line 1 0 90 ∷ []) ∷ [] }
+    ensures quarter { replies by_rules pay_cube (months ∷ []) (ask (slice 0 2 1) ∷ []) ≡ answered (line 0 0 150 ∷ []) ∷ [] }
+    ensures counts { replies by_rules pay_open [] (ask (count_by 1 2) ∷ ask (slice 0 2 0) ∷ []) ≡ answered (line 0 0 6 ∷ line 1 0 2 ∷ []) ∷ answered (line 0 0 80 ∷ line 0 1 70 ∷ []) ∷ [] }
+    ensures open_cells { replies by_rules pay_open [] (ask (slice 0 0 0) ∷ []) ≡ answered (line 0 0 10 ∷ line 0 1 20 ∷ line 1 0 30 ∷ line 2 0 40 ∷ line 2 1 50 ∷ []) ∷ [] }
+    ensures upper_levels { replies by_rules day_cube [] (ask (by_level 1) ∷ ask (by_level 2) ∷ []) ≡ answered (line1 0 3 ∷ line1 1 4 ∷ line1 2 8 ∷ []) ∷ answered (line1 0 11 ∷ line1 1 4 ∷ []) ∷ [] }
+    ensures picked_above { replies by_rules day_cube [] (ask (record { what = Measure 0; group = 3 ∷ []; picks = pick 1 1 2 ∷ [] }) ∷ []) ≡ answered (line1 0 12 ∷ []) ∷ [] }
+    ensures none_picked { replies by_rules pay_cube [] (ask (range 1 2 (leaves 1 1) (leaves 1 1)) ∷ []) ≡ answered [] ∷ [] }
+    ensures no_facts { replies by_rules empty_cube [] (ask (slice 0 2 0) ∷ ask (slice 1 0 0) ∷ ask (count_by 2 2) ∷ []) ≡ answered [] ∷ answered [] ∷ answered [] ∷ [] }
 {}
 
 /// Members by number, and the places that cells cover and cuboids have together.
@@ -72,18 +73,18 @@ pub fn cuboids_in_order()
 /// The source of pay: what is cut by it is answered, and the first protected cell that is not is
 /// named.
 pub fn sources_cut_protected_cells()
-    ensures cities { replies pay_cube [] (ask (slice 0 0 2) ∷ []) ≡ Refused (SourceWould (two 0 2) (cell 1 0)) ∷ [] }
-    ensures areas_after_months { replies pay_cube (months ∷ []) (ask (slice 0 1 2) ∷ []) ≡ Refused (SourceWould (two 1 0) (cell 0 1)) ∷ [] }
-    ensures first_of_three { replies pay_cube [] (ask (slice 0 1 0) ∷ []) ≡ Refused (SourceWould (two 1 0) (cell 0 1)) ∷ [] }
-    ensures one_cell { replies pay_cube [] (ask (picks 0 2 0 (pick 1 0 0) None) ∷ []) ≡ Refused (SourceWould (two 1 0) (cell 0 1)) ∷ [] }
+    ensures cities { replies by_rules pay_cube [] (ask (slice 0 0 2) ∷ []) ≡ refused (SourceWould (two 0 2) (cell 1 0)) ∷ [] }
+    ensures areas_after_months { replies by_rules pay_cube (months ∷ []) (ask (slice 0 1 2) ∷ []) ≡ refused (SourceWould (two 1 0) (cell 0 1)) ∷ [] }
+    ensures first_of_three { replies by_rules pay_cube [] (ask (slice 0 1 0) ∷ []) ≡ refused (SourceWould (two 1 0) (cell 0 1)) ∷ [] }
+    ensures one_cell { replies by_rules pay_cube [] (ask (picks 0 2 0 (pick 1 0 0) None) ∷ []) ≡ refused (SourceWould (two 1 0) (cell 0 1)) ∷ [] }
     ensures months_source { source (months ∷ []) 0 ≡ Some (two 2 0) }
     ensures no_source { source (months ∷ []) 1 ≡ None }
     ensures other_measure { source (Source 1 (two 0 0) ∷ months ∷ []) 0 ≡ Some (two 2 0) }
     ensures not_narrowed { source (months ∷ Asked (slice 0 2 1) ∷ []) 0 ≡ Some (two 2 0) }
     ensures narrowed { source (Asked (slice 0 1 2) ∷ Source 0 (two 2 1) ∷ []) 0 ≡ Some (two 1 1) }
-    ensures months_kept { end pay_cube.shown [] (ask (slice 0 2 0) ∷ ask (slice 0 2 1) ∷ []) ≡ months ∷ [] }
-    ensures areas_not_kept { end pay_cube.shown (months ∷ []) (ask (slice 0 1 2) ∷ []) ≡ months ∷ [] }
-    ensures none_picked_narrows { end pay_and_third.shown [] (ask (range 2 2 (leaves 1 1) (leaves 1 1)) ∷ []) ≡ Asked (range 2 2 (leaves 1 1) (leaves 1 1)) ∷ [] }
+    ensures months_kept { end by_rules pay_cube.shown [] (ask (slice 0 2 0) ∷ ask (slice 0 2 1) ∷ []) ≡ months ∷ [] }
+    ensures areas_not_kept { end by_rules pay_cube.shown (months ∷ []) (ask (slice 0 1 2) ∷ []) ≡ months ∷ [] }
+    ensures none_picked_narrows { end by_rules pay_and_third.shown [] (ask (range 2 2 (leaves 1 1) (leaves 1 1)) ∷ []) ≡ Asked (range 2 2 (leaves 1 1) (leaves 1 1)) ∷ [] }
 {}
 
 /// The links of hours: what leaves each protected place free is answered, and the first link and
@@ -92,13 +93,13 @@ pub fn links_leave_places_free()
     ensures row_by_row { links pay_cube.shown (slice 1 2 0) ≡ Pair 0 2 ∷ Single 3 ∷ Pair 1 4 ∷ [] }
     ensures other_measure { links_of two_row_cube.shown (Linked 1 (Single 0) ∷ two_links) 0 ≡ Pair 0 1 ∷ Pair 1 2 ∷ [] }
     ensures one_row { links pay_cube.shown (slice 1 2 2) ≡ Pair 0 1 ∷ Pair 2 3 ∷ Single 4 ∷ [] }
-    ensures hours { replies pay_cube [] (ask (range 1 2 (leaves 0 1) (leaves 0 0)) ∷ ask (range 1 2 (leaves 0 1) (leaves 0 1)) ∷ []) ≡ Answered (line 0 0 4 ∷ []) ∷ Refused (SingleFixes 2 2 0) ∷ [] }
-    ensures hours_at_first { replies pay_cube [] (ask (range 1 2 (leaves 0 1) (leaves 0 1)) ∷ []) ≡ Refused (SingleFixes 2 2 2) ∷ [] }
-    ensures odd_above { replies pay_cube [] (ask (range 1 2 (pick 1 0 0) None) ∷ []) ≡ Refused (SingleFixes 2 2 2) ∷ [] }
-    ensures triangle { replies two_row_cube [] (ask (range 0 1 None (leaves 0 1)) ∷ ask (range 0 1 (leaves 1 1) None) ∷ ask (range 0 1 None (leaves 1 2)) ∷ []) ≡ Answered (line 0 0 15 ∷ []) ∷ Answered (line 0 0 17 ∷ []) ∷ Refused (PairFixes 1 0 2 0) ∷ [] }
-    ensures single_first { replies two_row_cube [] (ask (slice 0 0 1) ∷ []) ≡ Refused (SingleFixes 1 0 0) ∷ [] }
-    ensures single_alone { replies two_row_cube [] (ask (slice 0 1 0) ∷ []) ≡ Refused (SingleFixes 1 1 1) ∷ [] }
-    ensures none_picked_not_kept { end pay_cube.shown [] (ask (range 1 2 (leaves 1 1) (leaves 1 1)) ∷ []) ≡ [] }
+    ensures hours { replies by_rules pay_cube [] (ask (range 1 2 (leaves 0 1) (leaves 0 0)) ∷ ask (range 1 2 (leaves 0 1) (leaves 0 1)) ∷ []) ≡ answered (line 0 0 4 ∷ []) ∷ refused (SingleFixes 2 2 0) ∷ [] }
+    ensures hours_at_first { replies by_rules pay_cube [] (ask (range 1 2 (leaves 0 1) (leaves 0 1)) ∷ []) ≡ refused (SingleFixes 2 2 2) ∷ [] }
+    ensures odd_above { replies by_rules pay_cube [] (ask (range 1 2 (pick 1 0 0) None) ∷ []) ≡ refused (SingleFixes 2 2 2) ∷ [] }
+    ensures triangle { replies by_rules two_row_cube [] (ask (range 0 1 None (leaves 0 1)) ∷ ask (range 0 1 (leaves 1 1) None) ∷ ask (range 0 1 None (leaves 1 2)) ∷ []) ≡ answered (line 0 0 15 ∷ []) ∷ answered (line 0 0 17 ∷ []) ∷ refused (PairFixes 1 0 2 0) ∷ [] }
+    ensures single_first { replies by_rules two_row_cube [] (ask (slice 0 0 1) ∷ []) ≡ refused (SingleFixes 1 0 0) ∷ [] }
+    ensures single_alone { replies by_rules two_row_cube [] (ask (slice 0 1 0) ∷ []) ≡ refused (SingleFixes 1 1 1) ∷ [] }
+    ensures none_picked_not_kept { end by_rules pay_cube.shown [] (ask (range 1 2 (leaves 1 1) (leaves 1 1)) ∷ []) ≡ [] }
     ensures basis { basis 3 (Pair 0 1 ∷ Pair 1 0 ∷ Pair 1 2 ∷ Pair 0 2 ∷ Single 1 ∷ []) ≡ Pair 0 1 ∷ Pair 1 2 ∷ Pair 0 2 ∷ [] }
     ensures follows_opposite { follows 4 (Pair 0 1 ∷ Pair 1 2 ∷ Pair 2 3 ∷ []) (Pair 0 3) ≡ true }
     ensures follows_not_alike { follows 3 (Pair 0 1 ∷ Pair 1 2 ∷ []) (Pair 0 2) ≡ false }
@@ -109,8 +110,8 @@ pub fn links_leave_places_free()
 /// Objects: a slice of one dimension, of two, several objects of one measure, an object of an
 /// upper level, which protects the cells below it too.
 pub fn objects_protect()
-    ensures south { replies hours_in_south [] (ask (range 1 2 (leaves 2 2) (leaves 0 0)) ∷ ask (range 1 2 (leaves 1 2) (leaves 0 0)) ∷ ask (range 1 2 (pick 1 0 0) None) ∷ []) ≡ Answered (line 0 0 4 ∷ []) ∷ Refused (PairFixes 1 2 3 2) ∷ Refused (SingleFixes 2 2 2) ∷ [] }
-    ensures south_rows { replies hours_in_south [] (ask (slice 1 2 0) ∷ []) ≡ Answered (line 0 0 8 ∷ line 0 1 7 ∷ []) ∷ [] }
+    ensures south { replies by_rules hours_in_south [] (ask (range 1 2 (leaves 2 2) (leaves 0 0)) ∷ ask (range 1 2 (leaves 1 2) (leaves 0 0)) ∷ ask (range 1 2 (pick 1 0 0) None) ∷ []) ≡ answered (line 0 0 4 ∷ []) ∷ refused (PairFixes 1 2 3 2) ∷ refused (SingleFixes 2 2 2) ∷ [] }
+    ensures south_rows { replies by_rules hours_in_south [] (ask (slice 1 2 0) ∷ []) ≡ answered (line 0 0 8 ∷ line 0 1 7 ∷ []) ∷ [] }
     ensures all { protected pay_cube.shown 1 ≡ cell 0 0 ∷ cell 0 1 ∷ cell 1 0 ∷ cell 2 0 ∷ cell 2 1 ∷ [] }
     ensures either { protected hours_in_either.shown 1 ≡ cell 0 0 ∷ cell 0 1 ∷ cell 1 0 ∷ cell 2 1 ∷ [] }
     ensures both { protected hours_in_both.shown 1 ≡ cell 0 1 ∷ [] }
@@ -124,50 +125,50 @@ pub fn objects_protect()
 /// Witnesses: the changes for a protected cell, and what is said of other cells.
 pub fn changes_show_another_cube()
     ensures at_first { changes pay_cube.shown [] 0 (cell 0 1) ≡ pos 0 ∷ pos 1 ∷ pos 0 ∷ pos 0 ∷ pos 0 ∷ [] }
-    ensures after_months { replies pay_cube (months ∷ []) (ask_witness (Measure 0) (cell 0 1) ∷ []) ≡ Changed (pos 0 ∷ pos 1 ∷ pos 0 ∷ pos 0 ∷ negsuc 0 ∷ []) ∷ [] }
+    ensures after_months { replies by_rules pay_cube (months ∷ []) (ask_witness (Measure 0) (cell 0 1) ∷ []) ≡ changed (pos 0 ∷ pos 1 ∷ pos 0 ∷ pos 0 ∷ negsuc 0 ∷ []) ∷ [] }
     ensures moves { moves pay_cube.shown (changes pay_cube.shown (months ∷ []) 0 (cell 0 1)) ≡ record { place = 1; by = pos 1 } ∷ record { place = 4; by = negsuc 0 } ∷ [] }
     ensures least_pair { moves pay_cube.shown (changes pay_cube.shown (months ∷ []) 0 (cell 0 0)) ≡ record { place = 0; by = pos 1 } ∷ record { place = 2; by = negsuc 0 } ∷ [] }
     ensures by_walks { changes two_row_cube.shown two_ranges 0 (cell 1 2) ≡ pos 1 ∷ negsuc 0 ∷ pos 1 ∷ [] }
     ensures twin { values (twin pay_cube 0 (changes pay_cube.shown (months ∷ []) 0 (cell 0 1))) 0 ≡ pos 10 ∷ pos 21 ∷ pos 30 ∷ pos 40 ∷ pos 49 ∷ [] }
-    ensures same_in_twin { replies (twin pay_cube 0 (changes pay_cube.shown (months ∷ []) 0 (cell 0 1))) [] (ask (slice 0 2 0) ∷ ask (slice 0 1 2) ∷ []) ≡ replies pay_cube [] (ask (slice 0 2 0) ∷ ask (slice 0 1 2) ∷ []) }
-    ensures no_witness { replies pay_cube (months ∷ []) (ask_witness (Measure 0) (cell 1 1) ∷ ask_witness (Measure 0) (cell_at 1 2 0 0) ∷ ask_witness Count (cell 0 0) ∷ []) ≡ EmptyCell ∷ NotProtected ∷ NotOfMeasure ∷ [] }
-    ensures not_protected { replies hours_in_south [] (ask_witness (Measure 1) (cell 2 0) ∷ ask_witness (Measure 1) (cell 0 0) ∷ []) ≡ NotProtected ∷ Changed (pos 1 ∷ pos 0 ∷ pos 0 ∷ pos 0 ∷ pos 0 ∷ []) ∷ [] }
+    ensures same_in_twin { replies by_rules (twin pay_cube 0 (changes pay_cube.shown (months ∷ []) 0 (cell 0 1))) [] (ask (slice 0 2 0) ∷ ask (slice 0 1 2) ∷ []) ≡ replies by_rules pay_cube [] (ask (slice 0 2 0) ∷ ask (slice 0 1 2) ∷ []) }
+    ensures no_witness { replies by_rules pay_cube (months ∷ []) (ask_witness (Measure 0) (cell 1 1) ∷ ask_witness (Measure 0) (cell_at 1 2 0 0) ∷ ask_witness Count (cell 0 0) ∷ []) ≡ ToWitness EmptyCell ∷ ToWitness NotProtected ∷ ToWitness NotOfMeasure ∷ [] }
+    ensures not_protected { replies by_rules hours_in_south [] (ask_witness (Measure 1) (cell 2 0) ∷ ask_witness (Measure 1) (cell 0 0) ∷ []) ≡ ToWitness NotProtected ∷ changed (pos 1 ∷ pos 0 ∷ pos 0 ∷ pos 0 ∷ pos 0 ∷ []) ∷ [] }
 {}
 
 /// What enters the history, and the most requests that it holds.
 pub fn histories_hold_requests()
-    ensures counts { end pay_open.shown [] (ask (count_by 1 2) ∷ []) ≡ [] }
-    ensures open { end pay_open.shown [] (ask (slice 0 2 0) ∷ []) ≡ [] }
-    ensures fresh { end two_row_cube.shown [] (ask (range 0 1 None (leaves 0 1)) ∷ ask (range 0 1 (leaves 1 1) None) ∷ []) ≡ two_ranges }
-    ensures full { replies pay_and_third (months ∷ many 16383) (ask (slice 0 2 1) ∷ ask (slice 0 1 2) ∷ ask (slice 1 2 2) ∷ []) ≡ Answered (line 0 0 150 ∷ []) ∷ Refused (Full 16384) ∷ Refused (Full 16384) ∷ [] }
-    ensures not_full { replies pay_and_third (Source 0 (two 2 0) ∷ Linked 1 (Pair 0 1) ∷ many 16383) (ask (slice 0 1 2) ∷ ask (slice 1 2 2) ∷ []) ≡ Refused (SourceWould (two 1 0) (cell 0 1)) ∷ Refused (SingleFixes 3 4 4) ∷ [] }
+    ensures counts { end by_rules pay_open.shown [] (ask (count_by 1 2) ∷ []) ≡ [] }
+    ensures open { end by_rules pay_open.shown [] (ask (slice 0 2 0) ∷ []) ≡ [] }
+    ensures fresh { end by_rules two_row_cube.shown [] (ask (range 0 1 None (leaves 0 1)) ∷ ask (range 0 1 (leaves 1 1) None) ∷ []) ≡ two_ranges }
+    ensures full { replies by_rules pay_and_third (months ∷ many 16383) (ask (slice 0 2 1) ∷ ask (slice 0 1 2) ∷ ask (slice 1 2 2) ∷ []) ≡ answered (line 0 0 150 ∷ []) ∷ refused (Full 16384) ∷ refused (Full 16384) ∷ [] }
+    ensures not_full { replies by_rules pay_and_third (Source 0 (two 2 0) ∷ Linked 1 (Pair 0 1) ∷ many 16383) (ask (slice 0 1 2) ∷ ask (slice 1 2 2) ∷ []) ≡ refused (SourceWould (two 1 0) (cell 0 1)) ∷ refused (SingleFixes 3 4 4) ∷ [] }
 {}
 
 /// Requests that are not valid, faults from outside, and the shape.
 pub fn requests_are_checked()
-    ensures one_member { replies pay_cube [] (ask (picks 0 2 0 (pick 0 0 1) None) ∷ []) ≡ Malformed ∷ [] }
-    ensures members_in_range { replies pay_cube [] (ask (picks 1 2 2 (leaves 1 0) None) ∷ ask (picks 1 2 2 (leaves 0 3) None) ∷ ask (picks 1 2 2 (pick 1 2 2) None) ∷ ask (picks 1 2 2 (pick 2 0 0) None) ∷ ask (slice 2 2 2) ∷ ask (slice 1 3 2) ∷ ask (record { what = Measure 1; group = two 2 2; picks = None ∷ [] }) ∷ []) ≡ Malformed ∷ Malformed ∷ Malformed ∷ Malformed ∷ Malformed ∷ Malformed ∷ Malformed ∷ [] }
-    ensures faults { replies pay_cube [] (ask_fault (slice 0 2 0) ∷ ask_no_memory (slice 0 2 0) ∷ ask_shape ∷ ask (slice 0 1 2) ∷ []) ≡ Failed JournalFault ∷ Failed NoMemory ∷ Known pay_cube.shown ∷ Answered (line 0 0 60 ∷ line 1 0 90 ∷ []) ∷ [] }
-    ensures faults_not_kept { end pay_cube.shown [] (ask_fault (slice 0 2 0) ∷ ask_no_memory (slice 0 2 0) ∷ []) ≡ [] }
+    ensures one_member { replies by_rules pay_cube [] (ask (picks 0 2 0 (pick 0 0 1) None) ∷ []) ≡ Malformed ∷ [] }
+    ensures members_in_range { replies by_rules pay_cube [] (ask (picks 1 2 2 (leaves 1 0) None) ∷ ask (picks 1 2 2 (leaves 0 3) None) ∷ ask (picks 1 2 2 (pick 1 2 2) None) ∷ ask (picks 1 2 2 (pick 2 0 0) None) ∷ ask (slice 2 2 2) ∷ ask (slice 1 3 2) ∷ ask (record { what = Measure 1; group = two 2 2; picks = None ∷ [] }) ∷ []) ≡ Malformed ∷ Malformed ∷ Malformed ∷ Malformed ∷ Malformed ∷ Malformed ∷ Malformed ∷ [] }
+    ensures faults { replies by_rules pay_cube [] (ask_fault (slice 0 2 0) ∷ ask_no_memory (slice 0 2 0) ∷ ask_shape ∷ ask (slice 0 1 2) ∷ []) ≡ Failed JournalFault ∷ Failed NoMemory ∷ Known pay_cube.shown ∷ answered (line 0 0 60 ∷ line 1 0 90 ∷ []) ∷ [] }
+    ensures faults_not_kept { end by_rules pay_cube.shown [] (ask_fault (slice 0 2 0) ∷ ask_no_memory (slice 0 2 0) ∷ []) ≡ [] }
 {}
 
 /// The ten even boxes of a full core, and an odd one behind them.
 pub fn even_boxes_on_the_full_cube()
-    ensures answered { replies full_cube [] even_boxes ≡ sums (5 ∷ 7 ∷ 9 ∷ 12 ∷ 16 ∷ 21 ∷ 3 ∷ 5 ∷ 9 ∷ 11 ∷ []) }
-    ensures then_odd { replies full_cube (end full_cube.shown [] even_boxes) (ask (range 0 1 (leaves 0 0) None) ∷ []) ≡ Refused (SingleFixes 2 2 0) ∷ [] }
+    ensures answered { replies by_rules full_cube [] even_boxes ≡ sums (5 ∷ 7 ∷ 9 ∷ 12 ∷ 16 ∷ 21 ∷ 3 ∷ 5 ∷ 9 ∷ 11 ∷ []) }
+    ensures then_odd { replies by_rules full_cube (end by_rules full_cube.shown [] even_boxes) (ask (range 0 1 (leaves 0 0) None) ∷ []) ≡ refused (SingleFixes 2 2 0) ∷ [] }
 {}
 
 /// Compacted histories, and what is said behind them.
 pub fn compacted_histories()
     ensures source { compacted pay_cube.shown (months ∷ []) ≡ Source 0 (two 2 0) ∷ [] }
-    ensures areas_after_source { replies pay_cube (Source 0 (two 2 0) ∷ []) (ask (slice 0 1 2) ∷ []) ≡ Refused (SourceWould (two 1 0) (cell 0 1)) ∷ [] }
-    ensures witness_after_source { replies pay_cube (Source 0 (two 2 0) ∷ []) (ask_witness (Measure 0) (cell 0 1) ∷ []) ≡ Changed (pos 0 ∷ pos 1 ∷ pos 0 ∷ pos 0 ∷ negsuc 0 ∷ []) ∷ [] }
+    ensures areas_after_source { replies by_rules pay_cube (Source 0 (two 2 0) ∷ []) (ask (slice 0 1 2) ∷ []) ≡ refused (SourceWould (two 1 0) (cell 0 1)) ∷ [] }
+    ensures witness_after_source { replies by_rules pay_cube (Source 0 (two 2 0) ∷ []) (ask_witness (Measure 0) (cell 0 1) ∷ []) ≡ changed (pos 0 ∷ pos 1 ∷ pos 0 ∷ pos 0 ∷ negsuc 0 ∷ []) ∷ [] }
     ensures links { compacted two_row_cube.shown two_ranges ≡ two_links }
     ensures by_measures { compacted pay_cube.shown (asked (range 1 2 (leaves 0 1) (leaves 0 0) ∷ slice 0 2 0 ∷ [])) ≡ Source 0 (two 2 0) ∷ Linked 1 (Pair 0 2) ∷ [] }
     ensures without_what_follows { compacted full_cube.shown (asked (range 0 1 None (leaves 0 0) ∷ range 0 1 None (leaves 1 1) ∷ range 0 1 None (leaves 0 1) ∷ [])) ≡ Linked 0 (Pair 0 3) ∷ Linked 0 (Pair 1 4) ∷ Linked 0 (Pair 0 1) ∷ [] }
-    ensures triangle_after_links { replies two_row_cube two_links (ask (range 0 1 None (leaves 1 2)) ∷ []) ≡ Refused (PairFixes 1 0 2 0) ∷ [] }
-    ensures again { replies two_row_cube two_links (ask (range 0 1 (leaves 1 1) None) ∷ []) ≡ Answered (line 0 0 17 ∷ []) ∷ [] }
-    ensures again_end { end two_row_cube.shown two_links (ask (range 0 1 (leaves 1 1) None) ∷ []) ≡ two_links }
+    ensures triangle_after_links { replies by_rules two_row_cube two_links (ask (range 0 1 None (leaves 1 2)) ∷ []) ≡ refused (PairFixes 1 0 2 0) ∷ [] }
+    ensures again { replies by_rules two_row_cube two_links (ask (range 0 1 (leaves 1 1) None) ∷ []) ≡ answered (line 0 0 17 ∷ []) ∷ [] }
+    ensures again_end { end by_rules two_row_cube.shown two_links (ask (range 0 1 (leaves 1 1) None) ∷ []) ≡ two_links }
 {}
 
 /// Logs judged entry by entry, and entries that name what is not there.
@@ -190,9 +191,9 @@ pub fn logs_are_judged()
 
 /// Two groups over the pay cube.
 pub fn rooms_of_two_groups()
-    ensures groups { replies_in two_rooms (of_group staff (ask (slice 0 2 0)) ∷ of_group board (ask (slice 0 1 2)) ∷ of_group staff (ask (slice 0 1 2)) ∷ []) ≡ Answered (line 0 0 80 ∷ line 0 1 70 ∷ []) ∷ Answered (line 0 0 60 ∷ line 1 0 90 ∷ []) ∷ Refused (SourceWould (two 1 0) (cell 0 1)) ∷ [] }
-    ensures no_group { replies_in two_rooms (of_group [] ask_shape ∷ plain ask_shape ∷ []) ≡ UnknownGroup ∷ NoPath ∷ [] }
-    ensures faults { replies_in two_rooms (of_group [] (ask_no_memory (slice 0 2 0)) ∷ plain (ask_fault (slice 0 2 0)) ∷ []) ≡ Failed NoMemory ∷ Failed JournalFault ∷ [] }
+    ensures groups { replies_in by_rules two_rooms (of_group staff (ask (slice 0 2 0)) ∷ of_group board (ask (slice 0 1 2)) ∷ of_group staff (ask (slice 0 1 2)) ∷ []) ≡ answered (line 0 0 80 ∷ line 0 1 70 ∷ []) ∷ answered (line 0 0 60 ∷ line 1 0 90 ∷ []) ∷ refused (SourceWould (two 1 0) (cell 0 1)) ∷ [] }
+    ensures no_group { replies_in by_rules two_rooms (of_group [] ask_shape ∷ plain ask_shape ∷ []) ≡ UnknownGroup ∷ NoPath ∷ [] }
+    ensures faults { replies_in by_rules two_rooms (of_group [] (ask_no_memory (slice 0 2 0)) ∷ plain (ask_fault (slice 0 2 0)) ∷ []) ≡ Failed NoMemory ∷ Failed JournalFault ∷ [] }
     ensures apart { AreApart two_rooms }
 {}
 

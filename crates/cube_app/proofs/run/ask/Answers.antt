@@ -8,7 +8,7 @@ use Rattle.cube_engine.specs.Engines.{Engine}
 use Rattle.cube_talk.specs.Asks.{Talk}
 use Rattle.cube_talk.specs.Crashes.{TalkedOver}
 use Rattle.cube_app.specs.Texts.{ending_text}
-use Rattle.cube_starting.proofs.Started.{begun}
+use Rattle.cube_serving.proofs.Started.{begun}
 use Rattle.cube_opening.proofs.Accepted.{all_accepted}
 use Rattle.cube_app.proofs.Lives.{moment_of, survived}
 use Rattle.cube_app.proofs.Worlds.{hides}

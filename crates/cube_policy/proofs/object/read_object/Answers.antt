@@ -49,7 +49,7 @@ returns-in_err-check_place c =
     let measure = nothing _ _ _ c.in_ok-measure.ensures in
     let levels = subst (λ k. below_faults c.args.dims.now k (under (codes "below") t) ≡ []) c.in_ok-below.ensures (nothing _ _ _ c.in_ok-levels.ensures) in
     let slice = subst (λ k. slice_faults c.args.dims.now k (under (codes "slice") t) ≡ []) c.in_ok-within.ensures (nothing _ _ _ c.in_ok-slice.ensures) in
-    let place = place_same c.args.methods.now c.args.entry.now _ c.in_ok-measure.measure _ c.in_ok-levels.levels c.as_slice.result.now c.method_at.result (value _ _ _ c.in_ok-measure.ensures) (value _ _ _ c.in_ok-levels.ensures) c.as_slice.ensures c.method_at.ensures in
+    let place = place_same c.args.methods.now c.args.entry.now _ c.in_ok-measure.measure _ c.in_ok-levels.levels c.as_slice.result.now c.method_of.result (value _ _ _ c.in_ok-measure.ensures) (value _ _ _ c.in_ok-levels.ensures) c.as_slice.ensures c.method_of.ensures in
     handed_on _ _ c.in_err-check_place.field-0.0 _ _ c.from_residual-in_err-check_place.ensures.1
     (next _ _ _ _ (both_nothing _ _ (both_nothing _ _ (both_nothing _ _ keys measure) levels) slice)
     (subst (Refused NoMemory c.in_err-check_place.field-0.0) (sym place) (refused _ _ _ _ c.in_err-check_place.ensures)))
@@ -62,6 +62,6 @@ returns c =
     let measure = nothing _ _ _ c.in_ok-measure.ensures in
     let levels = subst (λ k. below_faults c.args.dims.now k (under (codes "below") t) ≡ []) c.in_ok-below.ensures (nothing _ _ _ c.in_ok-levels.ensures) in
     let slice = subst (λ k. slice_faults c.args.dims.now k (under (codes "slice") t) ≡ []) c.in_ok-within.ensures (nothing _ _ _ c.in_ok-slice.ensures) in
-    let place = place_same c.args.methods.now c.args.entry.now _ c.in_ok-measure.measure _ c.in_ok-levels.levels c.as_slice.result.now c.method_at.result (value _ _ _ c.in_ok-measure.ensures) (value _ _ _ c.in_ok-levels.ensures) c.as_slice.ensures c.method_at.ensures in
+    let place = place_same c.args.methods.now c.args.entry.now _ c.in_ok-measure.measure _ c.in_ok-levels.levels c.as_slice.result.now c.method_of.result (value _ _ _ c.in_ok-measure.ensures) (value _ _ _ c.in_ok-levels.ensures) c.as_slice.ensures c.method_of.ensures in
     accepted _ _ _ (both_nothing _ _ (both_nothing _ _ (both_nothing _ _ (both_nothing _ _ keys measure) levels) slice) (place ∙ nothing _ _ _ c.in_ok-check_place.ensures))
     (object_same c.args.dims.now t c.in_ok-measure.measure c.in_ok-levels.levels c.in_ok-slice.slice (value _ _ _ c.in_ok-measure.ensures) (value _ _ _ c.in_ok-levels.ensures) (value _ _ _ c.in_ok-slice.ensures))

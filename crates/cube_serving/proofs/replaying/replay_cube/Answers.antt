@@ -3,7 +3,7 @@ use Rattle.std.specs.Prelude.{IfSome}
 use Rattle.cube_io.specs.Seen.{seen}
 use Rattle.cube_io.specs.Wires.{Plan}
 use Rattle.cube_engine.specs.Engines.{Engine}
-use Rattle.cube_opening.specs.Opening.{Says}
+use Rattle.cube_opening.specs.Opening.{FileSays}
 use Rattle.cube_opening.proofs.Accepted.{all_accepted}
 use Rattle.cube_script.specs.Playing.{Playing, has_torn}
 use Rattle.cube_serving.specs.Serving.{asking}
@@ -80,7 +80,7 @@ returns-clause-answers g c =
         stated_is = ap (λ (y : Engine). y.left) opened.ensures.engine;
         outcomes_are = c.report_play.ensures.outcomes;
         end = end;
-        said = subst (λ (fs : Option (List (List ℕ × List ℕ))). IfSome fs (λ known. Says script_said c.args.script_name.now known (Ok script.0))) c.open_guarded.ensures.reads.files script.3;
+        said = subst (λ (fs : Option (List (List ℕ × List ℕ))). IfSome fs (λ known. FileSays script_said c.args.script_name.now known (Ok script.0))) c.open_guarded.ensures.reads.files script.3;
         plays = (plays, same_room wire.most room_for_sends (ap (λ (p : Plan). p.sends) plan ∙ ap (λ (w : Playing). w.most.sends) script.1) (ap (λ (p : Plan). p.bytes) plan ∙ ap (λ (w : Playing). w.most.bytes) script.1));
         playing = playing;
         served = served c.args.cube.now (g.F.Folder.state c.args.files.now) mid store end true true wire.log c.in-Ok.opened.value.core c.in-Ok.opened.value.policy e last c.args.stated

@@ -13,9 +13,6 @@ use Rattle.cube_source.proofs.Among.{of_method, lattice_all, parity_all}
 use Rattle.cube_source.proofs.Uncut.{placed}
 use Rattle.cube_source.proofs.counting.count_protected.Goals as goal
 
-pub method_of-requires : goal.method_of-requires
-method_of-requires c = let size = c.requires.policy.methods in omega (arith, size, c.requires.measure)
-
 pub count_lattice-requires-clause-objects : goal.count_lattice-requires-clause-objects
 count_lattice-requires-clause-objects c = subst (Each (IsPlaced c.args.core.now.dims)) (sym c.as_slice-objects.ensures) (placed c.args.core.now.dims c.args.policy.now c.args.policy.now.objects c.requires.policy.objects)
 
@@ -29,17 +26,17 @@ pub count_parity-requires : goal.count_parity-requires
 count_parity-requires c = record { objects = subst (Each (IsPlaced c.args.core.now.dims)) (sym c.as_slice-objects.ensures) (placed c.args.core.now.dims c.args.policy.now c.args.policy.now.objects c.requires.policy.objects) }
 
 pub returns-in-Plain-clause-count : goal.returns-in-Plain-clause-count
-returns-in-Plain-clause-count c = ap length (sym (of_method c.args.core.now c.args.policy.now c.args.measure Plain (sym c.method_of.ensures ∙ c.in-Plain.is)))
+returns-in-Plain-clause-count c = ap length (sym (of_method c.args.core.now c.args.policy.now c.args.measure Plain (sym c.method.ensures ∙ c.in-Plain.is)))
 
 pub returns-in-Lattice-clause-count : goal.returns-in-Lattice-clause-count
 returns-in-Lattice-clause-count c =
     let all = λ (os : List Object). length (each_once (flat_map (under (bare c.args.core.now)) (of_measure c.args.measure os))) in
     IfOk-weaker c.count_lattice.result (λ (n : ℕ). n ≡ all c.as_slice-objects.result.now) (λ (n : ℕ). n ≡ length (protected (shown c.args.core.now c.args.policy.now) c.args.measure))
-    (λ n e. e ∙ ap all c.as_slice-objects.ensures ∙ ap length (lattice_all c.args.core.now c.args.policy.now c.args.measure (sym c.method_of.ensures ∙ c.in-Lattice.is))) c.count_lattice.ensures.count
+    (λ n e. e ∙ ap all c.as_slice-objects.ensures ∙ ap length (lattice_all c.args.core.now c.args.policy.now c.args.measure (sym c.method.ensures ∙ c.in-Lattice.is))) c.count_lattice.ensures.count
 
 pub returns-in-Parity-clause-count : goal.returns-in-Parity-clause-count
 returns-in-Parity-clause-count c =
     let guarded = λ (os : List Object). filter (is_guarded (bare c.args.core.now) (of_measure c.args.measure os)) (places (bare c.args.core.now)) in
     c.count_parity.ensures.count ∙ ap (λ (os : List Object). length (guarded os)) c.as_slice-objects.ensures
     ∙ sym (length-map (guarded c.args.policy.now.objects) (core_cell (bare c.args.core.now)))
-    ∙ ap length (parity_all c.args.core.now c.args.policy.now c.args.measure (sym c.method_of.ensures ∙ c.in-Parity.is))
+    ∙ ap length (parity_all c.args.core.now c.args.policy.now c.args.measure (sym c.method.ensures ∙ c.in-Parity.is))

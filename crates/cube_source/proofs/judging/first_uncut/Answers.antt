@@ -12,11 +12,8 @@ use Rattle.cube_source.specs.Objects.{of_measure, IsPlaced}
 use Rattle.cube_source.proofs.Uncut.{placed, plain_uncut, lattice_uncut, parity_uncut}
 use Rattle.cube_source.proofs.judging.first_uncut.Goals as goal
 
-pub method_of-requires : goal.method_of-requires
-method_of-requires c = let size = c.requires.policy.methods in omega (arith, size, c.requires.measure)
-
 pub returns-in-Plain : goal.returns-in-Plain
-returns-in-Plain c = plain_uncut c.args.core.now c.args.policy.now c.args.levels.now c.args.measure (sym c.method_of.ensures ∙ c.in-Plain.is)
+returns-in-Plain c = plain_uncut c.args.core.now c.args.policy.now c.args.levels.now c.args.measure (sym c.method.ensures ∙ c.in-Plain.is)
 
 pub uncut_lattice-requires-clause-blocks : goal.uncut_lattice-requires-clause-blocks
 uncut_lattice-requires-clause-blocks c = subst (AreBlocks (length c.args.core.now.shape.points)) (sym c.as_slice.ensures) c.in_ok-blocks-in-Lattice.ensures.places
@@ -35,7 +32,7 @@ returns-in_ok-blocks-in-Lattice c =
     let found = λ (blocks : List Row) (os : List Object). find (λ (t : Cell). not (is_parted (bare c.args.core.now) blocks t)) (flat_map (under (bare c.args.core.now)) (of_measure c.args.measure os)) in
     IfOk-weaker c.uncut_lattice.result (λ o. o ≡ found c.as_slice.result.now c.as_slice-objects.result.now) (λ o. o ≡ uncut (shown c.args.core.now c.args.policy.now) c.args.levels.now c.args.measure)
     (λ o e. e ∙ ap (found c.as_slice.result.now) c.as_slice-objects.ensures
-    ∙ lattice_uncut c.args.core.now c.args.policy.now c.args.levels.now c.args.measure c.as_slice.result.now (sym c.method_of.ensures ∙ c.in-Lattice.is) (c.as_slice.ensures ∙ c.in_ok-blocks-in-Lattice.ensures.rows))
+    ∙ lattice_uncut c.args.core.now c.args.policy.now c.args.levels.now c.args.measure c.as_slice.result.now (sym c.method.ensures ∙ c.in-Lattice.is) (c.as_slice.ensures ∙ c.in_ok-blocks-in-Lattice.ensures.rows))
     c.uncut_lattice.ensures
 
 pub returns-in_ok-blocks-in-Parity : goal.returns-in_ok-blocks-in-Parity
@@ -43,5 +40,5 @@ returns-in_ok-blocks-in-Parity c =
     let found = λ (blocks : List Row) (os : List Object). find (λ (t : Cell). not (is_parted (bare c.args.core.now) blocks t)) (map (core_cell (bare c.args.core.now)) (filter (is_guarded (bare c.args.core.now) (of_measure c.args.measure os)) (places (bare c.args.core.now)))) in
     IfOk-weaker c.uncut_parity.result (λ o. o ≡ found c.as_slice-in-Parity.result.now c.as_slice-objects.result.now) (λ o. o ≡ uncut (shown c.args.core.now c.args.policy.now) c.args.levels.now c.args.measure)
     (λ o e. e ∙ ap (found c.as_slice-in-Parity.result.now) c.as_slice-objects.ensures
-    ∙ parity_uncut c.args.core.now c.args.policy.now c.args.levels.now c.args.measure c.as_slice-in-Parity.result.now (sym c.method_of.ensures ∙ c.in-Parity.is) (c.as_slice-in-Parity.ensures ∙ c.in_ok-blocks-in-Parity.ensures.rows))
+    ∙ parity_uncut c.args.core.now c.args.policy.now c.args.levels.now c.args.measure c.as_slice-in-Parity.result.now (sym c.method.ensures ∙ c.in-Parity.is) (c.as_slice-in-Parity.ensures ∙ c.in_ok-blocks-in-Parity.ensures.rows))
     c.uncut_parity.ensures

@@ -14,9 +14,6 @@ use Rattle.cube_source.proofs.Growing.{none_taken}
 use Rattle.cube_source.proofs.Uncut.{placed}
 use Rattle.cube_source.proofs.listing.protected.Goals as goal
 
-pub method_of-requires : goal.method_of-requires
-method_of-requires c = let size = c.requires.policy.methods in omega (arith, size, c.requires.measure)
-
 pub lattice_cells-requires : goal.lattice_cells-requires
 lattice_cells-requires c = record { objects = subst (Each (IsPlaced c.args.core.now.dims)) (sym c.as_slice-objects.ensures) (placed c.args.core.now.dims c.args.policy.now c.args.policy.now.objects c.requires.policy.objects) }
 
@@ -24,16 +21,16 @@ pub parity_cells-requires : goal.parity_cells-requires
 parity_cells-requires c = record { objects = subst (Each (IsPlaced c.args.core.now.dims)) (sym c.as_slice-objects.ensures) (placed c.args.core.now.dims c.args.policy.now c.args.policy.now.objects c.requires.policy.objects) }
 
 pub returns-in-Plain : goal.returns-in-Plain
-returns-in-Plain c = c.new.ensures ∙ sym (none_taken {X = Cell} c.args.most) ∙ ap (take c.args.most) (sym (of_method c.args.core.now c.args.policy.now c.args.measure Plain (sym c.method_of.ensures ∙ c.in-Plain.is)))
+returns-in-Plain c = c.new.ensures ∙ sym (none_taken {X = Cell} c.args.most) ∙ ap (take c.args.most) (sym (of_method c.args.core.now c.args.policy.now c.args.measure Plain (sym c.method.ensures ∙ c.in-Plain.is)))
 
 pub returns-in-Lattice : goal.returns-in-Lattice
 returns-in-Lattice c =
     let all = λ (os : List Object). take c.args.most (each_once (flat_map (under (bare c.args.core.now)) (of_measure c.args.measure os))) in
     IfOk-weaker c.lattice_cells.result (λ (ts : List Cell). ts ≡ all c.as_slice-objects.result.now) (λ (ts : List Cell). ts ≡ take c.args.most (protected (shown c.args.core.now c.args.policy.now) c.args.measure))
-    (λ ts e. e ∙ ap all c.as_slice-objects.ensures ∙ ap (take c.args.most) (lattice_all c.args.core.now c.args.policy.now c.args.measure (sym c.method_of.ensures ∙ c.in-Lattice.is))) c.lattice_cells.ensures
+    (λ ts e. e ∙ ap all c.as_slice-objects.ensures ∙ ap (take c.args.most) (lattice_all c.args.core.now c.args.policy.now c.args.measure (sym c.method.ensures ∙ c.in-Lattice.is))) c.lattice_cells.ensures
 
 pub returns-in-Parity : goal.returns-in-Parity
 returns-in-Parity c =
     let all = λ (os : List Object). take c.args.most (map (core_cell (bare c.args.core.now)) (filter (is_guarded (bare c.args.core.now) (of_measure c.args.measure os)) (places (bare c.args.core.now)))) in
     IfOk-weaker c.parity_cells.result (λ (ts : List Cell). ts ≡ all c.as_slice-objects.result.now) (λ (ts : List Cell). ts ≡ take c.args.most (protected (shown c.args.core.now c.args.policy.now) c.args.measure))
-    (λ ts e. e ∙ ap all c.as_slice-objects.ensures ∙ ap (take c.args.most) (parity_all c.args.core.now c.args.policy.now c.args.measure (sym c.method_of.ensures ∙ c.in-Parity.is))) c.parity_cells.ensures
+    (λ ts e. e ∙ ap all c.as_slice-objects.ensures ∙ ap (take c.args.most) (parity_all c.args.core.now c.args.policy.now c.args.measure (sym c.method.ensures ∙ c.in-Parity.is))) c.parity_cells.ensures

@@ -6,11 +6,11 @@ use Rattle.cube_words.proofs.ordered.stated.Goals as goal
 
 pub unreachable-requires : goal.unreachable-requires
 unreachable-requires c =
-    let yes : is_requests c.in-Some.text.now ≡ true = stated c.args.command c.args.words.now c.in-Some.text.now c.requires (sym c.in-Some.ensures) in
+    let yes : is_requests c.in-Some.text.now ≡ true = stated c.args.command c.args.words.now c.in-Some.text.now c.requires.right (sym c.in-Some.ensures) in
     not_none _ (sym (rw (c.as_slice.ensures, yes) at c.in-None-requests_in.ensures.number))
 
 pub returns-in-Some-requests_in-clause-number : goal.returns-in-Some-requests_in-clause-number
 returns-in-Some-requests_in-clause-number c =
-    let yes : is_requests c.in-Some.text.now ≡ true = stated c.args.command c.args.words.now c.in-Some.text.now c.requires (sym c.in-Some.ensures) in
+    let yes : is_requests c.in-Some.text.now ≡ true = stated c.args.command c.args.words.now c.in-Some.text.now c.requires.right (sym c.in-Some.ensures) in
     let number = rw (c.as_slice.ensures, yes) at c.in-Some-requests_in.ensures.number in
-    same_some c.in-Some-requests_in.number (digits_value 10 c.in-Some.text.now) number ∙ ap stated_by c.in-Some.ensures
+    same_some c.in-Some-requests_in.number (digits_value 10 c.in-Some.text.now) number ∙ ap (stated_by c.args.usual) c.in-Some.ensures

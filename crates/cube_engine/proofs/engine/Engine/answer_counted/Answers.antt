@@ -1,17 +1,27 @@
-use Rattle.std.proofs.Common.{◌≡◌, ◌≢◌, ap, ◌∙◌, subst}
-use Rattle.cube_model.specs.declared.outcome.Outcome.TheVariants.{Given}
+use Rattle.std.proofs.Common.{◌≡◌, ap, ◌∙◌, subst}
 use Rattle.cube_model.specs.Cores.{Core}
 use Rattle.cube_model.specs.Dims.{IsDims}
-use Rattle.cube_engine.specs.Books.{Book, book_rooms}
+use Rattle.cube_io.specs.Desks.{Answered}
+use Rattle.cube_engine.specs.Books.{Book}
 use Rattle.cube_engine.specs.Engines.{Engine, rooms_of}
 use Rattle.cube_engine.specs.Kept.{IsWithin}
-use Rattle.cube_engine.specs.Prepared.{SettleCause}
-use Rattle.cube_engine.specs.Steps.{manner, reply_in, next_in}
+use Rattle.cube_engine.specs.Steps.{manner}
 use Rattle.cube_engine.specs.Worlds.{Opens}
-use Rattle.cube_engine.proofs.Alone.{turned}
+use Rattle.cube_engine.proofs.Alone.{settled_turn}
 use Rattle.cube_engine.proofs.Logs.{kept_within}
 use Rattle.cube_engine.proofs.Worlds.{opened}
 use Rattle.cube_engine.proofs.engine.Engine.answer_counted.Goals as goal
+
+pub returns-clause-answered : goal.returns-clause-answered
+returns-clause-answered g c =
+    let x = c.self.inside in
+    let s = c.settle-reply in
+    let new : Engine = record { core = s.new.book.core; policy = s.new.book.policy; history = s.new.book.history; journal = s.new.book.journal; outcomes = c.record.new.self.outcomes; left = c.record.new.self.left } in
+    let ask = c.args.ask.now in
+    let before = (g.S.Store.state c.args.store.now).faults in
+    let now = (g.S.Store.state s.new.store).faults in
+    subst (λ (e : Engine). Answered (manner e.core.dims) ask (rooms_of e) (rooms_of new) e.outcomes new.outcomes before now s.result.0) c.self.view_is
+    (settled_turn x.book c.prepare-prepared.new.book s.new.book ask s.result.0 s.result.1 before now x.turns.outcomes c.record.new.self.outcomes c.prepare-prepared.ensures.same s.ensures.cause c.record.ensures.outcomes s.ensures.reply s.ensures.rooms)
 
 pub returns-clause-two_worlds : goal.returns-clause-two_worlds
 returns-clause-two_worlds g c =
@@ -21,16 +31,12 @@ returns-clause-two_worlds g c =
     let new : Engine = record { core = s.new.book.core; policy = s.new.book.policy; history = s.new.book.history; journal = s.new.book.journal; outcomes = c.record.new.self.outcomes; left = c.record.new.self.left } in
     let ask = c.args.ask.now in
     let told = s.result.0 in
-    let o = s.result.1 in
     let before = (g.S.Store.state c.args.store.now).faults in
     let now = (g.S.Store.state s.new.store).faults in
     let same = c.prepare-prepared.ensures.same in
     let core : s.new.book.core ≡ x.book.core = s.ensures.core ∙ ap (λ (b : Book). b.core) same in
     let policy : s.new.book.policy ≡ x.book.policy = s.ensures.policy ∙ ap (λ (b : Book). b.policy) same in
-    let cause = subst (λ (b : Book). SettleCause o (next_in b.core.dims (book_rooms b) ask Given ≢ book_rooms b) before now) same s.ensures.cause in
-    let reply = subst (λ (b : Book). told ≡ reply_in b.core.dims (book_rooms b) ask o) same s.ensures.reply in
-    let rooms = subst (λ (b : Book). book_rooms s.new.book ≡ next_in b.core.dims (book_rooms b) ask o) same s.ensures.rooms in
-    let answered = turned (manner old.core.dims) ask (rooms_of old) (rooms_of new) old.outcomes new.outcomes told o before now cause c.record.ensures.outcomes reply rooms in
+    let answered = settled_turn x.book c.prepare-prepared.new.book s.new.book ask told s.result.1 before now x.turns.outcomes c.record.new.self.outcomes same s.ensures.cause c.record.ensures.outcomes s.ensures.reply s.ensures.rooms in
     let ruled = c.core-rules.ensures.rules in
     subst (λ (e : Engine). Opens e new ask told) c.self.view_is (opened old new ask told before now (record { core = ruled.core; policy = ruled.policy; admissible = ruled.admissible }) core policy answered)
 

@@ -1,5 +1,5 @@
 use Rattle.std.proofs.Common.{◌≡◌, map, take, None}
-use Rattle.cube_source.proofs.blocks.no_picks.Given as goal
+use Rattle.cube_model.proofs.request.no_picks.Given as goal
 
 abbrev pub invariant-levels : goal.invariant-levels
 invariant-levels l = l.picks ≡ map (λ level. None) (take l._level-index l.levels)

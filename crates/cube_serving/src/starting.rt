@@ -6,7 +6,7 @@ ghost use Rattle.cube_engine.specs.Engines.{book_of};
 ghost use Rattle.cube_engine.specs.Kept.{history_of, IsKept, IsExact};
 ghost use Rattle.cube_engine.specs.Worlds.{IsRuled};
 ghost use Rattle.cube_opening.specs.Reports.{IsReport, NoRoom};
-ghost use Rattle.cube_starting.specs.Starting.{journal_text as journal_words, journal_status as status_for, IsCalm, Unstarted, AsksStore, Opens, Recovers};
+ghost use Rattle.cube_serving.specs.Starting.{journal_text as journal_words, journal_status as status_for, IsCalm, Unstarted, AsksStore, Opens, Recovers};
 
 use cube_core::Core;
 use cube_engine::{Engine, EngineFault};

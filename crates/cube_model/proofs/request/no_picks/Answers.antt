@@ -1,7 +1,7 @@
 use Rattle.std.proofs.Common.{◌∷◌, ◌++◌, [], List, ℕ, Option, None, ap, sym, ◌∙◌}
 use Rattle.std.proofs.lemmas.List.{map_more}
 use Rattle.cube_model.specs.declared.request.Pick.{Pick}
-use Rattle.cube_source.proofs.blocks.no_picks.Goals as goal
+use Rattle.cube_model.proofs.request.no_picks.Goals as goal
 
 pub levels-preserved : goal.levels-preserved
 levels-preserved c =

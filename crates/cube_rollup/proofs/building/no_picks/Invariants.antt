@@ -1,5 +1,0 @@
-use Rattle.std.proofs.Common.{◌≡◌, map, take, None}
-use Rattle.cube_rollup.proofs.building.no_picks.Given as goal
-
-abbrev pub invariant-levels : goal.invariant-levels
-invariant-levels l = l.picks ≡ map (λ level. None) (take l._level-index l.levels)
