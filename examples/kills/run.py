@@ -40,6 +40,9 @@ def check(holds, text):
 
 # ---- what is asked
 
+LEVELS = "region.branch", "time.month", "grade.grade"
+
+
 class Cube:
     """The members of examples/pay in their order, and its hours."""
 
@@ -48,13 +51,14 @@ class Cube:
             dimensions = file.read().split("[[dimension]]")[1:]
         self.leaves = [re.findall(r'\["(\w+)"', dimension.split("paths")[1]) for dimension in dimensions]
         with open(f"{PAY}/facts.csv", newline="") as file:
-            self.facts = [(fact["branch"], fact["month"], fact["grade"], int(fact["hours"])) for fact in csv.DictReader(file)]
+            records = csv.DictReader(file)
+            self.facts = [(one["branch"], one["month"], one["grade"], int(one["hours"])) for one in records]
 
     def hours(self, chance):
         """A range of hours, in its canonical text, with the sum that it has."""
         ranges = [sorted(chance.choices(range(len(leaves)), k=2)) for leaves in self.leaves]
         names = [(leaves[low], leaves[high]) for leaves, (low, high) in zip(self.leaves, ranges)]
-        places = ", ".join(f"{name}={low}..{high}" for name, (low, high) in zip(("region.branch", "time.month", "grade.grade"), names))
+        places = ", ".join(f"{level}={low}..{high}" for level, (low, high) in zip(LEVELS, names))
         members = [set(leaves[low:high + 1]) for leaves, (low, high) in zip(self.leaves, ranges)]
         found = [fact[3] for fact in self.facts if all(name in those for name, those in zip(fact, members))]
         return f"range hours {places}", f"hours\n{sum(found)}\n" if found else None
@@ -105,7 +109,8 @@ def talk(port, cube, told, faults, number):
             client.setsockopt(socket.IPPROTO_TCP, socket.TCP_NODELAY, 1)
             while True:
                 query, expected = (cube.pay(chance), None) if chance.random() < 0.1 else cube.hours(chance)
-                client.sendall(f"GET /v1/query?q={query.replace(' ', '+').replace('=', '%3D')} HTTP/1.1\r\nHost: cube\r\n\r\n".encode())
+                target = "/v1/query?q=" + query.replace(" ", "+").replace("=", "%3D")
+                client.sendall(f"GET {target} HTTP/1.1\r\nHost: cube\r\n\r\n".encode())
                 reply, rest = read_reply(client, rest)
                 check(reply[0] in (200, 403, 422), f"{query}: {reply}")
                 check(not (reply[0] == 200 and expected) or reply[1] == expected, f"{query}: {reply[1]}, and not {expected}")
@@ -191,8 +196,8 @@ def kill_all(folder):
         answered, lines = answered + len(told.answered()), lines + len(kept) - 1
         unseen += len({line.removeprefix("q ") for line in kept[1:]} - set(told.answered()))
     check(lines > KILLS * JOURNALS, "hardly anything was asked")
-    return (f"{JOURNALS * KILLS} kills under {CLIENTS} clients: {answered:,} answers and the {lines:,} lines that keep them are all there, "
-            f"{unseen} of them of requests whose reply no client saw")
+    return (f"{JOURNALS * KILLS} kills under {CLIENTS} clients: {answered:,} answers and the {lines:,} lines that keep them "
+            f"are all there, {unseen} of them of requests whose reply no client saw")
 
 
 def main():
