@@ -3,3 +3,4 @@ pub mod Lives
 pub mod Ordered
 mod Statuses
 pub mod TwinFiles
+pub mod Unasked

@@ -6,16 +6,16 @@ use Rattle.cube_model.specs.declared.policy.Policy.{Policy}
 use Rattle.cube_model.specs.Cores.{Core}
 use Rattle.cube_io.specs.Causes.{Rose}
 use Rattle.cube_io.specs.Seen.{FolderState, SourceState, SinkState, StoreState, WireState, Seen}
-use Rattle.cube_opening.specs.Opening.{flat_said, Unopened, EndsTwo, EndsUnopened}
+use Rattle.cube_opening.specs.Opening.{dims_said, facts_said, policy_said, flat_said, Unopened, EndsUnopened, names_of}
 use Rattle.cube_opening.specs.Reports.{Prints}
 use Rattle.cube_opening.specs.declared.cube_files.CubeFiles.{CubeFiles}
 use Rattle.cube_opening.specs.declared.report.Report.{Report}
 use Rattle.cube_script.specs.Playing.{has_torn}
 use Rattle.cube_server.specs.declared.serving.ServeFault.{ServeFault}
 use Rattle.cube_server.specs.declared.serving.ServeFault.TheVariants.{WireFailed, Spent as SpentAll}
-use Rattle.cube_serving.specs.Replaying.{script_said, played_status, Writes, ReplayEnds}
+use Rattle.cube_serving.specs.Replaying.{script_said, all_names, played_status, Writes, ReplayEnds}
 use Rattle.cube_serving.specs.Serving.{served_status, ServeEnds, Unheard}
-use Rattle.cube_serving.specs.Starting.{Unstarted}
+use Rattle.cube_serving.specs.Starting.{Unstarted, EndsClosed}
 use Rattle.cube_talk.specs.declared.talk.Ending.{Ending}
 use Rattle.cube_talk.specs.declared.talk.Ending.TheVariants.{Ended, InputFailed, OutputFailed, NoMemory, Spent}
 use Rattle.cube_words.specs.declared.ordered.Making.{Making}
@@ -71,24 +71,21 @@ one_file said name folder r (inr (inl e)) = no_memory e.0
 one_file said name folder r (inr (inr (inl e))) = unreadable e.0.0
 one_file said name folder r (inr (inr (inr e))) = refused e.0.0
 
-two_files : {F : Type 0} (cube : CubeFiles) (folder : Seen FolderState F) (r : Report) → EndsTwo cube folder r → Known r.status
-two_files cube folder r (inl e) = no_memory e.0
-two_files cube folder r (inr (inl e)) = no_memory e.0
-two_files cube folder r (inr (inr (inl e))) = unreadable e.0.0
-two_files cube folder r (inr (inr (inr (inl e)))) = unreadable e.0.0
-two_files cube folder r (inr (inr (inr (inr (inl e))))) = refused e.0.0
-two_files cube folder r (inr (inr (inr (inr (inr e))))) = refused e.0.0
-
 all_files : {F : Type 0} (cube : CubeFiles) (folder : Seen FolderState F) (r : Report) → EndsUnopened cube folder r → Known r.status
-all_files cube folder r (inl e) = two_files cube folder r e
-all_files cube folder r (inr (inl e)) = unreadable e.0.0
-all_files cube folder r (inr (inr e)) = refused e.0.0
+all_files cube folder r (inl e) = one_file dims_said cube.dims folder r e.unopened
+all_files cube folder r (inr (inl e)) = one_file (facts_said e.0) cube.facts folder r e.2.unopened
+all_files cube folder r (inr (inr e)) = one_file (policy_said e.0.dims) cube.policy folder r e.2.unopened
 
-journal : {S : Type 0} (core : Core) (policy : Policy) (store : Seen StoreState S) (r : Report) → Unstarted core policy store r → Known r.status
-journal core policy store r (inl e) = no_memory e.0.0
-journal core policy store r (inr (inl e)) = no_memory e.0.0
-journal core policy store r (inr (inr (inl e))) = unkept e.0.0
-journal core policy store r (inr (inr (inr (fault, e, calm)))) = unopened e.1.0
+journal : {S : Type 0} (core : Core) (policy : Policy) (facts : List ℕ) (store : Seen StoreState S) (r : Report) → Unstarted core policy facts store r → Known r.status
+journal core policy facts store r (inl e) = no_memory e.0.0
+journal core policy facts store r (inr (inl e)) = no_memory e.0.0
+journal core policy facts store r (inr (inr (inl e))) = unkept e.0.0
+journal core policy facts store r (inr (inr (inr (inl (fault, e, calm))))) = unopened e.1.0
+journal core policy facts store r (inr (inr (inr (inr (fault, e, calm))))) = unopened e.1.0
+
+closed : {F S : Type 0} (cube : CubeFiles) (names : List (List ℕ)) (files : Seen FolderState F) (store : Seen StoreState S) (r : Report) → EndsClosed cube names files store r → Known r.status
+closed cube names files store r (inl e) = all_files cube files r e.0
+closed cube names files store r (inr e) = journal e.0.core e.0.policy e.0.facts store r e.0.unstarted
 
 talk : (n : ℕ) (end : Ending) → n ≡ status_of end → Known n
 talk n Ended e = done e
@@ -114,7 +111,7 @@ tells (Err why) out r (inr (inl e), same) = no_memory e.0
 tells (Err why) out r (inr (inr e), same) = no_memory e.0
 
 sums : {F I O : Type 0} (facts : List ℕ) (files : Seen FolderState F) (input : Seen SourceState I) (out : Seen SinkState O) (r : Report) → SumEnds facts files input out r → Known r.status
-sums facts files input out r (inl e) = one_file flat_said facts files r e.0
+sums facts files input out r (inl e) = one_file flat_said facts files r e.0.unopened
 sums facts files input out r (inr e) = talk r.status e.0.end.ending e.0.reported.0
 
 summary : {O : Type 0} (core : Core) (policy : Policy) (out : Seen SinkState O) (r : Report) → Summarizes core policy out r → Known r.status
@@ -126,35 +123,31 @@ checks cube files out r (inl e) = all_files cube files r e.0
 checks cube files out r (inr e) = summary e.0.core e.0.policy out r e.0.printed
 
 asks : {F S I O : Type 0} (cube : CubeFiles) (stated : ℕ) (files : Seen FolderState F) (store : Seen StoreState S) (input : Seen SourceState I) (out : Seen SinkState O) (r : Report) → AskEnds cube stated files store input out r → Known r.status
-asks cube stated files store input out r (inl e) = all_files cube files r e.0
-asks cube stated files store input out r (inr (inl e)) = journal e.0.core e.0.policy store r e.0.unstarted
-asks cube stated files store input out r (inr (inr (end, stated_is, reports, asked, steady))) = talk r.status end.ending reports.status
+asks cube stated files store input out r (inl e) = closed cube (names_of cube) files store r e.0
+asks cube stated files store input out r (inr (end, stated_is, reports, asked, behind)) = talk r.status end.ending reports.status
 
 unheard_by : {W : Type 0} (wire : Seen WireState W) (r : Report) → Unheard wire r → Known r.status
 unheard_by wire r (inl e) = unheard e.0.0
 unheard_by wire r (inr e) = no_memory e.0
 
 serves : {F S W : Type 0} (cube : CubeFiles) (stated : ℕ) (files : Seen FolderState F) (store : Seen StoreState S) (wire : Seen WireState W) (r : Report) → ServeEnds cube stated files store wire r → Known r.status
-serves cube stated files store wire r (inl e) = all_files cube files r e.0
-serves cube stated files store wire r (inr (inl e)) = journal e.0.core e.0.policy store r e.0.unstarted
-serves cube stated files store wire r (inr (inr (inl e))) = unheard_by wire r e.1
-serves cube stated files store wire r (inr (inr (inr e))) = served r.status e.0.end e.0.status
+serves cube stated files store wire r (inl e) = closed cube (names_of cube) files store r e.0
+serves cube stated files store wire r (inr (inl e)) = unheard_by wire r e.1
+serves cube stated files store wire r (inr (inr e)) = served r.status e.0.end e.0.status
 
 replays : {F S O : Type 0} (cube : CubeFiles) (script : List ℕ) (stated : ℕ) (files : Seen FolderState F) (store : Seen StoreState S) (out : Seen SinkState O) (r : Report) → ReplayEnds cube script stated files store out r → Known r.status
-replays cube script stated files store out r (inl e) = all_files cube files r e.0
-replays cube script stated files store out r (inr (inl e)) = one_file script_said script files r e.0.unopened
-replays cube script stated files store out r (inr (inr (inl e))) = journal e.0.core e.0.policy store r e.0.unstarted
-replays cube script stated files store out r (inr (inr (inr (inl e)))) = no_memory e.1.0
-replays cube script stated files store out r (inr (inr (inr (inr e)))) = written e.0.writes
+replays cube script stated files store out r (inl e) = one_file script_said script files r e.0.ends.unopened
+replays cube script stated files store out r (inr (inl e)) = closed cube (all_names cube script) files store r e.0
+replays cube script stated files store out r (inr (inr (inl e))) = no_memory e.1.0
+replays cube script stated files store out r (inr (inr (inr e))) = written e.0.writes
   where
     written : Writes e.0.end e.0.wire.log out r → Known r.status
     written (inl w) = played r.status (has_torn e.0.wire.log) e.0.end w.0
     written (inr w) = unput w.0
 
 cell : {F S O : Type 0} (is_twin : Bool) (cube : CubeFiles) (name : List ℕ) (files : Seen FolderState F) (store : Seen StoreState S) (out : Seen SinkState O) (r : Report) → CellEnds is_twin cube name files store out r → Known r.status
-cell is_twin cube name files store out r (inl e) = all_files cube files r e.0
-cell is_twin cube name files store out r (inr (inl e)) = journal e.0.core e.0.policy store r e.0.unstarted
-cell is_twin cube name files store out r (inr (inr e)) = tells (cell_text is_twin e.0.core e.0.policy e.0.history name) out r e.0.tells
+cell is_twin cube name files store out r (inl e) = closed cube (names_of cube) files store r e.0
+cell is_twin cube name files store out r (inr e) = tells (cell_text is_twin e.0.core e.0.policy e.0.history name) out r e.0.tells
 
 made : {O : Type 0} (making : Making) (out : Seen SinkState O) (r : Report) → DemoRun making out r → Known r.status
 made making out r (inl e) = done e.0.0
@@ -172,7 +165,7 @@ known (Check cube) objects r d = checks cube objects.files objects.out r d.answe
 known (Ask cube name stated) objects r d = asks cube stated objects.files objects.store objects.input objects.out r d.answers
 known (Witness cube name text) objects r d = cell false cube text objects.files objects.store objects.out r d.answers
 known (Twin cube name text) objects r d = cell true cube text objects.files objects.store objects.out r d.answers
-known (Serve cube name address stated) objects r d = serves cube stated objects.files objects.store objects.wire r d.answers
+known (Serve cube name address stated idle) objects r d = serves cube stated objects.files objects.store objects.wire r d.answers
 known (Replay cube name script stated) objects r d = replays cube script stated objects.files objects.store objects.out r d.answers
 known (Demo making) objects r d = made making objects.out r d
 

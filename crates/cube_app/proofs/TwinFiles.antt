@@ -1,6 +1,6 @@
 -- The files of the other cube make it.
 use Rattle.std.proofs.Common.{◌≡◌, ◌≢◌, ◌∙◌, refl, sym, ap, subst, ℕ, ◌<◌, List, [], length, ℤ, Some, None, Ok, Err, inl, inr, arith}
-use Rattle.std.specs.Prelude.{IsSomeAnd, IsOkAnd, Result, nat_lt, slice_set, slice_index_or, codes}
+use Rattle.std.specs.Prelude.{IsSomeAnd, Result, nat_lt, slice_set, slice_index_or, codes}
 use Rattle.std.specs.declared.option.Option.{Option}
 use Rattle.cube_model.specs.declared.entry.Entry.{Entry}
 use Rattle.cube_model.specs.declared.outcome.Outcome.{Outcome}
@@ -24,12 +24,12 @@ use Rattle.cube_witness.proofs.Spreads.{moves_are_changes}
 use Rattle.cube_engine.specs.Headline.{twin_by}
 use Rattle.cube_engine.specs.Steps.{manner}
 use Rattle.cube_opening.specs.Opening.{dims_said, facts_said, policy_said, core_in, faulted, unless_long, fault_text, FileSays}
-use Rattle.cube_opening.proofs.Accepted.{under_both, says_one}
+use Rattle.cube_opening.proofs.Accepted.{says_one}
+use Rattle.cube_server.specs.Logs.{log_of}
 use Rattle.cube_talk.specs.Asks as talked
-use Rattle.cube_talk.specs.Asks.{Talk}
 use Rattle.cube_talk.specs.declared.talk.Ending.{Ending}
 use Rattle.cube_talk.specs.declared.talk.Ending.TheVariants.{Ended, InputFailed, OutputFailed, NoMemory, Spent}
-use Rattle.cube_app.specs.TwinFiles.{Hidden, changes_by, cube_with, Loaded, AreTwins, Wrote, TwinFilesMakeTwins, TalksAreTheSame}
+use Rattle.cube_app.specs.TwinFiles.{Hidden, changes_by, cube_with, Loaded, AreTwins, MakeTwins, Wrote, Logged, TwinsOf, TwinFilesMakeTwins, TwinTalksAreTheSame, TwinLogsAreTheSame}
 
 -- ---- what files say
 
@@ -46,15 +46,6 @@ core_of_ok x y k = cc
 -- the words of a fact file's fault
 abbrev told : FactsFault → List ℕ
 told fault = fault_text (codes "facts") (facts.fault_words fault)
-
-dims_in : (s : Dims) (core : Core) (r : Result (Shape × List (List ℤ)) FactsFault) → core_in s (faulted told r) ≡ Ok core → core.dims ≡ s
-dims_in s core (Ok filled) k = ap (λ (c : Core). c.dims) (core_of_ok (record { dims = s; shape = filled.0; cube = filled.1 }) core k)
-dims_in s core (Err fault) k = absurd (cc)
-
--- a core that a fact file makes has the dimensions under which it is read
-dims_of_core : (s : Dims) (core : Core) (o : Option (List ℕ)) → IsSomeAnd o (λ bytes. facts_said s bytes ≡ Ok core) → core.dims ≡ s
-dims_of_core s core None h = absurd h
-dims_of_core s core (Some bytes) h = dims_in s core (filled_of s bytes) (short_is (codes "facts") bytes _ core h)
 
 said_of : (o : Option (List ℕ)) (bytes : List ℕ) (P : List ℕ → Type 0) → o ≡ Some bytes → IsSomeAnd o P → P bytes
 said_of None bytes P e h = absurd h
@@ -81,12 +72,9 @@ read_back core core' policy h is_core lt within e =
 makes_twin : (a b : Loaded) (h : Hidden) → IsCore a.core → h.measure < length a.core.dims.measures → AreTwins a b h → b.core ≡ with_cube a.core (cube_with a.core a.policy h)
 makes_twin a b h is_core lt twins =
     let bytes = facts_text a.core.dims a.core.shape (cube_with a.core a.policy h) in
-    under_both (λ s. FileSays (facts_said s) a.cube.facts a.known (Ok a.core)) (λ s. FileSays (facts_said s) b.cube.facts b.known (Ok b.core)) (b.core ≡ with_cube a.core (cube_with a.core a.policy h))
-    (λ s p q.
-    let is : a.core.dims ≡ s = dims_of_core s a.core (file_of a.known a.cube.facts) p in
-    let said : facts_said s bytes ≡ Ok b.core = said_of (file_of b.known b.cube.facts) bytes (λ x. facts_said s x ≡ Ok b.core) twins.facts q in
-    read_back a.core b.core a.policy h is_core lt twins.within (subst (λ (x : Dims). facts_said x bytes ≡ Ok b.core) (sym is) said))
-    (file_of a.known a.cube.dims) a.makes.0 (subst (λ (o : Option (List ℕ)). IsSomeAnd o (λ x. IsOkAnd (dims_said x) (λ s. FileSays (facts_said s) b.cube.facts b.known (Ok b.core)))) twins.dims b.makes.0)
+    let dims : b.core.dims ≡ a.core.dims = says_one dims_said b.core.dims a.core.dims (file_of a.known a.cube.dims) (subst (λ (o : Option (List ℕ)). IsSomeAnd o (λ x. dims_said x ≡ Ok b.core.dims)) twins.dims (b.makes.0).dims) (a.makes.0).dims in
+    let said : facts_said b.core.dims bytes ≡ Ok b.core = said_of (file_of b.known b.cube.facts) bytes (λ x. facts_said b.core.dims x ≡ Ok b.core) twins.facts (b.makes.0).facts in
+    read_back a.core b.core a.policy h is_core lt twins.within (subst (λ (s : Dims). facts_said s bytes ≡ Ok b.core) dims said)
 
 -- a world by its values
 abbrev world_by : Core → Policy → ℕ → List ℤ → World
@@ -117,9 +105,29 @@ says_one_thing Spent m rooms stated os text written new new' sound (inl x) (inr 
 says_one_thing Spent m rooms stated os text written new new' sound (inr x) (inl y) = absurd (omega (arith, x.1, y.0))
 says_one_thing Spent m rooms stated os text written new new' sound (inr x) (inr y) = y.3 ∙ sym x.3
 
-pub talks_are_the_same : TalksAreTheSame
-talks_are_the_same a b h first talk text before after after' make sound x y =
-    let there = subst (λ (w : World). Wrote b w first talk text before after') make.worlds y in
+-- ---- two runs
+
+-- what was observed would be so of the other cube
+hidden : (a b : Loaded) (h : Hidden) (observed : World → Type 0) → TwinsOf a b h observed → observed (twin_by (world a.core a.policy) h.last h.measure h.cell)
+hidden a b h observed x = (x.hides.hides h.last x.admissible x.goes_on h.measure h.cell x.protects).same
+
+made : (a b : Loaded) (h : Hidden) (observed : World → Type 0) → TwinsOf a b h observed → MakeTwins a b h
+made a b h observed x = twin_files_make_twins a b h x.core x.measure x.files
+
+pub twin_talks_are_the_same : TwinTalksAreTheSame
+twin_talks_are_the_same a b h first talk text before after after' x sound y =
+    let observed = λ (w : World). Wrote a w first talk text before after in
+    let make = made a b h observed x in
     let w = twin_by (world a.core a.policy) h.last h.measure h.cell in
+    let there = subst (λ (v : World). Wrote b v first talk text before after') make.worlds y in
     let here = subst (λ (s : Dims). talked.Says talk.ending (manner s) (alone w first) talk.stated talk.outcomes text (Some before) (Some after')) make.dims there in
-    says_one_thing talk.ending (manner a.core.dims) (alone w first) talk.stated talk.outcomes text before after after' sound x here
+    says_one_thing talk.ending (manner a.core.dims) (alone w first) talk.stated talk.outcomes text before after after' sound (hidden a b h observed x) here
+
+pub twin_logs_are_the_same : TwinLogsAreTheSame
+twin_logs_are_the_same a b h first events luck log log' x y =
+    let observed = λ (w : World). Logged a w first events luck log in
+    let make = made a b h observed x in
+    let w = twin_by (world a.core a.policy) h.last h.measure h.cell in
+    let there = subst (λ (v : World). Logged b v first events luck log') make.worlds y in
+    let here = subst (λ (s : Dims). log' ≡ log_of (manner s) (alone w first) events luck) make.dims there in
+    here ∙ sym (hidden a b h observed x)

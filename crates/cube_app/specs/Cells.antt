@@ -9,11 +9,11 @@ use Rattle.cube_io.specs.Causes.{Rose}
 use Rattle.cube_io.specs.Seen.{FolderState, SinkState, StoreState, Seen, Unused}
 use Rattle.cube_engine.specs.Changes.{changes_for, text_of, twin_for}
 use Rattle.cube_engine.specs.Kept.{history_of, IsExact}
-use Rattle.cube_opening.specs.Opening.{IsSteady, EndsUnopened, Make, AsksAll, HasAll}
+use Rattle.cube_opening.specs.Opening.{GotBehind, Make, HasAll, names_of}
 use Rattle.cube_opening.specs.Reports.{IsReport, IsDone, NoRoom, Prints}
 use Rattle.cube_opening.specs.declared.cube_files.CubeFiles.{CubeFiles}
 use Rattle.cube_opening.specs.declared.report.Report.{Report}
-use Rattle.cube_serving.specs.Starting.{EndsUnstarted, Recovers, HasJournal}
+use Rattle.cube_serving.specs.Starting.{EndsClosed, IsOpen, Recovers, HasJournal}
 use Rattle.cube_app.specs.Ends.{AsksJournal}
 
 -- the fact file of the twin, or the changes in words; or the status and the line that say why there is none
@@ -26,14 +26,14 @@ abbrev pub Tells : {O : Type 0} → Result (List ℕ) (ℕ × List ℕ) → Seen
 Tells (Ok text) out r = Prints text out r ⊎ (IsReport 7 (codes "no memory\n") r × (out.after.written ≡ out.before.written))
 Tells (Err why) out r = (IsReport 3 (codes "cell: " ++ why.1) r ⊎ IsReport 7 (codes "no memory\n") r ⊎ NoRoom r) × (out.after.written ≡ out.before.written)
 
--- The text was told over the core that the files make, under their policy, by the history that the journal recovers, which stays: every
--- crash leaves it, and at each moment the log is as at entry, or every crash leaves what recovers the same.
+-- The text was told by an open cube and its history, which stays: every crash leaves it, and at each moment the log is as at entry, or
+-- every crash leaves what recovers the same.
 pub record Told {S O : Type 0} (is_twin : Bool) (cube : CubeFiles) (cell : List ℕ) (files : FolderState) (store : Seen StoreState S) (out : Seen SinkState O) (r : Report) : Type 0 where
   pub core : Core
   pub policy : Policy
+  pub facts : List ℕ
   pub history : List Entry
-  pub files_make : Make cube files core policy
-  pub recovered : IsTrue store.before.told → history_of core policy (store.before.logs 0).state.now ≡ Ok history
+  pub opened : IsOpen cube files store core policy facts history
   pub tells : Tells (cell_text is_twin core policy history cell) out r
   pub passed : Recovers core policy store
   pub exact : IsTrue store.before.told → IsExact core policy history (store.after.logs 0).state
@@ -43,12 +43,11 @@ abbrev pub HasCell : Bool → CubeFiles → List ℕ → FolderState → StoreSt
 HasCell is_twin cube cell files store =
     (core : Core) (policy : Policy) (h : List Entry) → Make cube files core policy → history_of core policy (store.logs 0).state.now ≡ Ok h → IsOk (cell_text is_twin core policy h cell)
 
--- a run of `witness` or `twin` ends at a file or at the journal, or it tells the cell
+-- a run of `witness` or `twin` ends before its cube is open, or it tells the cell
 abbrev pub CellEnds : {F S O : Type 0} → Bool → CubeFiles → List ℕ → Seen FolderState F → Seen StoreState S → Seen SinkState O → Report → Type 0
 CellEnds is_twin cube cell files store out r =
-    (EndsUnopened cube files r × Unused store × Unused out)
-    ⊎ (EndsUnstarted cube files.before store r × IsSteady files × Unused out)
-    ⊎ (Told is_twin cube cell files.before store out r × IsSteady files)
+    (EndsClosed cube (names_of cube) files store r × Unused out)
+    ⊎ (Told is_twin cube cell files.before store out r × GotBehind (names_of cube) files)
 
 -- where the files, the journal and the cell are accepted and no count rose, all is done
 abbrev pub CellCompletes : {F S O : Type 0} → Bool → CubeFiles → List ℕ → Seen FolderState F → Seen StoreState S → Seen SinkState O → Report → Type 0
@@ -58,7 +57,6 @@ CellCompletes is_twin cube cell files store out r = HasAll cube files.before →
 -- All that `witness` and `twin` do with these files, this journal and this cell. Where the cell is not told, nothing is put.
 pub record CellRun {F S O : Type 0} (is_twin : Bool) (cube : CubeFiles) (journal cell : List ℕ) (files : Seen FolderState F) (store : Seen StoreState S) (out : Seen SinkState O) (r : Report) : Type 0 where
   pub answers : CellEnds is_twin cube cell files store out r
-  pub asks : AsksAll cube files r
   pub named : AsksJournal journal store r
-  pub few_calls : IsTrue store.before.told → store.after.calls ≤ store.before.calls + 7
+  pub few_calls : IsTrue store.before.told → store.after.calls ≤ store.before.calls + 11
   pub complete : CellCompletes is_twin cube cell files store out r

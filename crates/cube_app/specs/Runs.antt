@@ -2,9 +2,9 @@
 use Rattle.std.specs.Prelude.{◌≡◌, ◌≢◌, ◌⊎◌, ℕ, true, false, List, [], Result, IfOk, IfErr}
 use Rattle.cube_io.specs.Causes.{Rose}
 use Rattle.cube_io.specs.Seen.{FolderState, SourceState, SinkState, StoreState, WireState, Seen, Unused}
-use Rattle.cube_io.specs.Told.{OthersStay}
 use Rattle.cube_opening.specs.Reports.{IsReport, NoRoom, Prints}
 use Rattle.cube_opening.specs.declared.report.Report.{Report}
+use Rattle.cube_serving.specs.Starting.{OnlyJournal}
 use Rattle.cube_words.specs.declared.ordered.Orders.{Orders}
 use Rattle.cube_words.specs.declared.ordered.Orders.TheVariants.{Help, Version, Sum, Check, Ask, Witness, Twin, Serve, Replay, Demo}
 use Rattle.cube_words.specs.declared.words.Usage.{Usage}
@@ -35,7 +35,7 @@ Does (Check cube) objects r = CheckRun cube objects.files objects.out r
 Does (Ask cube journal stated) objects r = AskRun cube journal stated objects.files objects.store objects.input objects.out r
 Does (Witness cube journal cell) objects r = CellRun false cube journal cell objects.files objects.store objects.out r
 Does (Twin cube journal cell) objects r = CellRun true cube journal cell objects.files objects.store objects.out r
-Does (Serve cube journal address stated) objects r = ServeRun cube journal address stated objects.files objects.store objects.wire r
+Does (Serve cube journal address stated idle) objects r = ServeRun cube journal address stated objects.files objects.store objects.wire r
 Does (Replay cube journal script stated) objects r = ReplayRun cube journal script stated objects.files objects.store objects.out r
 Does (Demo making) objects r = DemoRun making objects.out r
 
@@ -48,7 +48,7 @@ Leaves (Check cube) objects r = Unused objects.store × Unused objects.input × 
 Leaves (Ask cube journal stated) objects r = Unused objects.wire
 Leaves (Witness cube journal cell) objects r = Unused objects.input × Unused objects.wire × (r.outcomes ≡ [])
 Leaves (Twin cube journal cell) objects r = Unused objects.input × Unused objects.wire × (r.outcomes ≡ [])
-Leaves (Serve cube journal address stated) objects r = Unused objects.input × Unused objects.out
+Leaves (Serve cube journal address stated idle) objects r = Unused objects.input × Unused objects.out
 Leaves (Replay cube journal script stated) objects r = Unused objects.input × Unused objects.wire
 Leaves (Demo making) objects r = Unused objects.files × Unused objects.store × Unused objects.input × Unused objects.wire × (r.outcomes ≡ [])
 
@@ -65,13 +65,13 @@ pub record HasCauses {F S I O W : Type 0} (objects : Outside F S I O W) (r : Rep
   pub output_steady : r.status ≢ 6 → objects.out.after.faults ≡ objects.out.before.faults
   pub wire_steady : r.status ≢ 8 → objects.wire.after.faults ≡ objects.wire.before.faults
 
--- These orders were obeyed. Status 2 is for wrong words alone, and no log of the store but log 0 changed.
+-- These orders were obeyed. Status 2 is for wrong words alone, and no log of the store changed but the journal's and its seal's.
 pub record Obeyed {F S I O W : Type 0} (orders : Orders) (objects : Outside F S I O W) (r : Report) : Type 0 where
   pub does : Does orders objects r
   pub leaves : Leaves orders objects r
   pub causes : HasCauses objects r
   pub ordered : r.status ≢ 2
-  pub others : OthersStay 0 objects.store.before objects.store.after
+  pub others : OnlyJournal objects.store.before objects.store.after
 
 -- ---- where nothing outside failed
 

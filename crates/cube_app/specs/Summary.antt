@@ -11,7 +11,7 @@ use Rattle.cube_core.specs.Full.{is_full}
 use Rattle.cube_engine.specs.Kept.{digest_for}
 use Rattle.cube_io.specs.Causes.{Rose}
 use Rattle.cube_io.specs.Seen.{FolderState, SinkState, Seen, Unused}
-use Rattle.cube_opening.specs.Opening.{IsSteady, EndsUnopened, Make, AsksAll, HasAll}
+use Rattle.cube_opening.specs.Opening.{EndsUnopened, GotBehind, Make, HasAll, names_of}
 use Rattle.cube_opening.specs.Reports.{IsReport, IsDone, Prints}
 use Rattle.cube_opening.specs.declared.cube_files.CubeFiles.{CubeFiles}
 use Rattle.cube_opening.specs.declared.report.Report.{Report}
@@ -53,10 +53,9 @@ pub record Checked {O : Type 0} (cube : CubeFiles) (files : FolderState) (out : 
 
 -- a run of `check` ends at a file, or it prints the summary
 abbrev pub CheckEnds : {F O : Type 0} → CubeFiles → Seen FolderState F → Seen SinkState O → Report → Type 0
-CheckEnds cube files out r = (EndsUnopened cube files r × Unused out) ⊎ (Checked cube files.before out r × IsSteady files)
+CheckEnds cube files out r = (EndsUnopened cube files r × Unused out) ⊎ (Checked cube files.before out r × GotBehind (names_of cube) files)
 
 -- All that `check` does with these files. Where the files are accepted and no count rose, all was done, or memory ran out.
 pub record CheckRun {F O : Type 0} (cube : CubeFiles) (files : Seen FolderState F) (out : Seen SinkState O) (r : Report) : Type 0 where
   pub answers : CheckEnds cube files out r
-  pub asks : AsksAll cube files r
   pub complete : HasAll cube files.before → ¬ Rose files.before.faults files.after.faults → ¬ Rose out.before.faults out.after.faults → IsDone r

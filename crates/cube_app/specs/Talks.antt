@@ -1,27 +1,26 @@
 -- All that `sum` and `ask` do with the lines of the input.
-use Rattle.std.specs.Prelude.{◌≡◌, ◌≢◌, ◌⊎◌, ◌≤◌, ◌+◌, ℕ, true, IsTrue, List, [], length, IfSome, IsSomeAnd, IsOk, Ok}
+use Rattle.std.specs.Prelude.{◌≡◌, ◌≢◌, ◌⊎◌, ◌≤◌, ◌+◌, ℕ, true, IsTrue, List, [], ◌∷◌, length, IfSome, IsSomeAnd, IsOk, Ok}
 use Rattle.cube_model.specs.declared.entry.Entry.{Entry}
 use Rattle.cube_model.specs.declared.policy.Policy.{Policy}
-use Rattle.cube_model.specs.Cores.{Core, shown, world}
+use Rattle.cube_model.specs.Cores.{Core, world}
 use Rattle.cube_model.specs.Rooms.{alone}
-use Rattle.cube_model.specs.Verdicts.{IsAdmissible}
-use Rattle.cube_io.specs.Causes.{Rose}
+use Rattle.cube_io.specs.Causes.{Rose, RoseBy}
+use Rattle.cube_io.specs.Desks.{faults_in}
 use Rattle.cube_io.specs.Files.{file_of}
 use Rattle.cube_io.specs.Seen.{FolderState, SourceState, SinkState, StoreState, Seen, Unused}
 use Rattle.cube_facts.specs.Flat.{Flat}
 use Rattle.cube_engine.specs.Headline.{Hides}
-use Rattle.cube_engine.specs.Kept.{history_of}
 use Rattle.cube_engine.specs.Steps.{manner}
 use Rattle.cube_engine.specs.Worlds.{first_history}
 use Rattle.cube_talk.specs.Asks as asking
-use Rattle.cube_talk.specs.Asks.{Talk, NoneFailed, rooms_behind}
+use Rattle.cube_talk.specs.Asks.{Talk, FailedFresh, rooms_behind}
 use Rattle.cube_talk.specs.Sums.{Talked}
 use Rattle.cube_talk.specs.declared.talk.TalkEnd.{TalkEnd}
-use Rattle.cube_opening.specs.Opening.{flat_said, FileSays, Unopened, AsksOnce, IsSteady, EndsUnopened, Make, AsksAll, HasAll}
+use Rattle.cube_opening.specs.Opening.{flat_said, FileSays, EndsAt, GotBehind, HasAll, names_of}
 use Rattle.cube_opening.specs.Reports.{IsReport, IsDone}
 use Rattle.cube_opening.specs.declared.cube_files.CubeFiles.{CubeFiles}
 use Rattle.cube_opening.specs.declared.report.Report.{Report}
-use Rattle.cube_serving.specs.Starting.{EndsUnstarted, HasJournal, Survived}
+use Rattle.cube_serving.specs.Starting.{EndsClosed, HasJournal, IsOpen, Survived}
 use Rattle.cube_app.specs.Ends.{AsksJournal}
 use Rattle.cube_app.specs.Texts.{status_of, ending_text}
 
@@ -43,8 +42,8 @@ HasFlat name files = IsSomeAnd files.files (λ known. IsSomeAnd (file_of known n
 -- a run of `sum` ends at the file, or it answers the lines of the input
 abbrev pub SumEnds : {F I O : Type 0} → List ℕ → Seen FolderState F → Seen SourceState I → Seen SinkState O → Report → Type 0
 SumEnds facts files input out r =
-    (Unopened flat_said facts files r × Unused input × Unused out)
-    ⊎ (Summed facts files.before input out r × IsSteady files)
+    (EndsAt [] flat_said facts files r × Unused input × Unused out)
+    ⊎ (Summed facts files.before input out r × GotBehind (facts ∷ []) files)
 
 -- where the file is accepted, no count rose and less was taken than is taken at most, all is done
 abbrev pub SumCompletes : {F I O : Type 0} → List ℕ → Seen FolderState F → Seen SourceState I → Seen SinkState O → Report → Type 0
@@ -54,29 +53,27 @@ SumCompletes facts files input out r = HasFlat facts files.before → r.status �
 -- All that `sum` does with this file.
 pub record SumRun {F I O : Type 0} (facts : List ℕ) (files : Seen FolderState F) (input : Seen SourceState I) (out : Seen SinkState O) (r : Report) : Type 0 where
   pub answers : SumEnds facts files input out r
-  pub asks : AsksOnce facts files r
   pub ended : r.status ≡ 0 → input.after.ended ≡ true
   pub complete : SumCompletes facts files input out r
 
 -- ---- asks of a cube
 
--- The asks of the input were answered over the core that the files make, under their policy, from the history on that the journal
--- recovers, to the last one; what became of them is reported. The answers hide each protected cell: over the world with the changes the
--- same would have been written, by the same lines and outcomes. The log kept what was answered. The journal failed for some asks only
--- where the store's count of faults rose.
+-- The asks of the input were answered by an open cube, from the first history to the last; what became of them is reported. The answers
+-- hide each protected cell: over the world with the changes the same would have been written, by the same lines and outcomes. The journal
+-- kept what was answered. For each ask in which it failed the store's count of faults rose, and the ask was to be kept.
 pub record Asked {S I O : Type 0} (cube : CubeFiles) (files : FolderState) (store : Seen StoreState S) (talk : Talk) (input : Seen SourceState I) (out : Seen SinkState O) : Type 0 where
   pub core : Core
   pub policy : Policy
+  pub facts : List ℕ
   pub first : List Entry
   pub last : List Entry
-  pub files_make : Make cube files core policy
-  pub recovered : IsTrue store.before.told → history_of core policy (store.before.logs 0).state.now ≡ Ok first
-  pub admissible : IsAdmissible (shown core policy) first
+  pub opened : IsOpen cube files store core policy facts first
   pub talked : asking.Talked (manner core.dims) (alone (world core policy) first) talk input out
   pub last_is : last ≡ first_history (rooms_behind (manner core.dims) (alone (world core policy) first) talked.first talk.outcomes)
   pub hides : Hides core policy last (λ w. asking.Says talk.ending (manner core.dims) (alone w first) talk.stated talk.outcomes talked.text out.before.written out.after.written)
   pub survived : IsTrue store.before.told → Survived core policy first last talk.outcomes store
-  pub none_failed : ¬ Rose store.before.faults store.after.faults → NoneFailed talk.outcomes
+  pub failed : RoseBy (faults_in talk.outcomes) store.before.faults store.after.faults
+  pub fresh : FailedFresh (manner core.dims) (alone (world core policy) first) talked.first talk.outcomes
 
 -- the report says how the talk ended
 pub record Reports (talk : Talk) (r : Report) : Type 0 where
@@ -84,12 +81,11 @@ pub record Reports (talk : Talk) (r : Report) : Type 0 where
   pub status : r.status ≡ status_of talk.ending
   pub text : r.text ≡ ending_text talk.ending (length talk.outcomes) talk.bytes
 
--- a run of `ask` ends at a file or at the journal, or it answers the lines of the input, by at most so many asks
+-- a run of `ask` ends before its cube is open, or it answers the lines of the input, by at most so many asks
 abbrev pub AskEnds : {F S I O : Type 0} → CubeFiles → ℕ → Seen FolderState F → Seen StoreState S → Seen SourceState I → Seen SinkState O → Report → Type 0
 AskEnds cube stated files store input out r =
-    (EndsUnopened cube files r × Unused store × Unused input × Unused out)
-    ⊎ (EndsUnstarted cube files.before store r × IsSteady files × Unused input × Unused out)
-    ⊎ ((talk : Talk) × (talk.stated ≡ stated) × Reports talk r × Asked cube files.before store talk input out × IsSteady files)
+    (EndsClosed cube (names_of cube) files store r × Unused input × Unused out)
+    ⊎ ((talk : Talk) × (talk.stated ≡ stated) × Reports talk r × Asked cube files.before store talk input out × GotBehind (names_of cube) files)
 
 -- where the files and the journal are accepted, no count rose and less was taken than is taken at most, all is done
 abbrev pub AskCompletes : {F S I O : Type 0} → CubeFiles → Seen FolderState F → Seen StoreState S → Seen SourceState I → Seen SinkState O → Report → Type 0
@@ -99,9 +95,8 @@ AskCompletes cube files store input out r = HasAll cube files.before → HasJour
 -- All that `ask` does with these files and this journal.
 pub record AskRun {F S I O : Type 0} (cube : CubeFiles) (journal : List ℕ) (stated : ℕ) (files : Seen FolderState F) (store : Seen StoreState S) (input : Seen SourceState I) (out : Seen SinkState O) (r : Report) : Type 0 where
   pub answers : AskEnds cube stated files store input out r
-  pub asks : AsksAll cube files r
   pub named : AsksJournal journal store r
-  pub few_calls : r.status ≡ 9 → IsTrue store.before.told → store.after.calls ≤ store.before.calls + 7
+  pub few_calls : r.status ≡ 9 → IsTrue store.before.told → store.after.calls ≤ store.before.calls + 11
   pub ended : r.status ≡ 0 → input.after.ended ≡ true
   pub memory : r.status ≡ 7 → Unused input × Unused out × (r.outcomes ≡ [])
   pub complete : AskCompletes cube files store input out r

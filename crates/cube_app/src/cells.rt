@@ -2,18 +2,17 @@
 ghost use Rattle.std.specs.Prelude.{◌≡◌, ◌≢◌, ◌⊎◌, ◌≤◌, ◌+◌, ◌++◌, ℕ, List, Result, [], IsTrue, IfOk, IfErr, IsOk, Ok, codes};
 ghost use Rattle.cube_io.specs.Causes.{Rose};
 ghost use Rattle.cube_io.specs.Seen.{seen};
-ghost use Rattle.cube_io.specs.Told.{OthersStay};
 ghost use Rattle.cube_engine.specs.Changes.{Refuses};
-ghost use Rattle.cube_opening.specs.Opening.{AsksAll, IsSteady};
+ghost use Rattle.cube_opening.specs.Opening.{IsSteady};
 ghost use Rattle.cube_opening.specs.Reports.{IsReport, NoRoom};
 ghost use Rattle.cube_app.specs.Cells.{Tells, CellEnds, CellCompletes, cell_text};
-ghost use Rattle.cube_serving.specs.Starting.{AsksStore};
+ghost use Rattle.cube_serving.specs.Starting.{AsksStore, OnlyJournal};
 
 use crate::run::print;
 use cube_engine::{Engine, NoChanges};
 use cube_io::{Folder, Sink, Store};
 use cube_model::{NoMemory, Text};
-use cube_opening::{CubeFiles, Guarded, Report, Room, no_room, open_guarded, with_text};
+use cube_opening::{CubeFiles, Report, Room, no_room, open_guarded, with_text};
 use cube_serving::open_engine;
 use std::alloc::Global;
 
@@ -83,11 +82,10 @@ pub fn tell<F: Folder, S: Store, O: Sink>(
 ) -> Report
     requires { room ≡ [] }
     ensures answers { CellEnds is_twin cube.now cell.now (seen F.state files.old files.new) (seen S.state store.old store.new) (seen O.state out.old out.new) result }
-    ensures asks { AsksAll cube.now (seen F.state files.old files.new) result }
     ensures names { (store.new ≡ store.old) ⊎ AsksStore journal.now (seen S.state store.old store.new) result }
     ensures unkept { result.status ≡ 9 → Rose (S.state store.old).faults (S.state store.new).faults }
-    ensures calls { IsTrue (S.state store.old).told → (S.state store.new).calls ≤ (S.state store.old).calls + 7 }
-    ensures others { OthersStay 0 (S.state store.old) (S.state store.new) }
+    ensures calls { IsTrue (S.state store.old).told → (S.state store.new).calls ≤ (S.state store.old).calls + 11 }
+    ensures others { OnlyJournal (S.state store.old) (S.state store.new) }
     ensures unreadable { result.status ≡ 5 → Rose (F.state files.old).faults (F.state files.new).faults }
     ensures output { result.status ≡ 6 → Rose (O.state out.old).faults (O.state out.new).faults }
     ensures steady { result.status ≢ 5 → IsSteady (seen F.state files.old files.new) }
@@ -101,9 +99,8 @@ pub fn tell<F: Folder, S: Store, O: Sink>(
         Ok(opened) => opened,
         Err(report) => return report,
     };
-    let Guarded { core, policy } = opened.value;
-    let _rules = core.dims();
-    let started = match open_engine(alloc, opened.room, core, policy, journal, 1, store) {
+    let _rules = opened.value.core.dims();
+    let started = match open_engine(alloc, opened.room, opened.value, journal, 1, store) {
         Ok(started) => started,
         Err(report) => return report,
     };

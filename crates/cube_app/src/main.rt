@@ -9,7 +9,7 @@ mod summary;
 mod tests;
 
 use cube_edge::{
-    FileFolder, FileStore, MachineDisk, ReaderSource, SocketWire, TcpSockets, WriterSink,
+    FileFolder, FileStore, MachineDisk, NoWatch, ReaderSource, SocketWire, TcpSockets, WriterSink,
     hold_streams,
 };
 use cube_model::{Items, Text, Texts};
@@ -21,9 +21,6 @@ use std::process::ExitCode;
 
 // A word of a command line has fewer bytes than this.
 const MAX_WORD: usize = 131_072;
-
-// For so many seconds a connection may be still.
-const IDLE: u32 = 60;
 
 // The words behind the program's name, of any bytes.
 fn words_of(rt: &HostRuntime) -> Option<Texts> {
@@ -42,6 +39,17 @@ fn words_of(rt: &HostRuntime) -> Option<Texts> {
     None
 }
 
+// What a person may want to know behind the text of a report.
+fn explained(text: &[u8]) -> &'static str {
+    if text.starts_with(b"journal: digest ") {
+        "the journal was begun for other dimensions, another policy or other points\n"
+    } else if text.starts_with(b"journal: facts ") {
+        "the journal was begun over another fact file\n"
+    } else {
+        ""
+    }
+}
+
 fn main(rt: HostRuntime) -> ExitCode {
     if hold_streams(&rt, &rt.stdin(), &rt.stdout(), &rt.stderr()).is_err() {
         return ExitCode::from(5);
@@ -49,7 +57,7 @@ fn main(rt: HostRuntime) -> ExitCode {
     let Some(words) = words_of(&rt) else {
         return ExitCode::from(7);
     };
-    let mut files = FileFolder::new(&rt);
+    let mut files = FileFolder::new(&rt, rt.stderr());
     let Ok(mut store) = FileStore::new(rt.alloc(), MachineDisk::new(&rt), rt.stderr()) else {
         return ExitCode::from(7);
     };
@@ -58,7 +66,7 @@ fn main(rt: HostRuntime) -> ExitCode {
     let Ok(sockets) = TcpSockets::new(rt.alloc(), &rt, rt.stderr()) else {
         return ExitCode::from(7);
     };
-    let Ok(mut wire) = SocketWire::new(rt.alloc(), sockets, IDLE) else {
+    let Ok(mut wire) = SocketWire::new(rt.alloc(), sockets, NoWatch) else {
         return ExitCode::from(7);
     };
     let report = run(
@@ -72,5 +80,8 @@ fn main(rt: HostRuntime) -> ExitCode {
     );
     wire.settle();
     let _ = rt.stderr().write_all(report.text.as_slice());
+    let _ = rt
+        .stderr()
+        .write_all(explained(report.text.as_slice()).as_bytes());
     ExitCode::from(report.status)
 }

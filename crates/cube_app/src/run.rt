@@ -2,15 +2,14 @@
 ghost use Rattle.std.specs.Prelude.{◌≡◌, ◌≢◌, ◌⊎◌, ◌≤◌, ◌+◌, [], true, length, IfOk, IsTrue};
 ghost use Rattle.cube_io.specs.Causes.{Rose};
 ghost use Rattle.cube_io.specs.Seen.{seen};
-ghost use Rattle.cube_io.specs.Told.{OthersStay};
 ghost use Rattle.cube_words.specs.Words.{orders_of as orders_in, Fits};
 ghost use Rattle.cube_opening.specs.Reports.{IsReport, NoRoom, Prints};
-ghost use Rattle.cube_opening.specs.Opening.{AsksOnce, AsksAll, HasAll, IsSteady};
-ghost use Rattle.cube_serving.specs.Starting.{AsksStore};
+ghost use Rattle.cube_opening.specs.Opening.{HasAll, IsSteady};
+ghost use Rattle.cube_serving.specs.Starting.{AsksStore, OnlyJournal};
 ghost use Rattle.cube_app.specs.Runs.{Obeyed, Runs};
 ghost use Rattle.cube_app.specs.Summary.{CheckEnds};
 ghost use Rattle.cube_app.specs.Talks.{SumEnds, SumCompletes, AskEnds, AskCompletes};
-ghost use Rattle.cube_app.specs.TwinFiles.{TwinFilesMakeTwins, TalksAreTheSame};
+ghost use Rattle.cube_app.specs.TwinFiles.{TwinFilesMakeTwins, TwinTalksAreTheSame, TwinLogsAreTheSame};
 ghost use Rattle.cube_app.specs.Texts.{usage_text as usage_words, status_of as status_in, ending_text};
 
 use crate::cells::tell;
@@ -20,7 +19,7 @@ use cube_engine::Engine;
 use cube_io::{Folder, Sink, Source, Store, Wire};
 use cube_model::{NoMemory, Text};
 use cube_opening::{
-    CubeFiles, Guarded, Report, Room, no_room, open_flat, open_guarded, spent_room, with_text,
+    CubeFiles, Report, Room, no_room, open_flat, open_guarded, spent_room, with_text,
 };
 use cube_serving::{open_engine, replay_cube, serve_cube};
 use cube_talk::{Carry, Ending, TalkEnd, converse_by_asks, converse_by_sums};
@@ -28,7 +27,7 @@ use cube_words::{Orders, Usage, orders_of};
 use std::alloc::Global;
 
 const HELP: &[u8] =
-    b"cube sum --facts FILE\n    answers each line of the input by a sum over the file\ncube check --dims FILE --facts FILE --policy FILE\n    says what the files hold\ncube ask --dims FILE --facts FILE --policy FILE --journal FILE [--requests N]\n    answers each line of the input as a query, or as `shape` or `witness CELL`\ncube witness --dims FILE --facts FILE --policy FILE --journal FILE --cell CELL\n    prints the changes that hide a cell\ncube twin --dims FILE --facts FILE --policy FILE --journal FILE --cell CELL\n    prints the fact file of the cube with these changes\ncube serve --dims FILE --facts FILE --policy FILE --journal FILE --address ADDRESS [--requests N]\n    answers asks over HTTP\ncube replay --dims FILE --facts FILE --policy FILE --journal FILE --script FILE [--requests N]\n    plays a script of connections and writes what was sent\ncube demo --number N --size S\n    makes a cube of 20,000 S facts and says how 200 S queries on it are judged\ncube --help\n    prints this text\ncube --version\n    prints the version\n";
+    b"cube sum --facts FILE\n    answers each line of the input by a sum over the file\ncube check --dims FILE --facts FILE --policy FILE\n    says what the files hold\ncube ask --dims FILE --facts FILE --policy FILE --journal FILE [--requests N]\n    answers each line of the input as a query, or as `shape` or `witness CELL`\ncube witness --dims FILE --facts FILE --policy FILE --journal FILE --cell CELL\n    prints the changes that hide a cell\ncube twin --dims FILE --facts FILE --policy FILE --journal FILE --cell CELL\n    prints the fact file of the cube with these changes\ncube serve --dims FILE --facts FILE --policy FILE --journal FILE --address ADDRESS [--requests N] [--idle SECONDS]\n    answers asks over HTTP, until it is stopped; closes a connection that is still for so long\ncube replay --dims FILE --facts FILE --policy FILE --journal FILE --script FILE [--requests N]\n    plays a script of connections and writes what was sent\ncube demo --number N --size S\n    makes a cube of 20,000 S facts and says how 200 S queries on it are judged\ncube --help\n    prints this text\ncube --version\n    prints the version\n--requests N: answers at most N asks, refused ones too, and ends behind them with status 10\n    1 to 16777216; without it 1000000, under serve 16777216. What was answered is in the journal\n--idle SECONDS: 0 to 86400, where 0 is for ever; without it 60\n";
 
 const VERSION: &[u8] = b"cube 0.1.0\n";
 
@@ -126,7 +125,6 @@ fn sum<F: Folder, S: Store, I: Source, O: Sink>(
 ) -> Report
     requires { room ≡ [] }
     ensures answers { SumEnds name.now (seen F.state files.old files.new) (seen I.state input.old input.new) (seen O.state out.old out.new) result }
-    ensures asks { AsksOnce name.now (seen F.state files.old files.new) result }
     ensures ended { result.status ≡ 0 → (I.state input.new).ended ≡ true }
     ensures unreadable { result.status ≡ 5 → (Rose (F.state files.old).faults (F.state files.new).faults × ((I.state input.new).faults ≡ (I.state input.old).faults)) ⊎ (Rose (I.state input.old).faults (I.state input.new).faults × IsSteady (seen F.state files.old files.new)) }
     ensures output { result.status ≡ 6 → Rose (O.state out.old).faults (O.state out.new).faults }
@@ -160,7 +158,6 @@ fn check<F: Folder, O: Sink>(
 ) -> Report
     requires { room ≡ [] }
     ensures checks { CheckEnds cube.now (seen F.state files.old files.new) (seen O.state out.old out.new) result }
-    ensures asks { AsksAll cube.now (seen F.state files.old files.new) result }
     ensures unreadable { result.status ≡ 5 → Rose (F.state files.old).faults (F.state files.new).faults }
     ensures output { result.status ≡ 6 → Rose (O.state out.old).faults (O.state out.new).faults }
     ensures steady { result.status ≢ 5 → IsSteady (seen F.state files.old files.new) }
@@ -206,11 +203,10 @@ fn ask<F: Folder, S: Store, I: Source, O: Sink>(
     requires room { room ≡ [] }
     requires stated { 1 ≤ stated }
     ensures answers { AskEnds cube.now stated (seen F.state files.old files.new) (seen S.state store.old store.new) (seen I.state input.old input.new) (seen O.state out.old out.new) result }
-    ensures asks { AsksAll cube.now (seen F.state files.old files.new) result }
     ensures names { (store.new ≡ store.old) ⊎ AsksStore journal.now (seen S.state store.old store.new) result }
     ensures unkept { result.status ≡ 9 → Rose (S.state store.old).faults (S.state store.new).faults × (result.outcomes ≡ []) }
-    ensures calls { result.status ≡ 9 → IsTrue (S.state store.old).told → (S.state store.new).calls ≤ (S.state store.old).calls + 7 }
-    ensures others { OthersStay 0 (S.state store.old) (S.state store.new) }
+    ensures calls { result.status ≡ 9 → IsTrue (S.state store.old).told → (S.state store.new).calls ≤ (S.state store.old).calls + 11 }
+    ensures others { OnlyJournal (S.state store.old) (S.state store.new) }
     ensures ended { result.status ≡ 0 → (I.state input.new).ended ≡ true }
     ensures unreadable { result.status ≡ 5 → (Rose (F.state files.old).faults (F.state files.new).faults × ((I.state input.new).faults ≡ (I.state input.old).faults)) ⊎ (Rose (I.state input.old).faults (I.state input.new).faults × IsSteady (seen F.state files.old files.new)) }
     ensures output { result.status ≡ 6 → Rose (O.state out.old).faults (O.state out.new).faults }
@@ -225,9 +221,8 @@ fn ask<F: Folder, S: Store, I: Source, O: Sink>(
         Ok(opened) => opened,
         Err(report) => return report,
     };
-    let Guarded { core, policy } = opened.value;
-    let _rules = core.dims();
-    let started = match open_engine(alloc, opened.room, core, policy, journal, stated, store) {
+    let _rules = opened.value.core.dims();
+    let started = match open_engine(alloc, opened.room, opened.value, journal, stated, store) {
         Ok(started) => started,
         Err(report) => return report,
     };
@@ -289,8 +284,9 @@ fn obey<F: Folder, S: Store, I: Source, O: Sink, W: Wire>(
             journal,
             address,
             stated,
+            idle,
         } => serve_cube(
-            alloc, room, &cube, &journal, &address, stated, files, store, wire,
+            alloc, room, &cube, &journal, &address, stated, idle, files, store, wire,
         ),
         Orders::Replay {
             files: cube,
@@ -305,7 +301,7 @@ fn obey<F: Folder, S: Store, I: Source, O: Sink, W: Wire>(
 }
 
 /// All that the program does. It takes the words of the command line and the objects outside, and answers how the run ended.
-#[tactic(auto, using(crate::proofs::Ordered::not_begun, crate::proofs::Ordered::refused_as, crate::proofs::Ordered::run_as, crate::proofs::TwinFiles::twin_files_make_twins, crate::proofs::TwinFiles::talks_are_the_same))]
+#[tactic(auto, using(crate::proofs::Ordered::not_begun, crate::proofs::Ordered::refused_as, crate::proofs::Ordered::run_as, crate::proofs::TwinFiles::twin_files_make_twins))]
 pub fn run<F: Folder, S: Store, I: Source, O: Sink, W: Wire>(
     alloc: Global,
     words: &[Text],
@@ -324,10 +320,11 @@ pub fn run<F: Folder, S: Store, I: Source, O: Sink, W: Wire>(
       wire = seen W.state wire.old wire.new;
     }) result }
 
-    // Files that are the same but for the fact file, which is that of the twin, make the cube with the changes; and what is written of
-    // a talk is determined by the cube.
+    // Files that are the same but for the fact file, which is that of the twin, make the cube with the changes; and over them the same is
+    // written, by `ask` and by `replay`.
     ensures twins { TwinFilesMakeTwins }
-    ensures same { TalksAreTheSame }
+    ensures talks { TwinTalksAreTheSame }
+    ensures logs { TwinLogsAreTheSame }
 {
     let Ok(room) = Room::new(alloc) else {
         return no_room(alloc);

@@ -1,3 +1,4 @@
 mod Appending
 pub mod Outgoing
 mod Paths
+mod Tying

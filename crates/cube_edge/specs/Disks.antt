@@ -2,6 +2,7 @@
 use Rattle.std.specs.Prelude.{◌≡◌, ◌≢◌, ℕ, ◌^◌, ◌==◌, Bool, true, false, IsTrue, List, [], ◌++◌, None, if◌then◌else◌, nat_lt, codes, decimal}
 use Rattle.std.specs.declared.option.Option.{Option}
 use Rattle.cube_io.specs.Seen.{StoreState}
+use Rattle.cube_io.specs.declared.store.TheConstants.{SEAL_LOG}
 use Rattle.cube_io.specs.States.{Log, IsWhole, settled}
 use Rattle.cube_io.specs.Whole.{whole_settled}
 
@@ -28,9 +29,10 @@ pub record WorksAt (path : List ℕ) (old new : DiskState) : Type 0 where
   pub names : new.names ≡ old.names
   pub others : IsTrue old.told → (other : List ℕ) → other ≢ path → new.logs other ≡ old.logs other
 
--- the path of a log: the name of log 0, or that name, a point and the number
+-- the path of a log: the name of log 0; that name and `.seal` of the log of the seal; and of each other log that name, a point and the
+-- number
 abbrev pub path_of : List ℕ → ℕ → List ℕ
-path_of name log = if log == 0 then name else name ++ codes "." ++ decimal log
+path_of name log = if log == 0 then name else (if log == SEAL_LOG then name ++ codes ".seal" else name ++ codes "." ++ decimal log)
 
 -- nothing, all of it on the disk
 abbrev pub no_log : Log

@@ -29,11 +29,28 @@ pub record OnlyOn (c : ℕ) (old new : SocketsState) : Type 0 where
   pub taken : IsTrue old.told → (d : ℕ) → d ≢ c → new.taken d ≡ old.taken d
   pub given : IsTrue old.told → (d : ℕ) → d ≢ c → new.given d ≡ old.given d
 
+-- no byte moved on another connection than c
+pub record Elsewhere (c : ℕ) (old new : SocketsState) : Type 0 where
+  pub taken : (d : ℕ) → d ≢ c → new.taken d ≡ old.taken d
+  pub given : (d : ℕ) → d ≢ c → new.given d ≡ old.given d
+
 -- no byte moved
 pub record MovedNothing (old new : SocketsState) : Type 0 where
   pub told : new.told ≡ old.told
   pub taken : IsTrue old.told → (d : ℕ) → new.taken d ≡ old.taken d
   pub given : IsTrue old.told → (d : ℕ) → new.given d ≡ old.given d
+
+-- connection c was accepted: nothing was taken from it yet, nor was it given anything, and the others are as they were
+pub record Accepted (c : ℕ) (old new : SocketsState) : Type 0 where
+  pub none_taken : new.taken c ≡ []
+  pub none_given : new.given c ≡ []
+  pub others : Elsewhere c old new
+
+-- an accept: of a connection that was there, or no byte moved
+abbrev pub AcceptTells : ℕ → Result Bool Failed → SocketsState → SocketsState → Type 0
+AcceptTells c (Ok true) old new = Accepted c old new
+AcceptTells c (Ok false) old new = MovedNothing old new
+AcceptTells c (Err e) old new = MovedNothing old new
 
 -- a read: the bytes at the front of the buffer, or none
 abbrev pub ReadTells : ℕ → Result (Option ℕ) Gone → List ℕ → SocketsState → SocketsState → Type 0
@@ -55,10 +72,10 @@ abbrev pub FrontGoesOut : Result ℕ Gone → List ℕ → List ℕ → List ℕ
 FrontGoesOut (Ok n) piece old new = (n ≤ length piece) × (new ≡ old ++ take n piece)
 FrontGoesOut (Err e) piece old new = new ≡ old
 
--- a send: all of the piece goes out behind what went before, or after a failure a front of it
-abbrev pub SendGoesOut : Result (Unit {0}) Failed → List ℕ → List ℕ → List ℕ → Type 0
+-- a send: all of the piece goes out behind what went before, or after a failure so many bytes of it
+abbrev pub SendGoesOut : Result (Unit {0}) ℕ → List ℕ → List ℕ → List ℕ → Type 0
 SendGoesOut (Ok u) piece old new = new ≡ old ++ piece
-SendGoesOut (Err e) piece old new = (said : List ℕ) × (unsaid : List ℕ) × (piece ≡ said ++ unsaid) × (new ≡ old ++ said)
+SendGoesOut (Err n) piece old new = new ≡ old ++ take n piece
 
 -- a piece has a byte, and stands in the buffer
 abbrev pub LookFits : Look → List ℕ → Type 0

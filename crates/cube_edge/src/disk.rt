@@ -1,5 +1,5 @@
 // Files by their names, as a store of logs needs them.
-ghost use Rattle.std.specs.Prelude.{◌≡◌, ◌≤◌, ◌<◌, ◌^◌, ℕ, List, Option, Some, drop, length, IsTrue, IfOk, OnOk, OnErr, IsErrOf};
+ghost use Rattle.std.specs.Prelude.{◌≡◌, ◌↔◌, ◌≤◌, ◌<◌, ◌+◌, ◌^◌, ℕ, List, Option, Some, drop, length, IsTrue, IfOk, OnOk, OnErr, IsErrOf};
 ghost use Rattle.cube_io.specs.declared.faults.ReadFault.TheVariants as fault;
 ghost use Rattle.cube_io.specs.States.{IsWhole, Appended, Cut, Synced, shortened, settled};
 ghost use Rattle.cube_io.specs.Told.{AsksFor};
@@ -54,7 +54,9 @@ pub struct Extent {
 
 impl Extent {
     /// Whether a file of this length is as this program left it.
-    pub fn allows(&self, length: u64) -> bool {
+    pub fn allows(&self, length: u64) -> bool
+        ensures { IsTrue result ↔ ((self.now.length ≤ length) × (length ≤ self.now.length + self.now.loose)) }
+    {
         self.length <= length && length - self.length <= self.loose
     }
 }

@@ -1,13 +1,16 @@
 //! The real objects outside the program: standard input and output, the files of the machine, and its connections. Each
 //! counts its errors.
 //! What a reader or a writer tells of its bytes is told by the source or the sink over it, and what a disk tells of its
-//! files by the store over it; the folder, the wire and the machine's disk tell nothing.
+//! files by the store over it. The wire tells what its watch tells, over sockets that tell their bytes. The folder, the
+//! machine's disk and its sockets tell nothing.
 #![tactic(auto)]
 
 mod disk;
 mod folder;
+mod hub;
 mod link;
 mod machine;
+mod mem_watch;
 mod sink;
 mod sockets;
 mod source;
@@ -15,15 +18,18 @@ mod store;
 mod streams;
 mod tcp;
 mod waiting;
+mod watch;
 mod wire;
 
 pub use disk::{Disk, Extent, Trouble};
 pub use folder::FileFolder;
 pub use machine::MachineDisk;
+pub use mem_watch::MemWatch;
 pub use sink::WriterSink;
 pub use sockets::{Gone, Sockets};
 pub use source::ReaderSource;
 pub use store::{FileStore, MAX_PATH};
 pub use streams::hold_streams;
 pub use tcp::TcpSockets;
+pub use watch::{NoWatch, Watch};
 pub use wire::SocketWire;

@@ -1,11 +1,12 @@
 // One connection over sockets.
-ghost use Rattle.std.specs.Prelude.{◌≡◌, List, ℕ, ◌≢◌, ◌<◌, ◌≤◌, ◌-◌, ◌++◌, [], length, true, false, IsTrue, IfOk, None};
-ghost use Rattle.cube_edge.specs.Sockets.{OnlyOn, MovedNothing, LookFits, LookTells, FrontGoesOut, SendGoesOut, outgoing};
+ghost use Rattle.std.specs.Prelude.{◌≡◌, List, ℕ, ◌≢◌, ◌<◌, ◌≤◌, ◌-◌, ◌++◌, [], length, true, false, IsTrue, IfOk, IfErr, Some, None, unwrap_or};
+ghost use Rattle.cube_edge.specs.Flows.{TurnTies, is_there, is_open};
+ghost use Rattle.cube_edge.specs.Links.{patience, is_late, closed_behind};
+ghost use Rattle.cube_edge.specs.Sockets.{OnlyOn, Elsewhere, MovedNothing, LookFits, LookTells, FrontGoesOut, SendGoesOut, outgoing};
 
 use crate::sink::behind;
 use crate::sockets::{Gone, Sockets};
 use crate::waiting::Waiting;
-use cube_io::Failed;
 use std::alloc::Global;
 
 /// How many bytes are dropped that come behind the last reply, before a connection is closed.
@@ -13,6 +14,9 @@ const MAX_DROPPED: usize = 1_048_576;
 
 /// How long they may come, in milliseconds.
 const DROPPING: u64 = 2_000;
+
+/// So many bytes may wait that nobody tried to send yet.
+const MAX_HELD: usize = 65_536;
 
 /// How far a connection is.
 #[derive(Clone, Copy, Debug, PartialEq, Eq)]
@@ -43,7 +47,8 @@ pub enum Look {
 pub struct Link {
     pub stage: Stage,
     pub waiting: Waiting,
-    /// Since when no byte is known to have moved, in milliseconds; none where one moved since the last look.
+    /// Since when it is known to be still, in milliseconds: nothing was sent on it, and it took nothing. None where that is not
+    /// so since the last look.
     pub still_since: Option<u64>,
     dropped: usize,
 }
@@ -63,9 +68,18 @@ impl Link {
         }
     }
 
-    /// Whether no byte moved for too long. No time is too long where `idle` is 0 milliseconds.
+    /// Whether it is open.
+    pub fn is_open(&self) -> bool
+        ensures { result ≡ is_open self.now.stage }
+    {
+        self.stage == Stage::Open
+    }
+
+    /// Whether it was still for too long. No time is too long where `idle` is 0 milliseconds. Where it was sent something, or
+    /// took some of it, since the last look, the time counts from now on.
     pub fn is_late(&mut self, now: u64, idle: u64) -> bool
-        ensures moved { self.old.still_since ≡ None → result ≡ false }
+        ensures late { result ≡ is_late self.old.still_since now (patience self.old.stage idle) }
+        ensures since { self.new.still_since ≡ Some (unwrap_or self.old.still_since now) }
         ensures waiting { self.new.waiting ≡ self.old.waiting }
         ensures stage { self.new.stage ≡ self.old.stage }
     {
@@ -105,8 +119,39 @@ impl Link {
         }
     }
 
-    /// Sends a piece. What the connection does not take at once waits.
-    pub fn send<S: Sockets>(&mut self, sockets: &mut S, c: u32, piece: &[u8]) -> Result<(), Failed>
+    // Sends a piece now. What the connection does not take at once waits.
+    fn send_now<S: Sockets>(&mut self, sockets: &mut S, c: u32, piece: &[u8]) -> Result<(), usize>
+        ensures fits { IfErr result (λ count. count ≤ length piece.now) }
+        ensures only { OnlyOn c (S.state sockets.old) (S.state sockets.new) }
+        ensures goes { IsTrue (S.state sockets.old).told → SendGoesOut result piece.now
+            (outgoing c (S.state sockets.old) self.old.waiting) (outgoing c (S.state sockets.new) self.new.waiting) }
+        ensures taken { IsTrue (S.state sockets.old).told → (S.state sockets.new).taken c ≡ (S.state sockets.old).taken c }
+        ensures stage { self.new.stage ≡ self.old.stage }
+    {
+        let count = match self.write_first(sockets, c, piece) {
+            Ok(count) => count,
+            Err(Gone) => return Err(0),
+        };
+        match self.waiting.add(behind(piece, count)) {
+            Ok(()) => Ok(()),
+            Err(_) => Err(count),
+        }
+    }
+
+    // Holds a short piece back, behind what waits.
+    fn hold(&mut self, piece: &[u8]) -> bool
+        ensures held { IsTrue result → self.new.waiting ≡ self.old.waiting ++ piece.now }
+        ensures left { result ≡ false → self.new.waiting ≡ self.old.waiting }
+        ensures stage { self.new.stage ≡ self.old.stage }
+    {
+        let len = self.waiting.as_slice().len();
+        len < MAX_HELD && piece.len() < MAX_HELD - len && self.waiting.add(piece).is_ok()
+    }
+
+    /// Sends a piece. A short one waits for what is sent next, until `push` writes both. A send that fails says how many bytes
+    /// of it went out.
+    pub fn send<S: Sockets>(&mut self, sockets: &mut S, c: u32, piece: &[u8]) -> Result<(), usize>
+        ensures fits { IfErr result (λ count. count ≤ length piece.now) }
         ensures only { OnlyOn c (S.state sockets.old) (S.state sockets.new) }
         ensures goes { IsTrue (S.state sockets.old).told → SendGoesOut result piece.now
             (outgoing c (S.state sockets.old) self.old.waiting) (outgoing c (S.state sockets.new) self.new.waiting) }
@@ -114,18 +159,14 @@ impl Link {
         ensures stage { self.new.stage ≡ self.old.stage }
     {
         self.still_since = None;
-        let count = match self.write_first(sockets, c, piece) {
-            Ok(count) => count,
-            Err(Gone) => return Err(Failed),
-        };
-        match self.waiting.add(behind(piece, count)) {
-            Ok(()) => Ok(()),
-            Err(_) => Err(Failed),
+        if self.hold(piece) {
+            return Ok(());
         }
+        self.send_now(sockets, c, piece)
     }
 
-    // Writes of what waits as much as the connection takes.
-    fn push<S: Sockets>(&mut self, sockets: &mut S, c: u32) -> Result<(), Gone>
+    /// Writes of what waits as much as the connection takes.
+    pub fn push<S: Sockets>(&mut self, sockets: &mut S, c: u32) -> Result<(), Gone>
         ensures only { OnlyOn c (S.state sockets.old) (S.state sockets.new) }
         ensures goes { IsTrue (S.state sockets.old).told
             → outgoing c (S.state sockets.new) self.new.waiting ≡ outgoing c (S.state sockets.old) self.old.waiting }
@@ -162,11 +203,7 @@ impl Link {
         if !self.waiting.is_empty() {
             return Look::Quiet;
         }
-        let look = read(sockets, c, buf);
-        if look != Look::Quiet {
-            self.still_since = None;
-        }
-        look
+        read(sockets, c, buf)
     }
 
     /// Closes it behind what waits.
@@ -174,6 +211,7 @@ impl Link {
         ensures faults { (S.state sockets.new).faults ≡ (S.state sockets.old).faults }
         ensures quiet { MovedNothing (S.state sockets.old) (S.state sockets.new) }
         ensures waiting { self.new.waiting ≡ self.old.waiting }
+        ensures stage { self.new.stage ≡ closed_behind self.old.waiting }
     {
         self.stage = Stage::Closing;
         if self.waiting.is_empty() {
@@ -190,7 +228,8 @@ impl Link {
         ensures only { OnlyOn c (S.state sockets.old) (S.state sockets.new) }
         ensures goes { IsTrue (S.state sockets.old).told
             → outgoing c (S.state sockets.new) self.new.waiting ≡ outgoing c (S.state sockets.old) self.old.waiting }
-        ensures fits { LookFits result buf.new }
+        ensures none { (bytes : List ℕ) → LookFits result bytes }
+        ensures open { is_open self.old.stage ≡ false → is_open self.new.stage ≡ false }
     {
         if self.push(sockets, c).is_err() {
             return Look::Gone;
@@ -200,8 +239,8 @@ impl Link {
         }
         match read(sockets, c, buf) {
             Look::Piece(count) => self.drop_bytes(count),
-            Look::Gone if !self.waiting.is_empty() => Look::Quiet,
-            look => look,
+            Look::Gone if self.waiting.is_empty() => Look::Gone,
+            Look::Gone | Look::Quiet => Look::Quiet,
         }
     }
 
@@ -213,6 +252,11 @@ impl Link {
         ensures fits { LookFits result buf.new }
         ensures goes { IsTrue (S.state sockets.old).told
             → outgoing c (S.state sockets.new) self.new.waiting ≡ outgoing c (S.state sockets.old) self.old.waiting }
+        ensures hears { IsTrue (S.state sockets.old).told → is_open self.old.stage ≡ true
+            → LookTells c result buf.new (S.state sockets.old) (S.state sockets.new) }
+        ensures none { is_open self.old.stage ≡ false → (bytes : List ℕ) → LookFits result bytes }
+        ensures there { is_there self.old.stage ≡ false → is_there self.new.stage ≡ false }
+        ensures open { is_open self.new.stage ≡ is_open self.old.stage }
     {
         match self.stage {
             Stage::Free => Look::Quiet,
@@ -221,9 +265,38 @@ impl Link {
         }
     }
 
+    /// Looks at it, and lets it go where it is no more or was still for too long.
+    pub fn turn<S: Sockets>(
+        &mut self,
+        alloc: Global,
+        sockets: &mut S,
+        c: u32,
+        buf: &mut [u8],
+        now: u64,
+        idle: u64,
+    ) -> Look
+        requires { 0 < length buf.old }
+        ensures size { length buf.new ≡ length buf.old }
+        ensures fits { LookFits result buf.new }
+        ensures faults { (S.state sockets.new).faults ≡ (S.state sockets.old).faults }
+        ensures told { (S.state sockets.new).told ≡ (S.state sockets.old).told }
+        ensures others { IsTrue (S.state sockets.old).told → Elsewhere c (S.state sockets.old) (S.state sockets.new) }
+        ensures ties { IsTrue (S.state sockets.old).told → TurnTies c result buf.new (S.state sockets.old) self.old (S.state sockets.new) self.new }
+    {
+        match self.visit(sockets, c, buf) {
+            Look::Piece(count) => return Look::Piece(count),
+            Look::Quiet if !self.is_late(now, idle) => return Look::Quiet,
+            Look::Quiet | Look::Gone => {}
+        }
+        *self = Link::new(alloc, Stage::Free);
+        sockets.close(c);
+        Look::Gone
+    }
+
     // Drops bytes that came, until they are too many.
     fn drop_bytes(&mut self, count: usize) -> Look
         ensures waiting { self.new.waiting ≡ self.old.waiting }
+        ensures stage { self.new.stage ≡ self.old.stage }
         ensures none { (buf : List ℕ) → LookFits result buf }
     {
         self.dropped = self.dropped.saturating_add(count);

@@ -90,7 +90,7 @@ fn read_log<F: Read + Seek>(file: &mut F, alloc: Global) -> Result<Text, ReadFau
     if file.seek(SeekFrom::Start(0)).is_err() {
         return Err(ReadFault::Failed);
     }
-    read_rest(file, alloc, MAX_LOG)
+    read_rest(file, alloc, MAX_LOG, &mut None)
 }
 
 impl<R: Files<File = File> + AllocGlobal> Disk for MachineDisk<'_, R> {

@@ -1,7 +1,7 @@
 // Sockets by number: what comes on them and what they take, without waiting for any of them.
 ghost use Rattle.std.specs.Prelude.{◌≡◌, ◌<◌, ◌≤◌, length, IsTrue, IfOk, OnOk, IfSome};
 ghost use Rattle.cube_io.specs.Causes.{HasCause};
-ghost use Rattle.cube_edge.specs.Sockets.{SocketsState, OnlyOn, MovedNothing, ReadTells, WriteTells};
+ghost use Rattle.cube_edge.specs.Sockets.{SocketsState, OnlyOn, MovedNothing, AcceptTells, ReadTells, WriteTells};
 
 use cube_io::Failed;
 use cube_model::Text;
@@ -24,10 +24,11 @@ pub trait Sockets {
     /// Accepts the next connection under a number that no other one has. Tells whether one was there and could be taken.
     fn accept(&mut self, c: u32) -> Result<bool, Failed>
         ensures cause { HasCause (state self.old).faults (state self.new).faults result }
-        ensures told { (state self.new).told ≡ (state self.old).told };
+        ensures told { (state self.new).told ≡ (state self.old).told }
+        ensures bytes { IsTrue (state self.old).told → AcceptTells c result (state self.old) (state self.new) };
 
     /// Waits until a connection can be accepted, read or written, for at most so many milliseconds. Tells the time in
-    /// milliseconds, from any start.
+    /// milliseconds since it began to listen.
     fn wait(&mut self, millis: u64) -> Result<u64, Failed>
         ensures cause { HasCause (state self.old).faults (state self.new).faults result }
         ensures quiet { MovedNothing (state self.old) (state self.new) };

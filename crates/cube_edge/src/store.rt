@@ -8,9 +8,9 @@ ghost use Rattle.cube_edge.specs.Disks.{Rests, WorksAt, path_of, store_over, log
 
 use crate::disk::{Disk, Extent, Trouble};
 use crate::sink::behind;
-use cube_io::{Failed, ReadFault, Store};
+use cube_io::{Failed, ReadFault, SEAL_LOG, Store};
 use cube_model::{NoMemory, Text};
-use std::alloc::Global;
+use std::alloc::{AllocError, Global};
 use std::collections::BTreeMap;
 use std::io::{ErrorKind, Write};
 use std::marker::Model;
@@ -94,10 +94,36 @@ impl<D: Disk> LogFile<D> {
     }
 }
 
+/// Puts behind the name of log 0 what makes it the path of a log.
+fn put_ending(path: &mut String, log: u32) -> Result<(), AllocError>
+    ensures { OnOk result (string_bytes path.new ≡ path_of (string_bytes path.old) log) }
+{
+    match log {
+        0 => Ok(()),
+        SEAL_LOG => write!(path, ".seal"),
+        _ => write!(path, ".{log}"),
+    }
+}
+
 /// Says in the notes why the file of a path is not worked on.
 fn note<N: Write>(notes: &mut N, path: &str, trouble: &Trouble) -> Failed {
     let _ = writeln!(notes, "{path}: {trouble}");
     Failed
+}
+
+/// Says in the notes how many entries stand in a log that was read, on the lines behind its first; of a seal that it is new.
+fn note_entries<N: Write>(notes: &mut N, path: &str, log: u32, bytes: &[u8]) {
+    let mut lines = 0u64;
+    for byte in bytes {
+        if *byte == b'\n' {
+            lines = lines.saturating_add(1);
+        }
+    }
+    if lines == 0 {
+        let _ = writeln!(notes, "{path}: new");
+    } else if log != SEAL_LOG {
+        let _ = writeln!(notes, "{path}: entries {}", lines.saturating_sub(1));
+    }
 }
 
 /// The open files of the logs, each by its number.
@@ -143,10 +169,7 @@ impl<D: Disk + Drop, N: Write + Drop> LogFiles<D, N> {
         if self.path.push_str(&self.name).is_err() {
             return Err(Failed);
         }
-        if log > 0 && write!(self.path, ".{log}").is_err() {
-            return Err(Failed);
-        }
-        if self.path.len() > MAX_PATH {
+        if put_ending(&mut self.path, log).is_err() || self.path.len() > MAX_PATH {
             return Err(Failed);
         }
         Ok(())
@@ -185,11 +208,18 @@ impl<D: Disk + Drop, N: Write + Drop> LogFiles<D, N> {
             return Err(ReadFault::Failed);
         };
         match self.disk.look(&file.file, self.path.as_str(), file.left) {
-            Ok(()) => self.disk.read(&mut file.file, alloc),
+            Ok(()) => {}
             Err(trouble) => {
                 note(&mut self.notes, self.path.as_str(), &trouble);
-                Err(ReadFault::Failed)
+                return Err(ReadFault::Failed);
             }
+        }
+        match self.disk.read(&mut file.file, alloc) {
+            Ok(text) => {
+                note_entries(&mut self.notes, self.path.as_str(), log, text.as_slice());
+                Ok(text)
+            }
+            Err(fault) => Err(fault),
         }
     }
 
@@ -245,11 +275,12 @@ impl<D: Disk + Drop, N: Write + Drop> LogFiles<D, N> {
     }
 }
 
-/// Logs in the files of a disk: log 0 in the file that `attach` names, log k in that name followed by `.k`. A file that
-/// isn't there is made. It is opened and locked at the first call on its log, before anything is read, and stays so until
+/// Logs in the files of a disk: log 0 in the file that `attach` names, the log of the seal in that name followed by `.seal`,
+/// and each other log k in that name followed by `.k`. A file that isn't there is made. It is opened and locked at the first call on its log, before anything is read, and stays so until
 /// the store is dropped or the program ends, however it ends. A file that another program has locked, that was moved or
 /// deleted, or that another program wrote to, is not worked on: nothing is read of it, written to it or cut from it. Its
-/// notes say why, in a line. Where the disk tells its files, it tells the logs.
+/// notes say why, in a line, and of a log that is read whether it is new or how many entries it has. Where the disk tells
+/// its files, it tells the logs.
 #[derive(Drop)]
 pub struct FileStore<D: Disk + Drop, N: Write + Drop> {
     files: LogFiles<D, N>,

@@ -3,8 +3,8 @@ ghost use Rattle.std.specs.Prelude.{◌≡◌, ◌<◌, ◌≤◌, length, IfOk,
 ghost use Rattle.cube_io.specs.Causes.{Rose};
 ghost use Rattle.cube_edge.specs.Sockets.{silent_sockets};
 
+use crate::hub::MAX_LINKS;
 use crate::sockets::{Gone, Sockets};
-use crate::wire::MAX_LINKS;
 use cube_io::Failed;
 use cube_model::{NoMemory, Text};
 use mio::event::Event;
@@ -60,6 +60,8 @@ pub struct TcpSockets<'a, R: Net + Clock, N: Write + Drop> {
     events: Events,
     /// Whether a call since the last wait left something to be done that no event will tell of.
     is_more: bool,
+    /// When it began to listen.
+    begun: u64,
     now: u64,
     /// When connections were last tried that took no more.
     tried: u64,
@@ -240,6 +242,7 @@ impl<'a, R: Net + Clock, N: Write + Drop> TcpSockets<'a, R, N> {
             streams: make_streams(alloc)?,
             events: Events::with_capacity(alloc, MAX_LINKS)?,
             is_more: false,
+            begun: 0,
             now: 0,
             tried: 0,
             faults: 0,
@@ -296,7 +299,7 @@ impl<'a, R: Net + Clock, N: Write + Drop> TcpSockets<'a, R, N> {
         for event in &self.events {
             mark(door, &mut self.streams, event);
         }
-        self.now = millis_of(self.rt.monotonic()?);
+        self.now = millis_of(self.rt.monotonic()?).saturating_sub(self.begun);
         if self.now.saturating_sub(self.tried) >= TRYING {
             self.tried = self.now;
             try_all(&mut self.streams);
@@ -312,6 +315,9 @@ impl<R: Net + Clock, N: Write + Drop> Sockets for TcpSockets<'_, R, N> {
         let address = address_of(address);
         match open(self.rt, address) {
             Ok(door) => {
+                if let Ok(time) = self.rt.monotonic() {
+                    self.begun = millis_of(time);
+                }
                 self.note_listening(&door);
                 self.door = Some(door);
                 Ok(())

@@ -1,18 +1,16 @@
 // The wire over sockets.
-ghost use Rattle.std.specs.Prelude.{◌≡◌, ◌<◌, length, vec_len, IfOk, IfSome};
+ghost use Rattle.std.specs.Prelude.{◌≡◌, ◌<◌, [], length, IsTrue, IfOk, IfSome};
 ghost use Rattle.cube_io.specs.Causes.{HasCause};
-ghost use Rattle.cube_io.specs.Told.{silent_wire};
 ghost use Rattle.cube_io.specs.Wires.{FitsBuffer};
-ghost use Rattle.cube_edge.specs.Sockets.{OnlyOn};
+ghost use Rattle.cube_edge.specs.Flows.{AreTied};
+ghost use Rattle.cube_edge.specs.Watches.{NotesNext, wire_over};
 
-use crate::link::{Link, Look, Stage};
+use crate::hub::{Hub, MAX_LINKS};
 use crate::sockets::Sockets;
+use crate::watch::Watch;
 use cube_io::{Event, Failed, Wire};
 use cube_model::{NoMemory, Text};
 use std::alloc::Global;
-
-/// Room for connections: 64 that are open, and as many that are told that there are too many or that are being closed.
-pub(crate) const MAX_LINKS: usize = 128;
 
 /// How long is waited at once, in milliseconds. So exact are the times after which a connection is closed, and so long an
 /// accept is put off that cannot be done now.
@@ -21,180 +19,167 @@ const TICK: u64 = 250;
 /// How long the last replies may take when the run ends, in milliseconds.
 const SETTLING: u64 = 2_000;
 
-/// The connections of sockets, side by side in one thread. It tells no content.
+/// The connections of sockets, side by side in one thread. Its watch is told of each event, send and close, and it tells what
+/// the watch tells. One that tells stands over sockets that tell their bytes, and then these are at any time the same: which
+/// connections are open by the log, and which are; of each that is there, what went out by the log since it was opened, and what
+/// its socket was given, followed by what waits; and while it is open, what came by the log, and what was taken from its socket.
 ///
 /// A number belongs to one open connection, and another one gets it only once that one was closed. What a connection does not
 /// take of a reply waits, and nothing is read of it meanwhile; the others do not wait for it. A connection whose read or write
-/// fails counts as closed by the other side. The wire has no end.
+/// fails counts as closed by the other side, and one that for too long was sent nothing and took nothing is closed. The wire has
+/// no end. Where the watch has no room for what is to come, `next`, `listen` and `send` fail.
 #[derive(Drop)]
-pub struct SocketWire<S: Sockets + Drop> {
-    alloc: Global,
-    sockets: S,
-    links: Vec<Link>,
-    turn: usize,
-    now: u64,
-    idle: u64,
+pub struct SocketWire<S: Sockets + Drop, N: Watch + Drop> {
+    hub: Hub<S>,
+    watch: N,
     send_faults: u64,
-    ghost room: { vec_len links ≡ 128 },
+    ghost tells: { IsTrue (N.state watch).told → IsTrue (S.state hub.sockets).told },
+    ghost tied: { IsTrue (N.state watch).told → AreTied (S.state hub.sockets) (N.state watch).log hub.links.items },
 }
 
-// Room for connections.
-fn make_links(alloc: Global) -> Result<Vec<Link>, NoMemory>
-    ensures { IfOk result (λ links. vec_len links ≡ 128) }
-{
-    let mut links = Vec::with_capacity(alloc, MAX_LINKS)?;
-    for _place in 0..MAX_LINKS {
-        links.push_reserved(Link::new(alloc, Stage::Free));
-    }
-    Ok(links)
-}
-
-// The first number that no connection has.
-fn free_number(links: &[Link]) -> Option<usize>
-    ensures { IfSome result (λ place. place < length links.now) }
-{
-    links.iter().position(|link| link.stage == Stage::Free)
-}
-
-impl<S: Sockets + Drop> SocketWire<S> {
-    /// A wire that does not listen yet. It closes a connection that neither sends nor takes a byte for so many seconds; none
-    /// where they are 0.
-    pub fn new(alloc: Global, sockets: S, idle: u32) -> Result<Self, NoMemory> {
+impl<S: Sockets + Drop, N: Watch + Drop> SocketWire<S, N> {
+    /// A wire that does not listen yet. A watch that tells was told of nothing yet.
+    pub fn new(alloc: Global, sockets: S, watch: N) -> Result<Self, NoMemory>
+        requires tells { IsTrue (N.state watch).told → IsTrue (S.state sockets).told }
+        requires fresh { IsTrue (N.state watch).told → (N.state watch).log ≡ [] }
+        ensures { IfOk result (λ wire. ⟦<SocketWire<S, N> as Wire>⟧.state wire ≡ wire_over (S.state sockets) (N.state watch) 0) }
+    {
         Ok(SocketWire {
-            alloc,
-            sockets,
-            links: make_links(alloc)?,
-            turn: 0,
-            now: 0,
-            idle: u64::from(idle) * 1_000,
+            hub: Hub::new(alloc, sockets)?,
+            watch,
             send_faults: 0,
         })
+    }
+
+    /// The sockets that it stands over.
+    pub fn sockets(&self) -> &S
+        ensures { result.now ≡ self.now.hub.sockets }
+    {
+        &self.hub.sockets
+    }
+
+    /// Its watch.
+    pub fn watch(&self) -> &N
+        ensures { result.now ≡ self.now.watch }
+    {
+        &self.watch
     }
 
     /// Closes each connection behind what waits, and waits until they are closed, for at most two seconds.
     pub fn settle(&mut self) {
         let mut buf = [0u8; 4_096];
         for c in 0..MAX_LINKS {
-            self.close(c as u32);
+            if self.hub.is_open(c) {
+                self.close(c as u32);
+            }
         }
-        let Ok(start) = self.sockets.wait(0) else {
+        if self.wait(0).is_err() {
             return;
-        };
+        }
+        let start = self.hub.now;
         'waits: for _ in 0..u64::MAX {
-            let _ = self.pass(&mut buf);
-            if self.is_settled() || self.now.saturating_sub(start) >= SETTLING {
+            if !self.watch.takes(buf.len()) {
                 return;
             }
-            match self.sockets.wait(TICK) {
-                Ok(now) => self.now = now,
-                Err(_) => return,
+            self.pass(&mut buf);
+            if self.hub.is_settled() || self.hub.now.saturating_sub(start) >= SETTLING {
+                return;
+            }
+            if self.wait(TICK).is_err() {
+                return;
             }
         }
     }
 
-    // Whether there is no connection.
-    fn is_settled(&self) -> bool {
-        self.links.iter().all(|link| link.stage == Stage::Free)
-    }
-
-    // Looks at a connection, and lets it go where it is no more or was still for too long.
-    fn visit(&mut self, place: usize, buf: &mut [u8]) -> Option<Event>
-        requires place { place < 128 }
+    // Looks at the connections whose turn it is, up to one of which there is something to say. The watch is told of it.
+    fn pass(&mut self, buf: &mut [u8])
         requires buf { 0 < length buf.old }
+        requires room { length buf.old < (N.state self.old.watch).room }
         ensures size { length buf.new ≡ length buf.old }
-        ensures fits { IfSome result (λ event. FitsBuffer event buf.new) }
-        ensures faults { (S.state self.new.sockets).faults ≡ (S.state self.old.sockets).faults }
-        ensures sends { self.new.send_faults ≡ self.old.send_faults }
     {
-        let c = place as u32;
-        let link = &mut self.links[place];
-        let was_open = link.stage == Stage::Open;
-        match link.visit(&mut self.sockets, c, buf) {
-            Look::Piece(count) => return Some(Event::Piece(c, count)),
-            Look::Quiet if !link.is_late(self.now, self.idle) => return None,
-            Look::Quiet | Look::Gone => {}
-        }
-        self.links[place] = Link::new(self.alloc, Stage::Free);
-        self.sockets.close(c);
-        if was_open {
-            Some(Event::Closed(c))
-        } else {
-            None
-        }
-    }
-
-    // Looks at the connections whose turn it is, up to one of which there is something to say.
-    fn pass(&mut self, buf: &mut [u8]) -> Option<Event>
-        requires { 0 < length buf.old }
-        ensures size { length buf.new ≡ length buf.old }
-        ensures fits { IfSome result (λ event. FitsBuffer event buf.new) }
-        ensures faults { (S.state self.new.sockets).faults ≡ (S.state self.old.sockets).faults }
-        ensures sends { self.new.send_faults ≡ self.old.send_faults }
-    {
-        'links: for place in self.turn..MAX_LINKS {
-            self.turn = place + 1;
-            let event = self.visit(place, buf);
-            if event.is_some() {
-                return event;
-            }
-        }
-        self.turn = 0;
-        None
-    }
-
-    // Accepts a connection, where one is there and there is a number for it.
-    fn admit(&mut self) -> Result<Option<u32>, Failed>
-        ensures cause { HasCause (S.state self.old.sockets).faults (S.state self.new.sockets).faults result }
-        ensures sends { self.new.send_faults ≡ self.old.send_faults }
-    {
-        let Some(place) = free_number(&self.links) else {
-            return Ok(None);
+        let Some(event) = self.hub.pass(buf) else {
+            return;
         };
-        let c = place as u32;
-        if !self.sockets.accept(c)? {
-            return Ok(None);
+        self.watch.hear(event, buf);
+    }
+
+    // Waits for something to do.
+    fn wait(&mut self, millis: u64) -> Result<(), Failed>
+        ensures cause { HasCause (S.state self.old.hub.sockets).faults (S.state self.new.hub.sockets).faults result }
+        ensures sends { self.new.send_faults ≡ self.old.send_faults }
+        ensures quiet { N.state self.new.watch ≡ N.state self.old.watch }
+    {
+        self.hub.wait(millis)
+    }
+
+    // The next event, where there is one now. The watch is told of it.
+    fn find(&mut self, buf: &mut [u8]) -> Result<Option<Event>, Failed>
+        requires buf { 0 < length buf.old }
+        requires room { length buf.old < (N.state self.old.watch).room }
+        ensures size { length buf.new ≡ length buf.old }
+        ensures fits { IfOk result (λ found. IfSome found (λ event. FitsBuffer event buf.new)) }
+        ensures cause { HasCause (S.state self.old.hub.sockets).faults (S.state self.new.hub.sockets).faults result }
+        ensures faults { (N.state self.new.watch).faults ≡ (N.state self.old.watch).faults }
+        ensures sends { self.new.send_faults ≡ self.old.send_faults }
+        ensures notes { NotesNext result buf.new (N.state self.old.watch) (N.state self.new.watch) }
+    {
+        match self.hub.find(buf) {
+            Ok(Some(event)) => {
+                self.watch.hear(event, buf);
+                Ok(Some(event))
+            }
+            Ok(None) => Ok(None),
+            Err(Failed) => Err(Failed),
         }
-        self.links[place] = Link::new(self.alloc, Stage::Open);
-        Ok(Some(c))
     }
 }
 
-impl<S: Sockets + Drop> Wire for SocketWire<S> {
-    ghost state = { λ w. silent_wire (S.state w.sockets).faults w.send_faults };
+impl<S: Sockets + Drop, N: Watch + Drop> Wire for SocketWire<S, N> {
+    ghost state = { λ w. wire_over (S.state w.hub.sockets) (N.state w.watch) w.send_faults };
 
-    fn listen(&mut self, address: &Text) -> Result<(), Failed> {
-        self.sockets.listen(address)
+    fn listen(&mut self, address: &Text, idle: u32) -> Result<(), Failed> {
+        match self.watch.listen(address) {
+            Ok(()) => self.hub.listen(address, idle),
+            Err(Failed) => Err(Failed),
+        }
     }
 
     fn next(&mut self, buf: &mut [u8]) -> Result<Event, Failed> {
+        match self.watch.expect_event(buf.len()) {
+            Ok(()) => {}
+            Err(Failed) => return Err(Failed),
+        }
         'waits: for _ in 0..u64::MAX {
-            if let Some(event) = self.pass(buf) {
+            if let Some(event) = self.find(buf)? {
                 return Ok(event);
             }
-            if let Some(c) = self.admit()? {
-                return Ok(Event::Opened(c));
-            }
-            self.now = self.sockets.wait(TICK)?;
+            self.wait(TICK)?;
         }
+        self.watch.hear(Event::End, buf);
         Ok(Event::End)
     }
 
     fn send(&mut self, c: u32, piece: &[u8]) -> Result<(), Failed> {
-        let sent = match self.links.get_mut(c as usize) {
-            Some(link) if link.stage == Stage::Open => link.send(&mut self.sockets, c, piece),
-            _ => Err(Failed),
-        };
-        if sent.is_err() {
+        if !self.watch.takes(piece.len()) {
+            self.watch.torn(c, b"");
             self.send_faults = self.send_faults.saturating_add(1);
+            return Err(Failed);
         }
-        sent
+        match self.hub.send(c, piece) {
+            Ok(()) => {
+                self.watch.sent(c, piece);
+                Ok(())
+            }
+            Err(count) => {
+                self.watch.torn(c, &piece[..count]);
+                self.send_faults = self.send_faults.saturating_add(1);
+                Err(Failed)
+            }
+        }
     }
 
     fn close(&mut self, c: u32) {
-        if let Some(link) = self.links.get_mut(c as usize) {
-            if link.stage == Stage::Open {
-                link.close(&mut self.sockets, c);
-            }
-        }
+        self.hub.close(c);
+        self.watch.shut(c);
     }
 }

@@ -3,9 +3,13 @@ use Rattle.std.specs.Prelude.{◌≡◌, ℕ, ◌+◌, ◌-◌, ◌^◌, ◌≤�
 use Rattle.cube_io.specs.declared.faults.ReadFault.{ReadFault}
 use Rattle.cube_io.specs.declared.faults.ReadFault.TheVariants.{Failed, TooLong, NoMemory}
 
--- the count rose between these two; one that stands at the end of its type is taken as risen
+-- the count rose by so many or more between these two, up to the end of its type, where it stays
+abbrev pub RoseBy : ℕ → ℕ → ℕ → Type 0
+RoseBy many before now = min (before + many) (2 ^ 64 - 1) ≤ now
+
+-- it rose
 abbrev pub Rose : ℕ → ℕ → Type 0
-Rose before now = min (before + 1) (2 ^ 64 - 1) ≤ now
+Rose before now = RoseBy 1 before now
 
 -- a call that failed was counted, and one that went well left the count as it was
 pub record HasCause {T E : Type 0} (before now : ℕ) (result : Result T E) : Type 0 where

@@ -1,5 +1,5 @@
 -- Desks: what a server answers for, and what it does with an ask.
-use Rattle.std.specs.Prelude.{◌≡◌, ◌≢◌, ℕ, ◌≤◌, IsTrue, List, [], ◌∷◌, ◌++◌}
+use Rattle.std.specs.Prelude.{◌≡◌, ◌≢◌, ℕ, ◌≤◌, Bool, true, false, IsTrue, List, [], ◌∷◌, ◌++◌, count_by}
 use Rattle.cube_model.specs.declared.ask.Ask.{Ask}
 use Rattle.cube_model.specs.declared.outcome.Outcome.{Outcome}
 use Rattle.cube_model.specs.declared.outcome.Outcome.TheVariants.{Given, JournalFault, NoMemory}
@@ -20,6 +20,16 @@ pub record Manner : Type 0 where
 pub record IsConstant (m : Manner) : Type 0 where
   pub fault : (rooms : List Room) (ask : Ask) → (m.reply rooms ask JournalFault ≡ Fixed constant.JournalFault) × (m.next rooms ask JournalFault ≡ rooms)
   pub memory : (rooms : List Room) (ask : Ask) → (m.reply rooms ask NoMemory ≡ Fixed constant.NoMemory) × (m.next rooms ask NoMemory ≡ rooms)
+
+-- the journal failed for the ask
+abbrev pub is_fault : Outcome → Bool
+is_fault Given = false
+is_fault JournalFault = true
+is_fault NoMemory = false
+
+-- how often it did
+abbrev pub faults_in : List Outcome → ℕ
+faults_in outcomes = count_by is_fault outcomes
 
 -- An ask got one outcome, and the reply and the rooms of it. The journal failed only where the ask was to be kept, and where the
 -- store's count of faults rose.

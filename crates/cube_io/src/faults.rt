@@ -13,7 +13,7 @@ pub struct Failed;
 pub enum ReadFault {
     /// It isn't there or can't be read; this was counted.
     Failed,
-    /// It has more bytes than are read: `MAX_FILE` of a file, `MAX_LOG` of a log.
+    /// It has more bytes than are read: `MAX_FILE` of a file, 2^28 of a log.
     TooLong,
     /// There was no memory for it.
     NoMemory,

@@ -28,5 +28,5 @@ pub use scroll::{Note, Scroll};
 pub use sink::{MemSink, Sink};
 pub use source::{MemSource, Source};
 pub use stop::StopStore;
-pub use store::Store;
+pub use store::{SEAL_LOG, Store};
 pub use wire::{Event, Wire};

@@ -137,7 +137,7 @@ fn play_next(book: &mut Book, play: Option<&Play>, buf: &mut [u8]) -> Result<Eve
 impl Wire for MemWire {
     ghost state = { λ w. record { faults = w.faults; send_faults = w.send_faults; told = true; log = w.book.scroll.log; heard = names_in w.heard; plan = no_plan } };
 
-    fn listen(&mut self, address: &Text) -> Result<(), Failed> {
+    fn listen(&mut self, address: &Text, _idle: u32) -> Result<(), Failed> {
         match self.heard.write(Target::Names, address.as_slice()) {
             Ok(()) => Ok(()),
             Err(_) => {

@@ -65,7 +65,7 @@ pub struct NullWire;
 impl Wire for NullWire {
     ghost state = { λ _. silent_wire 0 0 };
 
-    fn listen(&mut self, _address: &Text) -> Result<(), Failed> {
+    fn listen(&mut self, _address: &Text, _idle: u32) -> Result<(), Failed> {
         Ok(())
     }
 

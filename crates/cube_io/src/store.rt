@@ -10,6 +10,9 @@ use crate::{Failed, ReadFault};
 use cube_model::Text;
 use std::alloc::Global;
 
+/// The log that holds the seal of the facts. The histories of rooms are kept in the logs from 0 on.
+pub const SEAL_LOG: u32 = 4_294_967_295;
+
 /// Numbered logs of bytes. What stands under `told` holds where the store tells what it holds.
 pub trait Store {
     /// What it tells of its logs and of its calls, whether it was attached, and how often it has failed.

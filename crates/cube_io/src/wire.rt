@@ -27,8 +27,8 @@ pub trait Wire {
     /// What it tells of its log, of its addresses and of what it is to play, and how often it, and a send on it, has failed.
     ghost state: { Self → WireState };
 
-    /// Listens on an address.
-    fn listen(&mut self, address: &Text) -> Result<(), Failed>
+    /// Listens on an address. A connection that is still for so many seconds may be closed; none where they are 0.
+    fn listen(&mut self, address: &Text, idle: u32) -> Result<(), Failed>
         ensures cause { HasCause (state self.old).faults (state self.new).faults result }
         ensures sends { (state self.new).send_faults ≡ (state self.old).send_faults }
         ensures told { (state self.new).told ≡ (state self.old).told }

@@ -1,5 +1,5 @@
 -- What the dimension file, the fact file and the policy file of a command hold, read in turn.
-use Rattle.std.specs.Prelude.{◌≡◌, ◌⊎◌, ◌<◌, ℕ, nat_lt, List, [], ◌∷◌, ◌++◌, length, codes, if◌then◌else◌, IfSome, IsSomeAnd, IsOkAnd, IsOk, OnOk, IfErr, ◌≢◌, Result, Ok, Err, ℤ}
+use Rattle.std.specs.Prelude.{◌≡◌, ◌≢◌, ◌⊎◌, ◌<◌, ℕ, ℤ, nat_lt, List, [], ◌∷◌, ◌++◌, length, codes, if◌then◌else◌, IfSome, IsSomeAnd, OnOk, IfErr, Result, Ok, Err}
 use Rattle.cube_model.specs.declared.shape.Shape.{Shape}
 use Rattle.cube_model.specs.Cores.{Core}
 use Rattle.cube_model.specs.Dims.{Dims}
@@ -12,6 +12,7 @@ use Rattle.cube_dims.specs.Words as dims
 use Rattle.cube_facts.specs.FactFile.{filled_of}
 use Rattle.cube_facts.specs.Flat.{Flat, flat_of}
 use Rattle.cube_facts.specs.Words as facts
+use Rattle.cube_journal.specs.Digests.{digest_of}
 use Rattle.cube_policy.specs.PolicyFile.{policy_of}
 use Rattle.cube_policy.specs.Words as policy
 use Rattle.cube_opening.specs.Reports.{IsReport, NoRoom}
@@ -85,9 +86,19 @@ Failed folder r = (r.status ≡ 7) ⊎ ((r.status ≡ 5) × Rose folder.before.f
 abbrev pub AskedFor : {F : Type 0} → List (List ℕ) → Seen FolderState F → Type 0
 AskedFor names folder = IfSome folder.before.asked (λ o. IsSomeAnd folder.after.asked (λ n. n ≡ o ++ names))
 
--- the file's name was asked for; it may be lacking where memory ran out, or where the folder failed
-abbrev pub AsksOnce : {F : Type 0} → List ℕ → Seen FolderState F → Report → Type 0
-AsksOnce name folder r = IfSome folder.before.asked (λ o. IsSomeAnd folder.after.asked (λ n. (n ≡ o ++ name ∷ []) ⊎ ((n ≡ o) × Failed folder r)))
+-- these names and then this one, and none behind it; where memory ran out, or where the folder failed, it may lack
+abbrev pub AskedUpTo : {F : Type 0} → List (List ℕ) → List ℕ → Seen FolderState F → Report → Type 0
+AskedUpTo earlier name folder r = AskedFor (earlier ++ name ∷ []) folder ⊎ (AskedFor earlier folder × Failed folder r)
+
+-- A run ended at the file of this name, behind files of those names.
+pub record EndsAt {X F : Type 0} (earlier : List (List ℕ)) (said : List ℕ → Result X (List ℕ)) (name : List ℕ) (folder : Seen FolderState F) (r : Report) : Type 0 where
+  pub unopened : Unopened said name folder r
+  pub asked : AskedUpTo earlier name folder r
+
+-- A run got behind the files of these names: they were asked for in turn, nothing else was, and the folder counted no fault.
+pub record GotBehind {F : Type 0} (names : List (List ℕ)) (folder : Seen FolderState F) : Type 0 where
+  pub asked : AskedFor names folder
+  pub steady : IsSteady folder
 
 -- A call that reads files: the folder tells the same of them, and it counted a fault only where the run ended at one that was not read.
 pub record Reads {X F : Type 0} (folder : Seen FolderState F) (result : Result X Report) : Type 0 where
@@ -95,43 +106,14 @@ pub record Reads {X F : Type 0} (folder : Seen FolderState F) (result : Result X
   pub steady : OnOk result (IsSteady folder)
   pub steady_err : IfErr result (λ r. r.status ≢ 5 → IsSteady folder)
 
--- ---- the dimension file and the fact file
+-- ---- the three files of a cube
 
 -- the dimension file and the fact file of these names are there and make this core
-abbrev pub Makes : CubeFiles → Core → List (List ℕ × List ℕ) → Type 0
-Makes cube core known =
-    IsSomeAnd (file_of known cube.dims) (λ bytes. IsOkAnd (dims_said bytes) (λ s. FileSays (facts_said s) cube.facts known (Ok core)))
+pub record Makes (cube : CubeFiles) (core : Core) (known : List (List ℕ × List ℕ)) : Type 0 where
+  pub dims : FileSays dims_said cube.dims known (Ok core.dims)
+  pub facts : FileSays (facts_said core.dims) cube.facts known (Ok core)
 
--- the dimension file is there and is accepted
-abbrev pub HasDims : List ℕ → List (List ℕ × List ℕ) → Type 0
-HasDims dims_name known = IsSomeAnd (file_of known dims_name) (λ bytes. IsOk (dims_said bytes))
-
--- the dimension file is accepted, and the fact file is refused with this text
-abbrev pub RefusesFacts : CubeFiles → List ℕ → List (List ℕ × List ℕ) → Type 0
-RefusesFacts cube text known =
-    IsSomeAnd (file_of known cube.dims) (λ bytes. IsOkAnd (dims_said bytes) (λ s. FileSays (facts_said s) cube.facts known (Err text)))
-
--- how a run ends at these two files
-abbrev pub EndsTwo : {F : Type 0} → CubeFiles → Seen FolderState F → Report → Type 0
-EndsTwo cube folder r =
-    NoRoom r
-    ⊎ IsReport 7 (codes "no memory\n") r
-    ⊎ (IsReport 5 (unreadable_text cube.dims) r × Rose folder.before.faults folder.after.faults)
-    ⊎ (IsReport 5 (unreadable_text cube.facts) r × Rose folder.before.faults folder.after.faults × IfSome folder.before.files (HasDims cube.dims))
-    ⊎ (IsReport 3 r.text r × IfSome folder.before.files (λ known. FileSays dims_said cube.dims known (Err r.text)))
-    ⊎ (IsReport 3 r.text r × IfSome folder.before.files (RefusesFacts cube r.text))
-
--- The names that were asked for behind those asked for before, where the run ended at these two files: up to that of the file that is
--- refused, or that was to be read when memory ran out or the folder failed; there this name may be lacking.
-abbrev pub AsksTwo : {F : Type 0} → CubeFiles → Seen FolderState F → List (List ℕ) → List (List ℕ) → Report → Type 0
-AsksTwo cube folder o n r =
-    ((n ≡ o) × Failed folder r)
-    ⊎ ((n ≡ o ++ cube.dims ∷ []) × (Failed folder r ⊎ ((r.status ≡ 3) × IfSome folder.before.files (λ known. FileSays dims_said cube.dims known (Err r.text)))))
-    ⊎ ((n ≡ o ++ cube.dims ∷ cube.facts ∷ []) × (Failed folder r ⊎ ((r.status ≡ 3) × IfSome folder.before.files (RefusesFacts cube r.text))))
-
--- ---- all three files
-
--- the files of these names are there and make this core and this policy
+-- with the policy file they make this core and this policy
 abbrev pub MakesAll : CubeFiles → Core → Policy → List (List ℕ × List ℕ) → Type 0
 MakesAll cube core policy known = Makes cube core known × FileSays (policy_said core.dims) cube.policy known (Ok policy)
 
@@ -139,25 +121,21 @@ MakesAll cube core policy known = Makes cube core known × FileSays (policy_said
 abbrev pub Make : CubeFiles → FolderState → Core → Policy → Type 0
 Make cube folder core policy = IfSome folder.files (MakesAll cube core policy)
 
--- the dimension file and the fact file make a core, and the policy file is refused with this text
-abbrev pub RefusesPolicy : CubeFiles → List ℕ → List (List ℕ × List ℕ) → Type 0
-RefusesPolicy cube text known = (core : Core) × (Makes cube core known × FileSays (policy_said core.dims) cube.policy known (Err text))
-
--- how a run ends at the files
-abbrev pub EndsUnopened : {F : Type 0} → CubeFiles → Seen FolderState F → Report → Type 0
-EndsUnopened cube folder r =
-    EndsTwo cube folder r
-    ⊎ (IsReport 5 (unreadable_text cube.policy) r × Rose folder.before.faults folder.after.faults × IfSome folder.before.files (λ known. (core : Core) × Makes cube core known))
-    ⊎ (IsReport 3 r.text r × IfSome folder.before.files (RefusesPolicy cube r.text))
+-- this is the digest of the fact file, where the folder tells it
+abbrev pub IsDigest : CubeFiles → FolderState → List ℕ → Type 0
+IsDigest cube folder digest = IfSome folder.files (λ known. IsSomeAnd (file_of known cube.facts) (λ bytes. digest ≡ digest_of bytes))
 
 -- the names of the three files, in the turn in which they are read
 abbrev pub names_of : CubeFiles → List (List ℕ)
 names_of cube = cube.dims ∷ cube.facts ∷ cube.policy ∷ []
 
--- All three names were asked for, in turn; where the run ended at a file, none behind it. The last may be lacking where memory ran
--- out, or where the folder failed.
-abbrev pub AsksAll : {F : Type 0} → CubeFiles → Seen FolderState F → Report → Type 0
-AsksAll cube folder r = IfSome folder.before.asked (λ o. IsSomeAnd folder.after.asked (λ n. (n ≡ o ++ names_of cube) ⊎ AsksTwo cube folder o n r))
+-- How a run ends at the files: at the dimension file; or at the fact file, by what that one says; or at the policy file, by what the core
+-- is that the two make.
+abbrev pub EndsUnopened : {F : Type 0} → CubeFiles → Seen FolderState F → Report → Type 0
+EndsUnopened cube folder r =
+    EndsAt [] dims_said cube.dims folder r
+    ⊎ ((s : Dims) × IfSome folder.before.files (λ known. FileSays dims_said cube.dims known (Ok s)) × EndsAt (cube.dims ∷ []) (facts_said s) cube.facts folder r)
+    ⊎ ((core : Core) × IfSome folder.before.files (Makes cube core) × EndsAt (cube.dims ∷ cube.facts ∷ []) (policy_said core.dims) cube.policy folder r)
 
 -- the files are there and are accepted
 abbrev pub HasAll : CubeFiles → FolderState → Type 0

@@ -1,5 +1,5 @@
 // The files of a command, read in turn.
-ghost use Rattle.std.specs.Prelude.{◌≡◌, ◌≢◌, ◌⊎◌, ◌<◌, ◌≤◌, ◌∷◌, [], length, codes, Ok, Err, IfOk, IfErr, OnOk, IfSome, IsSomeAnd};
+ghost use Rattle.std.specs.Prelude.{◌≡◌, ◌≢◌, ◌⊎◌, ◌≤◌, ◌∷◌, [], length, codes, Ok, Err, IfOk, IfErr, OnOk, IfSome, IsSomeAnd};
 ghost use Rattle.cube_io.specs.Files.{max_file, file_of};
 ghost use Rattle.cube_io.specs.Seen.{seen};
 ghost use Rattle.cube_dims.specs.Words as dims_words;
@@ -10,7 +10,8 @@ ghost use Rattle.cube_policy.specs.Words as policy_words;
 ghost use Rattle.cube_policy.specs.declared.fault.PolicyFault.TheVariants as policy_faults;
 ghost use Rattle.cube_model.specs.Policies.{IsPolicy};
 ghost use Rattle.cube_opening.specs.Reports.{IsReport, NoRoom};
-ghost use Rattle.cube_opening.specs.Opening.{fault_text, unreadable_text as unreadable_words, dims_said, facts_said, policy_said, flat_said, FileSays, Unread, Unopened, AskedFor, AsksOnce, Reads, Makes, Make, EndsTwo, AsksTwo, EndsUnopened, AsksAll, names_of};
+ghost use Rattle.cube_journal.specs.Digests.{digest_of as digest_in};
+ghost use Rattle.cube_opening.specs.Opening.{fault_text, unreadable_text as unreadable_words, dims_said, facts_said, policy_said, flat_said, FileSays, Unread, AskedFor, AskedUpTo, EndsAt, GotBehind, Reads, Make, IsDigest, EndsUnopened, names_of};
 
 use crate::cube_files::CubeFiles;
 use crate::report::{Report, Room, no_room, with_text};
@@ -18,6 +19,7 @@ use cube_core::Core;
 use cube_dims::{DimsFault, read_dims};
 use cube_facts::{FactsFault, Flat, read_facts, read_flat};
 use cube_io::{Folder, ReadFault};
+use cube_journal::{Digest, digest_of};
 use cube_model::{Dims, NoMemory, Policy, Text};
 use cube_policy::{PolicyFault, read_policy};
 use std::alloc::Global;
@@ -47,6 +49,15 @@ pub struct Guarded {
     pub core: Core,
     /// How each measure is controlled, and what is protected.
     pub policy: Policy,
+    /// The digest of the fact file.
+    pub facts: Digest,
+}
+
+// A core, and the digest of the fact file that it was made of.
+#[derive(Drop)]
+struct Founded {
+    core: Core,
+    facts: Digest,
 }
 
 /// Reads the bytes of a file of a kind, as `dims`, which is named where the file is too long.
@@ -62,7 +73,7 @@ pub fn read_bytes<F: Folder>(
     ensures ok { IfOk result (λ opened. (opened.room ≡ []) × IfSome (F.state files.old).files (λ known. file_of known name.now ≡ Some opened.value) × (length opened.value ≤ max_file)) }
     ensures err { IfErr result (Unread kind.now name.now (seen F.state files.old files.new)) }
     ensures asks_ok { OnOk result (AskedFor (name.now ∷ []) (seen F.state files.old files.new)) }
-    ensures asks_err { IfErr result (AsksOnce name.now (seen F.state files.old files.new)) }
+    ensures asks_err { IfErr result (AskedUpTo [] name.now (seen F.state files.old files.new)) }
     ensures reads { Reads (seen F.state files.old files.new) result }
 {
     let Ok(unreadable) = unreadable_text(alloc, name) else {
@@ -150,9 +161,8 @@ fn open_dims<F: Folder>(
 ) -> Result<Opened<Dims>, Report>
     requires { room ≡ [] }
     ensures ok { IfOk result (λ opened. (opened.room ≡ []) × IfSome (F.state files.old).files (λ known. FileSays dims_said name.now known (Ok opened.value))) }
-    ensures err { IfErr result (Unopened dims_said name.now (seen F.state files.old files.new)) }
-    ensures asks_ok { OnOk result (AskedFor (name.now ∷ []) (seen F.state files.old files.new)) }
-    ensures asks_err { IfErr result (AsksOnce name.now (seen F.state files.old files.new)) }
+    ensures err { IfErr result (EndsAt [] dims_said name.now (seen F.state files.old files.new)) }
+    ensures asks { OnOk result (AskedFor (name.now ∷ []) (seen F.state files.old files.new)) }
     ensures reads { Reads (seen F.state files.old files.new) result }
 {
     let opened = match read_bytes(alloc, room, b"dims", name, files) {
@@ -172,6 +182,7 @@ fn open_dims<F: Folder>(
 fn make_core(alloc: Global, room: Room, dims: Dims, bytes: &[u8]) -> Result<Opened<Core>, Report>
     requires { room ≡ [] }
     ensures ok { IfOk result (λ opened. (opened.room ≡ []) × (length bytes.now ≤ max_file → facts_said dims bytes.now ≡ Ok opened.value)) }
+    ensures dims { IfOk result (λ opened. opened.value.dims ≡ dims) }
     ensures err { IfErr result (λ r. NoRoom r ⊎ IsReport 7 (codes "no memory\n") r ⊎ (IsReport 3 r.text r × (length bytes.now ≤ max_file → facts_said dims bytes.now ≡ Err r.text))) }
 {
     let (shape, cube) = match read_facts(alloc, &dims, bytes) {
@@ -191,19 +202,27 @@ fn open_facts<F: Folder>(
     name: &Text,
     dims: Dims,
     files: &mut F,
-) -> Result<Opened<Core>, Report>
+) -> Result<Opened<Founded>, Report>
     requires { room ≡ [] }
-    ensures ok { IfOk result (λ opened. (opened.room ≡ []) × IfSome (F.state files.old).files (λ known. FileSays (facts_said dims) name.now known (Ok opened.value))) }
-    ensures err { IfErr result (Unopened (facts_said dims) name.now (seen F.state files.old files.new)) }
-    ensures asks_ok { OnOk result (AskedFor (name.now ∷ []) (seen F.state files.old files.new)) }
-    ensures asks_err { IfErr result (AsksOnce name.now (seen F.state files.old files.new)) }
+    ensures ok { IfOk result (λ opened. (opened.room ≡ []) × IfSome (F.state files.old).files (λ known. FileSays (facts_said dims) name.now known (Ok opened.value.core))) }
+    ensures dims { IfOk result (λ opened. opened.value.core.dims ≡ dims) }
+    ensures digest { IfOk result (λ opened. IfSome (F.state files.old).files (λ known. IsSomeAnd (file_of known name.now) (λ bytes. opened.value.facts ≡ digest_in bytes))) }
+    ensures err { IfErr result (EndsAt [] (facts_said dims) name.now (seen F.state files.old files.new)) }
+    ensures asks { OnOk result (AskedFor (name.now ∷ []) (seen F.state files.old files.new)) }
     ensures reads { Reads (seen F.state files.old files.new) result }
 {
     let opened = match read_bytes(alloc, room, b"facts", name, files) {
         Ok(opened) => opened,
         Err(report) => return Err(report),
     };
-    make_core(alloc, opened.room, dims, opened.value.as_slice())
+    let facts = digest_of(opened.value.as_slice());
+    match make_core(alloc, opened.room, dims, opened.value.as_slice()) {
+        Ok(Opened { room, value: core }) => Ok(Opened {
+            room,
+            value: Founded { core, facts },
+        }),
+        Err(report) => Err(report),
+    }
 }
 
 /// Reads a flat fact file.
@@ -215,9 +234,8 @@ pub fn open_flat<F: Folder>(
 ) -> Result<Opened<Flat>, Report>
     requires { room ≡ [] }
     ensures ok { IfOk result (λ opened. (opened.room ≡ []) × IfSome (F.state files.old).files (λ known. FileSays flat_said name.now known (Ok opened.value))) }
-    ensures err { IfErr result (Unopened flat_said name.now (seen F.state files.old files.new)) }
-    ensures asks_ok { OnOk result (AskedFor (name.now ∷ []) (seen F.state files.old files.new)) }
-    ensures asks_err { IfErr result (AsksOnce name.now (seen F.state files.old files.new)) }
+    ensures err { IfErr result (EndsAt [] flat_said name.now (seen F.state files.old files.new)) }
+    ensures asks { OnOk result (AskedFor (name.now ∷ []) (seen F.state files.old files.new)) }
     ensures reads { Reads (seen F.state files.old files.new) result }
 {
     let opened = match read_bytes(alloc, room, b"facts", name, files) {
@@ -233,27 +251,6 @@ pub fn open_flat<F: Folder>(
     }
 }
 
-// Reads the dimension file and then the fact file.
-fn open_core<F: Folder>(
-    alloc: Global,
-    room: Room,
-    cube: &CubeFiles,
-    files: &mut F,
-) -> Result<Opened<Core>, Report>
-    requires { room ≡ [] }
-    ensures ok { IfOk result (λ opened. (opened.room ≡ []) × IfSome (F.state files.old).files (Makes cube.now opened.value)) }
-    ensures err { IfErr result (EndsTwo cube.now (seen F.state files.old files.new)) }
-    ensures asks_ok { OnOk result (AskedFor (cube.now.dims ∷ cube.now.facts ∷ []) (seen F.state files.old files.new)) }
-    ensures asks_err { IfErr result (λ r. IfSome (F.state files.old).asked (λ o. IsSomeAnd (F.state files.new).asked (λ n. AsksTwo cube.now (seen F.state files.old files.new) o n r))) }
-    ensures reads { Reads (seen F.state files.old files.new) result }
-{
-    let opened = match open_dims(alloc, room, &cube.dims, files) {
-        Ok(opened) => opened,
-        Err(report) => return Err(report),
-    };
-    open_facts(alloc, opened.room, &cube.facts, opened.value, files)
-}
-
 // Reads the policy file under dimensions and measures.
 fn open_policy<F: Folder>(
     alloc: Global,
@@ -265,9 +262,8 @@ fn open_policy<F: Folder>(
     requires { room ≡ [] }
     ensures ok { IfOk result (λ opened. (opened.room ≡ []) × IfSome (F.state files.old).files (λ known. FileSays (policy_said dims.now) name.now known (Ok opened.value))) }
     ensures rules { IfOk result (λ opened. IsPolicy dims.now opened.value) }
-    ensures err { IfErr result (Unopened (policy_said dims.now) name.now (seen F.state files.old files.new)) }
-    ensures asks_ok { OnOk result (AskedFor (name.now ∷ []) (seen F.state files.old files.new)) }
-    ensures asks_err { IfErr result (AsksOnce name.now (seen F.state files.old files.new)) }
+    ensures err { IfErr result (EndsAt [] (policy_said dims.now) name.now (seen F.state files.old files.new)) }
+    ensures asks { OnOk result (AskedFor (name.now ∷ []) (seen F.state files.old files.new)) }
     ensures reads { Reads (seen F.state files.old files.new) result }
 {
     let opened = match read_bytes(alloc, room, b"policy", name, files) {
@@ -293,19 +289,30 @@ pub fn open_guarded<F: Folder>(
     requires { room ≡ [] }
     ensures ok { IfOk result (λ opened. (opened.room ≡ []) × Make cube.now (F.state files.old) opened.value.core opened.value.policy) }
     ensures rules { IfOk result (λ opened. IsPolicy opened.value.core.dims opened.value.policy) }
+    ensures digest { IfOk result (λ opened. IsDigest cube.now (F.state files.old) opened.value.facts) }
     ensures err { IfErr result (EndsUnopened cube.now (seen F.state files.old files.new)) }
-    ensures asks_ok { OnOk result (AskedFor (names_of cube.now) (seen F.state files.old files.new)) }
-    ensures asks_err { IfErr result (AsksAll cube.now (seen F.state files.old files.new)) }
+    ensures behind { OnOk result (GotBehind (names_of cube.now) (seen F.state files.old files.new)) }
     ensures reads { Reads (seen F.state files.old files.new) result }
 {
-    let (room, core) = match open_core(alloc, room, cube, files) {
+    let (room, dims) = match open_dims(alloc, room, &cube.dims, files) {
         Ok(opened) => (opened.room, opened.value),
         Err(report) => return Err(report),
     };
+    let (room, founded) = match open_facts(alloc, room, &cube.facts, dims, files) {
+        Ok(opened) => (opened.room, opened.value),
+        Err(report) => return Err(report),
+    };
+    let Founded { core, facts } = founded;
     let (room, policy) = match open_policy(alloc, room, &cube.policy, core.dims(), files) {
         Ok(opened) => (opened.room, opened.value),
         Err(report) => return Err(report),
     };
-    let value = Guarded { core, policy };
-    Ok(Opened { room, value })
+    Ok(Opened {
+        room,
+        value: Guarded {
+            core,
+            policy,
+            facts,
+        },
+    })
 }

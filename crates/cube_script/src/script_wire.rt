@@ -155,7 +155,7 @@ impl ScriptWire {
 impl Wire for ScriptWire {
     ghost state = { λ w. record { faults = w.faults; send_faults = w.send_faults; told = true; log = w.log; heard = w.heard; plan = record { events = w.script; sends = w.most.sends; bytes = w.most.bytes; refused = w.spilled } } };
 
-    fn listen(&mut self, address: &Text) -> Result<(), Failed>
+    fn listen(&mut self, address: &Text, _idle: u32) -> Result<(), Failed>
         ensures cause { HasCause self.old.faults self.new.faults result }
         ensures sends { self.new.send_faults ≡ self.old.send_faults }
         ensures log { self.new.log ≡ self.old.log }

@@ -1,10 +1,10 @@
 -- What a request leads to, in terms of the definition of the log.
-use Rattle.std.proofs.Common.{◌≡◌, ℕ, ◌+◌, ◌-◌, ◌≤◌, Bool, true, false, List, [], ◌∷◌, ◌++◌, nat_lt, refl, sym, ◌∙◌, ap, arith}
+use Rattle.std.proofs.Common.{◌≡◌, ◌≢◌, ℕ, ◌+◌, ◌-◌, ◌≤◌, Bool, true, false, List, [], ◌∷◌, ◌++◌, nat_lt, refl, sym, ◌∙◌, ap, arith}
 use Rattle.std.proofs.lemmas.List.{append-nil}
 use Rattle.std.proofs.lemmas.Bool.Decides.{nat_tests}
 use Rattle.cube_model.specs.declared.ask.Ask.{Ask}
 use Rattle.cube_model.specs.declared.outcome.Outcome.{Outcome}
-use Rattle.cube_model.specs.declared.outcome.Outcome.TheVariants.{NoMemory}
+use Rattle.cube_model.specs.declared.outcome.Outcome.TheVariants.{Given, JournalFault, NoMemory}
 use Rattle.cube_model.specs.declared.reply.Fixed.{Fixed}
 use Rattle.cube_model.specs.declared.reply.Fixed.TheVariants as constant
 use Rattle.cube_model.specs.declared.reply.Reply.{Reply}
@@ -24,7 +24,7 @@ use Rattle.cube_server.specs.Logs.{Call, Turn, replied, answered, wanted_by, dea
 use Rattle.cube_server.specs.Seen.{DeskState}
 use Rattle.cube_server.specs.Steps.{Speaks, Deals, turn, course, body_said, dead_said}
 use Rattle.cube_server.specs.Ears.{said_in_body, said_to_dead}
-use Rattle.cube_server.proofs.Enduring.{OneMiss}
+use Rattle.cube_server.proofs.Enduring.{OneMiss, called_none, called_once, called_missed}
 use Rattle.cube_server.proofs.Spoken.{none_spoken}
 
 -- the reply to a request went out
@@ -35,18 +35,17 @@ less_one : (a b : ℕ) → b + 1 ≡ a → a - 1 ≡ b
 less_one a b e = omega (arith, e)
 
 pub asked_deals : (c : ℕ) (q : Request) (ask : Ask) (o : Outcome) (r : Reply) (old new : DeskState) (log log' : List LogEntry) (live : Bool)
-    → new.outcomes ≡ old.outcomes ++ o ∷ [] → r ≡ old.manner.reply old.rooms ask o → new.rooms ≡ old.manner.next old.rooms ask o → new.room + 1 ≡ old.room → Replies c q r log log' live
+    → new.outcomes ≡ old.outcomes ++ o ∷ [] → r ≡ old.manner.reply old.rooms ask o → new.rooms ≡ old.manner.next old.rooms ask o → new.room + 1 ≡ old.room
+    → (o ≡ JournalFault → old.manner.next old.rooms ask Given ≢ old.rooms) → Replies c q r log log' live
     → Deals c (wanted_by old.manner (Asked ask) c q) old new log log' live
-asked_deals c q ask o r old new log log' live gained er en one s =
+asked_deals c q ask o r old new log log' live gained er en one fresh s =
     let handled : Call = record { ask = ask; outcome = o } in
     let next : List Room = old.manner.next old.rooms ask o in
     record {
       talks = s.talks;
-      outcomes = o ∷ [];
+      asked = called_once ask o old new gained en fresh;
       sends = s.sends;
       starved = [];
-      calls = handled ∷ [];
-      gained = gained;
       shown = s.shown;
       runs = λ os ss bs cs.
           ap (λ (z : Reply). answered c q z (turn (course next (old.room - 1) os (s.sends ++ ss) bs (cs ++ handled ∷ []) log) true)) (sym er)
@@ -59,11 +58,9 @@ pub constant_deals : (c : ℕ) (q : Request) (f : Fixed) (desk : DeskState) (log
     → Replies c q (reply.Fixed f) log log' live → Deals c (wanted_by desk.manner (Constant f) c q) desk desk log log' live
 constant_deals c q f desk log log' live s = record {
   talks = s.talks;
-  outcomes = [];
+  asked = called_none desk;
   sends = s.sends;
   starved = false ∷ [];
-  calls = [];
-  gained = sym (append-nil desk.outcomes);
   shown = s.shown;
   runs = λ os ss bs cs. s.runs (course desk.rooms desk.room os [] bs cs []) ss ∙ ap (λ (z : List Call). turn (course desk.rooms desk.room os ss bs z log') live) (sym (append-nil cs));
 }
@@ -72,11 +69,9 @@ pub starved_deals : (c : ℕ) (q : Request) (f : Fixed) (old new : DeskState) (l
     → Deals c (wanted_by old.manner (Constant f) c q) old new log log' live
 starved_deals c q f old new log log' live one s = record {
   talks = s.talks;
-  outcomes = NoMemory ∷ [];
+  asked = called_missed old new one;
   sends = s.sends;
   starved = true ∷ [];
-  calls = [];
-  gained = one.added;
   shown = s.shown;
   runs = λ os ss bs cs.
       s.runs (course old.rooms (old.room - 1) os [] bs cs []) ss
@@ -89,7 +84,7 @@ starved_deals c q f old new log log' live one s = record {
 pub missed_deals : (w : Wanted) (c : ℕ) (q : Request) (old new : DeskState) (log log' : List LogEntry) (live : Bool) → IsConstant old.manner → OneMiss old new → Replies c q (reply.Fixed constant.NoMemory) log log' live
     → Deals c (wanted_by old.manner w c q) old new log log' live
 missed_deals (Asked ask) c q old new log log' live k one s =
-    asked_deals c q ask NoMemory (reply.Fixed constant.NoMemory) old new log log' live one.added (sym (k.memory old.rooms ask).0) (one.rooms ∙ sym (k.memory old.rooms ask).1) one.room s
+    asked_deals c q ask NoMemory (reply.Fixed constant.NoMemory) old new log log' live one.added (sym (k.memory old.rooms ask).0) (one.rooms ∙ sym (k.memory old.rooms ask).1) one.room (λ e. cc) s
 missed_deals (Constant f) c q old new log log' live k one s = starved_deals c q f old new log log' live one s
 
 -- ---- items
@@ -98,11 +93,9 @@ missed_deals (Constant f) c q old new log log' live k one s = starved_deals c q 
 pub speech_deals : (c : ℕ) (op : Turn → Turn) (desk : DeskState) (log log' : List LogEntry) (live : Bool) → Speaks c op log log' live → Deals c op desk desk log log' live
 speech_deals c op desk log log' live s = record {
   talks = s.talks;
-  outcomes = [];
+  asked = called_none desk;
   sends = s.sends;
   starved = [];
-  calls = [];
-  gained = sym (append-nil desk.outcomes);
   shown = s.shown;
   runs = λ os ss bs cs. s.runs (course desk.rooms desk.room os [] bs cs []) ss ∙ ap (λ (z : List Call). turn (course desk.rooms desk.room os ss bs z log') live) (sym (append-nil cs));
 }
@@ -115,11 +108,9 @@ pub one_dealt : (m : Manner) (c : ℕ) (i : Item) (old new : DeskState) (log log
     → Deals c (dealt_with m c i) old new log log' live → Deals c (dealt_all m c (i ∷ [])) old new log log' live
 one_dealt m c i old new log log' live some d = record {
   talks = d.talks;
-  outcomes = d.outcomes;
+  asked = d.asked;
   sends = d.sends;
   starved = d.starved;
-  calls = d.calls;
-  gained = d.gained;
   shown = d.shown;
   runs = λ os ss bs cs. rw (more_asks old.room some) (d.runs os ss bs cs);
 }

@@ -1,19 +1,20 @@
 -- How what a crash may leave adds up over asks.
-use Rattle.std.proofs.Common.{◌≡◌, ◌≢◌, ◌⊎◌, ◌↔◌, inl, inr, ℕ, ◌+◌, IsTrue, List, [], ◌∷◌, ◌++◌, length, refl, sym, ◌∙◌, ap, subst, arith, cond, length-append}
-use Rattle.std.proofs.lemmas.List.{append_cancel_left}
+use Rattle.std.proofs.Common.{◌≡◌, ◌≢◌, ◌⊎◌, ◌↔◌, inl, inr, ℕ, ◌+◌, IsTrue, List, [], ◌∷◌, ◌++◌, length, map, filter, refl, sym, ◌∙◌, ap, subst, arith, cond, append_assoc, append-nil, length-append}
+use Rattle.std.proofs.lemmas.List.{append_cancel_left, map-append}
+use Rattle.std.proofs.lemmas.List.Elements.{filter-append}
 use Rattle.std.proofs.lemmas.List.Sums.{sum_by-append}
 use Rattle.cube_model.specs.declared.ask.Ask.{Ask}
 use Rattle.cube_model.specs.declared.outcome.Outcome.{Outcome}
 use Rattle.cube_model.specs.declared.outcome.Outcome.TheVariants.{Given, JournalFault, NoMemory}
 use Rattle.cube_model.specs.declared.reply.Reply.{Reply}
 use Rattle.cube_model.specs.Rooms.{Room}
-use Rattle.cube_io.specs.Desks.{Manner, Answered, ForeignStay}
+use Rattle.cube_io.specs.Desks.{Manner, Answered, ForeignStay, is_fault, faults_in}
 use Rattle.cube_io.specs.Seen.{StoreState}
 use Rattle.cube_io.specs.States.{State, Gained}
 use Rattle.cube_io.proofs.Trails.{gained_none, gained_then, gained_map}
 use Rattle.cube_server.specs.Logs.{Call}
 use Rattle.cube_server.specs.Seen.{DeskState}
-use Rattle.cube_server.specs.Crashes.{after, Reaches, OnTheWay, is_fault, faults_in, Endures}
+use Rattle.cube_server.specs.Crashes.{after, Reaches, OnTheWay, FailedFresh, found_memory, Called, Endures}
 
 pub after_more : (m : Manner) (rooms : List Room) (xs ys : List Call) → after m rooms (xs ++ ys) ≡ after m (after m rooms xs) ys
 after_more m rooms [] ys = refl
@@ -24,6 +25,38 @@ reaches_none m rooms = ([], refl)
 
 reaches_then : (m : Manner) (a b c : List Room) → Reaches m a b → Reaches m b c → Reaches m a c
 reaches_then m a b c f g = (f.0 ++ g.0, g.1 ∙ ap (λ (r : List Room). after m r g.0) f.1 ∙ sym (after_more m a f.0 g.0))
+
+-- ---- the asks between two states of a desk
+
+pub fresh_more : (m : Manner) (rooms : List Room) (xs ys : List Call) → FailedFresh m rooms xs → FailedFresh m (after m rooms xs) ys → FailedFresh m rooms (xs ++ ys)
+fresh_more m rooms [] ys f g = g
+fresh_more m rooms (x ∷ xs) ys f g = (f.0, fresh_more m (m.next rooms x.ask x.outcome) xs ys f.1 g)
+
+abbrev pub called_none : (d : DeskState) → Called d d
+called_none d = record { calls = []; rooms_are = refl; added = []; outcomes_are = sym (append-nil d.outcomes); matched = refl; fresh = tt }
+
+abbrev pub called_once : (ask : Ask) (o : Outcome) (a b : DeskState) → b.outcomes ≡ a.outcomes ++ o ∷ [] → b.rooms ≡ a.manner.next a.rooms ask o → (o ≡ JournalFault → a.manner.next a.rooms ask Given ≢ a.rooms) → Called a b
+called_once ask o a b added moved fresh = record { calls = record { ask = ask; outcome = o } ∷ []; rooms_are = moved; added = o ∷ []; outcomes_are = added; matched = refl; fresh = (fresh, tt) }
+
+abbrev pub called_then : (a b c : DeskState) → b.manner ≡ a.manner → Called a b → Called b c → Called a c
+called_then a b c same f g =
+    let outcome_of = λ (x : Call). x.outcome in
+    record {
+      calls = f.calls ++ g.calls;
+      rooms_are = g.rooms_are
+          ∙ ap (λ (m : Manner). after m b.rooms g.calls) same
+          ∙ ap (λ (r : List Room). after a.manner r g.calls) f.rooms_are
+          ∙ sym (after_more a.manner a.rooms f.calls g.calls);
+      added = f.added ++ g.added;
+      outcomes_are = g.outcomes_are ∙ ap (λ (l : List Outcome). l ++ g.added) f.outcomes_are ∙ append_assoc a.outcomes f.added g.added;
+      matched = filter-append found_memory f.added g.added
+          ∙ ap (λ (l : List Outcome). l ++ filter found_memory g.added) f.matched
+          ∙ ap (λ (l : List Outcome). filter found_memory (map outcome_of f.calls) ++ l) g.matched
+          ∙ sym (filter-append found_memory (map outcome_of f.calls) (map outcome_of g.calls))
+          ∙ ap (filter found_memory) (sym (map-append outcome_of f.calls g.calls));
+      fresh = fresh_more a.manner a.rooms f.calls g.calls f.fresh
+          (subst (λ (r : List Room). FailedFresh a.manner r g.calls) f.rooms_are (subst (λ (m : Manner). FailedFresh m b.rooms g.calls) same g.fresh));
+    }
 
 same_holds : (P : Type 0) → P ↔ P
 same_holds P = (λ p. p, λ p. p)
@@ -36,7 +69,7 @@ endures_none w x d s = record {
   fewer = omega arith;
   told = refl;
   names = λ t. refl;
-  reached = reaches_none d.manner d.rooms;
+  asked = called_none d;
   within_stays = λ r k st. same_holds (w r k st);
   exact_stays = λ r k st. same_holds (x r k st);
   passed = λ t k h. gained_none _ (s.logs k) (s.logs k) refl;
@@ -60,14 +93,15 @@ pub endures_then : (w w' w'' x x' x'' : List Room → ℕ → State → Type 0) 
 endures_then w w' w'' x x' x'' a b c s t u f g =
     let fewer = f.more in
     let few = g.more in
-    let onward : Reaches a.manner b.rooms c.rooms = subst (λ (m : Manner). Reaches m b.rooms c.rooms) f.manner g.reached in
+    let first : Reaches a.manner a.rooms b.rooms = (f.asked.calls, f.asked.rooms_are) in
+    let onward : Reaches a.manner b.rooms c.rooms = subst (λ (m : Manner). Reaches m b.rooms c.rooms) f.manner (g.asked.calls, g.asked.rooms_are) in
     record {
       manner = g.manner ∙ f.manner;
       counted = g.counted ∙ f.counted;
       fewer = omega (arith, f.fewer, g.fewer);
       told = g.told ∙ f.told;
       names = λ h. g.names (rw f.told h) ∙ f.names h;
-      reached = reaches_then a.manner a.rooms b.rooms c.rooms f.reached onward;
+      asked = called_then a b c f.manner f.asked g.asked;
       within_stays = λ r k st. both_ways (w r k st) (w' r k st) (w'' r k st) (f.within_stays r k st) (g.within_stays r k st);
       exact_stays = λ r k st. both_ways (x r k st) (x' r k st) (x'' r k st) (f.exact_stays r k st) (g.exact_stays r k st);
       passed = λ h k e.
@@ -78,7 +112,7 @@ endures_then w w' w'' x x' x'' a b c s t u f g =
           (gained_map (OnTheWay b.manner w' b.rooms c.rooms k) (OnTheWay a.manner w a.rooms c.rooms k) (t.logs k) (u.logs k)
           (λ st y. record {
             here = y.here;
-            from = reaches_then a.manner a.rooms b.rooms y.here f.reached (subst (λ (m : Manner). Reaches m b.rooms y.here) f.manner y.from);
+            from = reaches_then a.manner a.rooms b.rooms y.here first (subst (λ (m : Manner). Reaches m b.rooms y.here) f.manner y.from);
             to = subst (λ (m : Manner). Reaches m y.here c.rooms) f.manner y.to;
             there = (f.within_stays y.here k st).0 y.there;
           })
@@ -144,6 +178,9 @@ endures_answer ask reply w w' x x' a b s t one = by (is_or_not one.answered.outc
     way : Reaches a.manner a.rooms b.rooms
     way = (call ∷ [], one.answered.moved)
 
+    called : Called a b
+    called = called_once ask out a b one.answered.added one.answered.moved (λ is. (one.answered.failed is).1)
+
     count : faults_in b.outcomes ≡ faults_in a.outcomes + faults_in (out ∷ [])
     count = ap faults_in one.answered.added ∙ count_more a.outcomes out
 
@@ -164,7 +201,7 @@ endures_answer ask reply w w' x x' a b s t one = by (is_or_not one.answered.outc
           fewer = omega (arith, one.room);
           told = one.told;
           names = one.names;
-          reached = way;
+          asked = called;
           within_stays = one.within_stays;
           exact_stays = one.exact_stays;
           passed = gone;
@@ -185,7 +222,7 @@ endures_answer ask reply w w' x x' a b s t one = by (is_or_not one.answered.outc
           fewer = omega (arith, one.room);
           told = one.told;
           names = one.names;
-          reached = way;
+          asked = called;
           within_stays = one.within_stays;
           exact_stays = one.exact_stays;
           passed = gone;
@@ -205,6 +242,9 @@ pub record OneMiss (a b : DeskState) : Type 0 where
   pub room : b.room + 1 ≡ a.room
   pub added : b.outcomes ≡ a.outcomes ++ NoMemory ∷ []
 
+abbrev pub called_missed : (a b : DeskState) → OneMiss a b → Called a b
+called_missed a b one = record { calls = []; rooms_are = one.rooms; added = NoMemory ∷ []; outcomes_are = one.added; matched = refl; fresh = tt }
+
 pub endures_miss : (w w' x x' : List Room → ℕ → State → Type 0) (a b : DeskState) (s : StoreState) → OneMiss a b
     → ((r : List Room) (log : ℕ) (state : State) → w' r log state ↔ w r log state) → ((r : List Room) (log : ℕ) (state : State) → x' r log state ↔ x r log state) → Endures w w' x x' a b s s
 endures_miss w w' x x' a b s one ws xs =
@@ -215,7 +255,7 @@ endures_miss w w' x x' a b s one ws xs =
       fewer = omega (arith, one.room);
       told = refl;
       names = λ h. refl;
-      reached = ([], one.rooms);
+      asked = called_missed a b one;
       within_stays = ws;
       exact_stays = xs;
       passed = λ h k e. gained_none _ (s.logs k) (s.logs k) refl;

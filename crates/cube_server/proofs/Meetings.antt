@@ -14,6 +14,7 @@ use Rattle.cube_server.specs.Ears.{Keeps, kept_bytes, AreKept, AreOpen, AreOpenB
 use Rattle.cube_server.specs.Logs.{Call, Turn, Run, replied, dealt_all, behind, is_open, came_on, without, most_conns, met, kept}
 use Rattle.cube_server.specs.Seen.{DeskState}
 use Rattle.cube_server.specs.Steps.{Speaks, Deals, Meets, HearsPiece, course, run, sends_in}
+use Rattle.cube_server.proofs.Enduring.{called_none}
 use Rattle.cube_server.proofs.Lookup.{line, taken_kept, none_kept, as_many, put_kept, others_stay, but_one, all_open, taken_open, taken_is_open, put_open}
 use Rattle.cube_server.proofs.Streams.{keeps_none}
 
@@ -25,11 +26,9 @@ quiet_meets op lines conns conns' desk log k o same = record {
   kept = λ some. k;
   live = o;
   quiet = refl;
-  outcomes = [];
+  asked = called_none desk;
   sends = [];
   starved = [];
-  calls = [];
-  gained = sym (append-nil desk.outcomes);
   shown = sym (append-nil (sends_in log));
   runs = λ n os ss bs cs. same (run conns n (course desk.rooms desk.room os ss bs cs log)) refl ∙ ap (λ (z : List Call). run conns' n (course desk.rooms desk.room os ss bs z log)) (sym (append-nil cs));
 }
@@ -107,11 +106,9 @@ busy_meets m c old new conns desk log log' live none full same k o s =
       kept = λ some. rw same k;
       live = rw same (all_open c old log' none (others_stay c old log log' s.talks.others o));
       quiet = s.talks.quiet;
-      outcomes = [];
+      asked = called_none desk;
       sends = s.sends;
       starved = [];
-      calls = [];
-      gained = sym (append-nil desk.outcomes);
       shown = s.shown;
       runs = λ i os ss bs cs.
           rw (n.0, room) (ap (λ (t : Turn). run conns i t.course) (s.runs (course desk.rooms desk.room os [] bs cs []) ss) ∙ ap (λ (z : List Call). run conns i (course desk.rooms desk.room os ss bs z log')) (sym (append-nil cs)));
@@ -137,14 +134,12 @@ came_meets m c piece live last conns x y u v is d k opens = record {
   kept = k;
   live = opens;
   quiet = d.talks.quiet;
-  outcomes = d.outcomes;
+  asked = d.asked;
   sends = d.sends;
   starved = d.starved;
-  calls = d.calls;
-  gained = d.gained;
   shown = d.shown;
   runs = λ n os ss bs cs.
-      rw is (ap (kept c (came_on c conns ++ piece) (run conns n (course x.rooms x.room (d.outcomes ++ os) (d.sends ++ ss) (d.starved ++ bs) cs u))) (d.runs os ss bs cs));
+      rw is (ap (kept c (came_on c conns ++ piece) (run conns n (course x.rooms x.room (d.asked.added ++ os) (d.sends ++ ss) (d.starved ++ bs) cs u))) (d.runs os ss bs cs));
 }
 
 -- the connection stays open

@@ -14,9 +14,11 @@ use Rattle.cube_server.specs.declared.deal.Left.TheVariants as left
 use Rattle.cube_server.specs.Ears.{Keeps, said, said_before, kept_bytes, OnGoes, OnLeaves}
 use Rattle.cube_server.specs.declared.lines.Ear.{Ear}
 use Rattle.cube_http.specs.Hearing.{Hears}
+use Rattle.cube_server.specs.Crashes.{Called}
 use Rattle.cube_server.specs.Logs.{Call, Turn, dealt_all, dealt_with, behind}
 use Rattle.cube_server.specs.Seen.{DeskState}
 use Rattle.cube_server.specs.Steps.{Talks, Deals, turn, course, sends_in}
+use Rattle.cube_server.proofs.Enduring.{called_none, called_then}
 use Rattle.cube_server.proofs.Spoken.{talks_then}
 use Rattle.cube_server.proofs.Streams.{OneHeard, one_heard, GoesOn, behind_piece, behind_all}
 
@@ -45,26 +47,22 @@ pub record Progress (m : Manner) (c : ℕ) (stream piece rest bytes : List ℕ) 
   pub past : List ℕ
   pub split : piece ≡ past ++ rest
   pub keeps : Keeps (stream ++ past) bytes
-  pub outcomes : List Outcome
+  pub asked : Called old new
   pub sends : List (Option ℕ)
   pub starved : List Bool
-  pub calls : List Call
-  pub gained : new.outcomes ≡ old.outcomes ++ outcomes
   pub shown : sends_in log' ≡ sends_in log ++ sends
   pub runs : (os : List Outcome) (ss : List (Option ℕ)) (bs : List Bool) (cs : List Call)
-      → dealt_all m c (behind (length stream) (stream ++ piece)) (turn (course old.rooms old.room (outcomes ++ os) (sends ++ ss) (starved ++ bs) cs log) true)
-      ≡ dealt_all m c (behind (length (stream ++ past)) (stream ++ piece)) (turn (course new.rooms new.room os ss bs (cs ++ calls) log') true)
+      → dealt_all m c (behind (length stream) (stream ++ piece)) (turn (course old.rooms old.room (asked.added ++ os) (sends ++ ss) (starved ++ bs) cs log) true)
+      ≡ dealt_all m c (behind (length (stream ++ past)) (stream ++ piece)) (turn (course new.rooms new.room os ss bs (cs ++ asked.calls) log') true)
 
 pub progress_start : (m : Manner) (c : ℕ) (stream piece bytes : List ℕ) (desk : DeskState) (log : List LogEntry) → Keeps stream bytes → Progress m c stream piece piece bytes desk desk log log
 progress_start m c stream piece bytes desk log k = record {
   past = [];
   split = refl;
   keeps = rw append-nil k;
-  outcomes = [];
+  asked = called_none desk;
   sends = [];
   starved = [];
-  calls = [];
-  gained = sym (append-nil desk.outcomes);
   shown = sym (append-nil (sends_in log));
   runs = λ os ss bs cs. rw (append-nil stream, append-nil cs) refl;
 }
@@ -91,30 +89,28 @@ next_said stream past t rest piece h n split one =
 onward : (m : Manner) (c : ℕ) (stream piece t rest bytes : List ℕ) (h : Heard) (n : Conn) (a x y : DeskState) (log u v : List LogEntry) (live : Bool)
     → (g : Progress m c stream piece (t ++ rest) bytes a x log u) → OneHeard (stream ++ g.past) t h n → (d : Deals c (dealt_all m c (said h n)) x y u v live)
     → (os : List Outcome) (ss : List (Option ℕ)) (bs : List Bool) (cs : List Call)
-    → dealt_all m c (behind (length stream) (stream ++ piece)) (turn (course a.rooms a.room ((g.outcomes ++ d.outcomes) ++ os) ((g.sends ++ d.sends) ++ ss) ((g.starved ++ d.starved) ++ bs) cs log) true)
-    ≡ dealt_all m c (behind (length (stream ++ (g.past ++ t))) (stream ++ piece)) (turn (course y.rooms y.room os ss bs (cs ++ (g.calls ++ d.calls)) v) live)
+    → dealt_all m c (behind (length stream) (stream ++ piece)) (turn (course a.rooms a.room ((g.asked.added ++ d.asked.added) ++ os) ((g.sends ++ d.sends) ++ ss) ((g.starved ++ d.starved) ++ bs) cs log) true)
+    ≡ dealt_all m c (behind (length (stream ++ (g.past ++ t))) (stream ++ piece)) (turn (course y.rooms y.room os ss bs (cs ++ (g.asked.calls ++ d.asked.calls)) v) live)
 onward m c stream piece t rest bytes h n a x y log u v live g one d os ss bs cs =
     let after = behind (length (stream ++ (g.past ++ t))) (stream ++ piece) in
-    rw (append_assoc g.outcomes d.outcomes os, append_assoc g.sends d.sends ss, append_assoc g.starved d.starved bs) (
-    g.runs (d.outcomes ++ os) (d.sends ++ ss) (d.starved ++ bs) cs
-    ∙ ap (λ (l : List Item). dealt_all m c l (turn (course x.rooms x.room (d.outcomes ++ os) (d.sends ++ ss) (d.starved ++ bs) (cs ++ g.calls) u) true)) (next_said stream g.past t rest piece h n g.split one)
-    ∙ dealt_more m c (said h n) after (turn (course x.rooms x.room (d.outcomes ++ os) (d.sends ++ ss) (d.starved ++ bs) (cs ++ g.calls) u) true)
-    ∙ ap (dealt_all m c after) (d.runs os ss bs (cs ++ g.calls))
-    ∙ ap (λ (l : List Call). dealt_all m c after (turn (course y.rooms y.room os ss bs l v) live)) (append_assoc cs g.calls d.calls)
+    rw (append_assoc g.asked.added d.asked.added os, append_assoc g.sends d.sends ss, append_assoc g.starved d.starved bs) (
+    g.runs (d.asked.added ++ os) (d.sends ++ ss) (d.starved ++ bs) cs
+    ∙ ap (λ (l : List Item). dealt_all m c l (turn (course x.rooms x.room (d.asked.added ++ os) (d.sends ++ ss) (d.starved ++ bs) (cs ++ g.asked.calls) u) true)) (next_said stream g.past t rest piece h n g.split one)
+    ∙ dealt_more m c (said h n) after (turn (course x.rooms x.room (d.asked.added ++ os) (d.sends ++ ss) (d.starved ++ bs) (cs ++ g.asked.calls) u) true)
+    ∙ ap (dealt_all m c after) (d.runs os ss bs (cs ++ g.asked.calls))
+    ∙ ap (λ (l : List Call). dealt_all m c after (turn (course y.rooms y.room os ss bs l v) live)) (append_assoc cs g.asked.calls d.asked.calls)
     )
 
 pub one_more : (m : Manner) (c : ℕ) (stream piece t rest bytes bytes' : List ℕ) (h : Heard) (n : Conn) (a x y : DeskState) (log u v : List LogEntry)
-    → (g : Progress m c stream piece (t ++ rest) bytes a x log u) → OneHeard (stream ++ g.past) t h n → Deals c (dealt_all m c (said h n)) x y u v true → Keeps (stream ++ (g.past ++ t)) bytes'
+    → x.manner ≡ a.manner → (g : Progress m c stream piece (t ++ rest) bytes a x log u) → OneHeard (stream ++ g.past) t h n → Deals c (dealt_all m c (said h n)) x y u v true → Keeps (stream ++ (g.past ++ t)) bytes'
     → Progress m c stream piece rest bytes' a y log v
-one_more m c stream piece t rest bytes bytes' h n a x y log u v g one d k = record {
+one_more m c stream piece t rest bytes bytes' h n a x y log u v same g one d k = record {
   past = g.past ++ t;
   split = g.split ∙ sym (append_assoc g.past t rest);
   keeps = k;
-  outcomes = g.outcomes ++ d.outcomes;
+  asked = called_then a x y same g.asked d.asked;
   sends = g.sends ++ d.sends;
   starved = g.starved ++ d.starved;
-  calls = g.calls ++ d.calls;
-  gained = d.gained ∙ ap (λ (l : List Outcome). l ++ d.outcomes) g.gained ∙ append_assoc a.outcomes g.outcomes d.outcomes;
   shown = d.shown ∙ ap (λ (l : List (Option ℕ)). l ++ d.sends) g.shown ∙ append_assoc (sends_in log) g.sends d.sends;
   runs = onward m c stream piece t rest bytes h n a x y log u v true g one d;
 }
@@ -126,19 +122,17 @@ no_asks = refl
 
 -- the connection was closed
 pub piece_closed : (m : Manner) (c : ℕ) (stream piece t rest bytes : List ℕ) (h : Heard) (n : Conn) (a x y : DeskState) (log u v : List LogEntry)
-    → (g : Progress m c stream piece (t ++ rest) bytes a x log u) → OneHeard (stream ++ g.past) t h n → Deals c (dealt_all m c (said h n)) x y u v false → Talks c log u true
+    → x.manner ≡ a.manner → (g : Progress m c stream piece (t ++ rest) bytes a x log u) → OneHeard (stream ++ g.past) t h n → Deals c (dealt_all m c (said h n)) x y u v false → Talks c log u true
     → Deals c (dealt_all m c (behind (length stream) (stream ++ piece))) a y log v false
-piece_closed m c stream piece t rest bytes h n a x y log u v g one d talks = record {
+piece_closed m c stream piece t rest bytes h n a x y log u v same g one d talks = record {
   talks = talks_then c log u v false talks d.talks;
-  outcomes = g.outcomes ++ d.outcomes;
+  asked = called_then a x y same g.asked d.asked;
   sends = g.sends ++ d.sends;
   starved = g.starved ++ d.starved;
-  calls = g.calls ++ d.calls;
-  gained = d.gained ∙ ap (λ (l : List Outcome). l ++ d.outcomes) g.gained ∙ append_assoc a.outcomes g.outcomes d.outcomes;
   shown = d.shown ∙ ap (λ (l : List (Option ℕ)). l ++ d.sends) g.shown ∙ append_assoc (sends_in log) g.sends d.sends;
   runs = λ os ss bs cs.
       onward m c stream piece t rest bytes h n a x y log u v false g one d os ss bs cs
-      ∙ stopped m c (behind (length (stream ++ (g.past ++ t))) (stream ++ piece)) (turn (course y.rooms y.room os ss bs (cs ++ (g.calls ++ d.calls)) v) false) refl;
+      ∙ stopped m c (behind (length (stream ++ (g.past ++ t))) (stream ++ piece)) (turn (course y.rooms y.room os ss bs (cs ++ (g.asked.calls ++ d.asked.calls)) v) false) refl;
 }
 
 -- the asks are used up
@@ -146,14 +140,12 @@ pub piece_spent : (m : Manner) (c : ℕ) (stream piece rest bytes : List ℕ) (a
     → Deals c (dealt_all m c (behind (length stream) (stream ++ piece))) a x log u true
 piece_spent m c stream piece rest bytes a x log u g talks none = record {
   talks = talks;
-  outcomes = g.outcomes;
+  asked = g.asked;
   sends = g.sends;
   starved = g.starved;
-  calls = g.calls;
-  gained = g.gained;
   shown = g.shown;
   runs = λ os ss bs cs.
-      g.runs os ss bs cs ∙ stopped m c (behind (length (stream ++ g.past)) (stream ++ piece)) (turn (course x.rooms x.room os ss bs (cs ++ g.calls) u) true) (ap (nat_lt 0) none);
+      g.runs os ss bs cs ∙ stopped m c (behind (length (stream ++ g.past)) (stream ++ piece)) (turn (course x.rooms x.room os ss bs (cs ++ g.asked.calls) u) true) (ap (nat_lt 0) none);
 }
 
 -- all of it was heard
@@ -163,16 +155,14 @@ piece_heard m c stream piece bytes a x log u g talks =
     let all : piece ≡ g.past = g.split ∙ append-nil g.past in (
       record {
         talks = talks;
-        outcomes = g.outcomes;
+        asked = g.asked;
         sends = g.sends;
         starved = g.starved;
-        calls = g.calls;
-        gained = g.gained;
         shown = g.shown;
         runs = λ os ss bs cs.
             g.runs os ss bs cs
-            ∙ ap (λ (l : List ℕ). dealt_all m c (behind (length (stream ++ l)) (stream ++ piece)) (turn (course x.rooms x.room os ss bs (cs ++ g.calls) u) true)) (sym all)
-            ∙ ap (λ (l : List Item). dealt_all m c l (turn (course x.rooms x.room os ss bs (cs ++ g.calls) u) true)) (behind_all (stream ++ piece));
+            ∙ ap (λ (l : List ℕ). dealt_all m c (behind (length (stream ++ l)) (stream ++ piece)) (turn (course x.rooms x.room os ss bs (cs ++ g.asked.calls) u) true)) (sym all)
+            ∙ ap (λ (l : List Item). dealt_all m c l (turn (course x.rooms x.room os ss bs (cs ++ g.asked.calls) u) true)) (behind_all (stream ++ piece));
       },
       rw all g.keeps,
     )
@@ -196,23 +186,23 @@ used_some used rest some few = omega (arith, some, length-take-le used rest few)
 
 -- the connection is open behind what was used
 pub step_on : (m : Manner) (c : ℕ) (stream piece rest : List ℕ) (used : ℕ) (e next : Ear) (h : Heard) (n : Conn) (a x y : DeskState) (log u v : List LogEntry)
-    → Progress m c stream piece rest (kept_bytes e) a x log u → x.manner ≡ m → 0 < used → used ≤ length rest → Hears (said_before e) (kept_bytes e ++ take used rest) h n
+    → Progress m c stream piece rest (kept_bytes e) a x log u → x.manner ≡ m → x.manner ≡ a.manner → 0 < used → used ≤ length rest → Hears (said_before e) (kept_bytes e ++ take used rest) h n
     → Deals c (dealt_all x.manner c (said h n)) x y u v true → OnLeaves (left.On next) n → Progress m c stream piece (drop used rest) (kept_bytes next) a y log v
-step_on m c stream piece rest used e next h n a x y log u v was same some few hears deals leaves =
+step_on m c stream piece rest used e next h n a x y log u v was same kept some few hears deals leaves =
     let d : Deals c (dealt_all m c (said h n)) x y u v true = subst (λ (k : Manner). Deals c (dealt_all k c (said h n)) x y u v true) same deals in
     let g = cut_rest m c stream piece rest (kept_bytes e) used a x log u was in
     let t = take used rest in
     let one = one_heard e (stream ++ g.past) t h n g.keeps (used_some used rest some few) hears in
     let keeps : Keeps (stream ++ (g.past ++ t)) (kept_bytes next) = subst (λ (l : List ℕ). Keeps l (kept_bytes next)) (append_assoc stream g.past t) (goes_left (left.On next) n ((stream ++ g.past) ++ t) leaves one.goes) in
-    one_more m c stream piece t (drop used rest) (kept_bytes e) (kept_bytes next) h n a x y log u v g one d keeps
+    one_more m c stream piece t (drop used rest) (kept_bytes e) (kept_bytes next) h n a x y log u v kept g one d keeps
 
 -- it was closed there
 pub step_off : (m : Manner) (c : ℕ) (stream piece rest : List ℕ) (used : ℕ) (e : Ear) (h : Heard) (n : Conn) (a x y : DeskState) (log u v : List LogEntry)
-    → Progress m c stream piece rest (kept_bytes e) a x log u → x.manner ≡ m → 0 < used → used ≤ length rest → Hears (said_before e) (kept_bytes e ++ take used rest) h n
+    → Progress m c stream piece rest (kept_bytes e) a x log u → x.manner ≡ m → x.manner ≡ a.manner → 0 < used → used ≤ length rest → Hears (said_before e) (kept_bytes e ++ take used rest) h n
     → Deals c (dealt_all x.manner c (said h n)) x y u v false → Talks c log u true → Deals c (dealt_all m c (behind (length stream) (stream ++ piece))) a y log v false
-step_off m c stream piece rest used e h n a x y log u v was same some few hears deals talks =
+step_off m c stream piece rest used e h n a x y log u v was same kept some few hears deals talks =
     let d : Deals c (dealt_all m c (said h n)) x y u v false = subst (λ (k : Manner). Deals c (dealt_all k c (said h n)) x y u v false) same deals in
     let g = cut_rest m c stream piece rest (kept_bytes e) used a x log u was in
     let t = take used rest in
     let one = one_heard e (stream ++ g.past) t h n g.keeps (used_some used rest some few) hears in
-    piece_closed m c stream piece t (drop used rest) (kept_bytes e) h n a x y log u v g one d talks
+    piece_closed m c stream piece t (drop used rest) (kept_bytes e) h n a x y log u v kept g one d talks

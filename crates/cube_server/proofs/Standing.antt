@@ -11,9 +11,11 @@ use Rattle.cube_io.specs.Wires.Arrival.{End}
 use Rattle.cube_io.specs.Wires.LogEntry.{Heard}
 use Rattle.cube_server.specs.declared.lines.Line.{Line}
 use Rattle.cube_server.specs.Ears.{AreKept, AreOpen}
+use Rattle.cube_server.specs.Crashes.{FailedFresh, Called}
 use Rattle.cube_server.specs.Logs.{Call, Run, met, taken as took, is_over, run_on, begin, run_of}
 use Rattle.cube_server.specs.Seen.{DeskState}
 use Rattle.cube_server.specs.Steps.{Takes, Serves, course, run, luck_of, stated_at, sends_in, has_end, is_end}
+use Rattle.cube_server.proofs.Enduring.{called_none, called_then}
 use Rattle.cube_server.proofs.Spoken.{sends_more, events_more}
 
 -- one event more
@@ -42,12 +44,10 @@ pub record Stands (start now : DeskState) (events0 events : ℕ) (log : List Log
   pub kept : 0 < now.room → AreKept lines conns
   pub live : AreOpen lines log
   pub unended : has_end log ≡ false
-  pub outcomes : List Outcome
+  pub asked : Called start now
   pub starved : List Bool
-  pub calls : List Call
-  pub gained : now.outcomes ≡ start.outcomes ++ outcomes
   pub runs : (os : List Outcome) (ss : List (Option ℕ)) (bs : List Bool)
-      → run_of start.manner start.rooms (events_in log) (luck_of (stated_at start events0) (outcomes ++ os) (sends_in log ++ ss) (starved ++ bs)) ≡ run conns events (course now.rooms now.room os ss bs calls log)
+      → run_of start.manner start.rooms (events_in log) (luck_of (stated_at start events0) (asked.added ++ os) (sends_in log ++ ss) (starved ++ bs)) ≡ run conns events (course now.rooms now.room os ss bs asked.calls log)
 
 pub stands_start : (desk : DeskState) (events : ℕ) (log : List LogEntry) (lines : List Line) → log ≡ [] → lines ≡ [] → Stands desk desk events events log lines
 unfolding run_of
@@ -57,10 +57,8 @@ stands_start desk events log lines l e = rw (l, e) (record {
   kept = λ some. tt;
   live = tt;
   unended = refl;
-  outcomes = [];
+  asked = called_none desk;
   starved = [];
-  calls = [];
-  gained = sym (append-nil desk.outcomes);
   runs = λ os ss bs. refl;
 })
 
@@ -80,13 +78,13 @@ any_more (x ∷ es) e none last = by (is_end x) none (λ n. any_more es e n last
 
 -- the run so far, with one event more
 run_once : (start now : DeskState) (events0 events : ℕ) (log : List LogEntry) (lines : List Line) (e : Arrival) → (s : Stands start now events0 events log lines) → 0 < events → 0 < now.room
-    → (os : List Outcome) (ss : List (Option ℕ)) (bs : List Bool) → run_of start.manner start.rooms (events_in log ++ e ∷ []) (luck_of (stated_at start events0) (s.outcomes ++ os) (sends_in log ++ ss) (s.starved ++ bs))
-    ≡ met start.manner e (run s.conns (events - 1) (course now.rooms now.room os ss bs s.calls (log ++ Heard e ∷ [])))
+    → (os : List Outcome) (ss : List (Option ℕ)) (bs : List Bool) → run_of start.manner start.rooms (events_in log ++ e ∷ []) (luck_of (stated_at start events0) (s.asked.added ++ os) (sends_in log ++ ss) (s.starved ++ bs))
+    ≡ met start.manner e (run s.conns (events - 1) (course now.rooms now.room os ss bs s.asked.calls (log ++ Heard e ∷ [])))
 unfolding run_of
 run_once start now events0 events log lines e s some more os ss bs =
-    run_more start.manner (events_in log) e (begin start.rooms (luck_of (stated_at start events0) (s.outcomes ++ os) (sends_in log ++ ss) (s.starved ++ bs)))
+    run_more start.manner (events_in log) e (begin start.rooms (luck_of (stated_at start events0) (s.asked.added ++ os) (sends_in log ++ ss) (s.starved ++ bs)))
     ∙ ap (once start.manner e) (s.runs os ss bs)
-    ∙ ap (λ (b : Bool). if b then run s.conns events (course now.rooms now.room os ss bs s.calls log) else met start.manner e (took e (run s.conns events (course now.rooms now.room os ss bs s.calls log)))) (going s.conns events now.rooms now.room os ss bs s.calls log some more)
+    ∙ ap (λ (b : Bool). if b then run s.conns events (course now.rooms now.room os ss bs s.asked.calls log) else met start.manner e (took e (run s.conns events (course now.rooms now.room os ss bs s.asked.calls log)))) (going s.conns events now.rooms now.room os ss bs s.asked.calls log some more)
 
 pub stands_more : (start x y : DeskState) (events0 events : ℕ) (u v : List LogEntry) (lines lines' : List Line)
     → (s : Stands start x events0 events u lines) → y.manner ≡ x.manner → 0 < events → 0 < x.room → Takes lines' s.conns x y u v
@@ -101,36 +99,35 @@ stands_more start x y events0 events u v lines lines' s same some more t =
       kept = d.kept;
       live = d.live;
       unended = ap (list_any is_end) ev ∙ any_more (events_in u) t.event s.unended t.more;
-      outcomes = s.outcomes ++ d.outcomes;
+      asked = called_then start x y s.manner s.asked d.asked;
       starved = s.starved ++ d.starved;
-      calls = s.calls ++ d.calls;
-      gained = d.gained ∙ ap (λ (l : List Outcome). l ++ d.outcomes) s.gained ∙ append_assoc start.outcomes s.outcomes d.outcomes;
       runs = λ os ss bs.
-          rw (ev, sh, append_assoc s.outcomes d.outcomes os, append_assoc (sends_in u) d.sends ss, append_assoc s.starved d.starved bs) (
-          run_once start x events0 events u lines t.event s some more (d.outcomes ++ os) (d.sends ++ ss) (d.starved ++ bs)
-          ∙ ap (λ (m : Manner). met m t.event (run s.conns (events - 1) (course x.rooms x.room (d.outcomes ++ os) (d.sends ++ ss) (d.starved ++ bs) s.calls (u ++ Heard t.event ∷ [])))) (sym s.manner)
-          ∙ d.runs (events - 1) os ss bs s.calls
+          rw (ev, sh, append_assoc s.asked.added d.asked.added os, append_assoc (sends_in u) d.sends ss, append_assoc s.starved d.starved bs) (
+          run_once start x events0 events u lines t.event s some more (d.asked.added ++ os) (d.sends ++ ss) (d.starved ++ bs)
+          ∙ ap (λ (m : Manner). met m t.event (run s.conns (events - 1) (course x.rooms x.room (d.asked.added ++ os) (d.sends ++ ss) (d.starved ++ bs) s.asked.calls (u ++ Heard t.event ∷ [])))) (sym s.manner)
+          ∙ d.runs (events - 1) os ss bs s.asked.calls
           );
     }
 
 -- ---- its ends
 
-serves_by : (start now : DeskState) (events0 events : ℕ) (log : List LogEntry) (conns : List (ℕ × List ℕ)) (outcomes : List Outcome) (starved : List Bool) (calls : List Call) → now.outcomes ≡ start.outcomes ++ outcomes
-    → run_of start.manner start.rooms (events_in log) (luck_of (stated_at start events0) outcomes (sends_in log) starved) ≡ run conns events (course now.rooms now.room [] [] [] calls log) → Serves start now events0 log
-serves_by start now events0 events log conns outcomes starved calls gained runs = record {
-  outcomes = outcomes;
+serves_by : (start now : DeskState) (events0 events : ℕ) (log : List LogEntry) (conns : List (ℕ × List ℕ)) (starved : List Bool) (asked : Called start now)
+    → run_of start.manner start.rooms (events_in log) (luck_of (stated_at start events0) asked.added (sends_in log) starved) ≡ run conns events (course now.rooms now.room [] [] [] asked.calls log) → Serves start now events0 log
+serves_by start now events0 events log conns starved asked runs = record {
+  outcomes = asked.added;
   starved = starved;
-  gained = gained;
+  gained = asked.outcomes_are;
   told = sym (ap (λ (r : Run). r.course.log) runs);
   ended = sym (ap (λ (r : Run). r.course.rooms) runs);
   none_left = ap (λ (r : Run). r.course.outcomes) runs;
   asks_left = ap (λ (r : Run). r.course.asks) runs;
+  fresh = subst (λ (r : Run). FailedFresh start.manner start.rooms r.course.calls) (sym runs) asked.fresh;
 }
 
 -- no more events came
 pub stands_done : (start now : DeskState) (events0 events : ℕ) (log log' : List LogEntry) (lines : List Line) → Stands start now events0 events log lines → log' ≡ log → Serves start now events0 log'
 stands_done start now events0 events log log' lines s same = rw same (
-    serves_by start now events0 events log s.conns s.outcomes s.starved s.calls s.gained (rw (append-nil s.outcomes, append-nil (sends_in log), append-nil s.starved) at (s.runs [] [] []))
+    serves_by start now events0 events log s.conns s.starved s.asked (rw (append-nil s.asked.added, append-nil (sends_in log), append-nil s.starved) at (s.runs [] [] []))
     )
 
 -- the end came
@@ -139,8 +136,8 @@ pub stands_end : (start now : DeskState) (events0 events : ℕ) (log log' : List
 stands_end start now events0 events log log' lines s some more e =
     let runs = run_once start now events0 events log lines End s some more [] [] [] in
     rw e (
-    serves_by start now events0 0 (log ++ Heard End ∷ []) s.conns s.outcomes s.starved s.calls s.gained
-    (rw (one_event log End, no_send log End) (rw (append-nil s.outcomes, append-nil (sends_in log), append-nil s.starved) at runs))
+    serves_by start now events0 0 (log ++ Heard End ∷ []) s.conns s.starved s.asked
+    (rw (one_event log End, no_send log End) (rw (append-nil s.asked.added, append-nil (sends_in log), append-nil s.starved) at runs))
     )
 
 -- what was heard up to the end

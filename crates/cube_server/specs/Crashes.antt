@@ -1,9 +1,10 @@
 -- What a crash may leave of the logs of a store, while a desk is asked.
-use Rattle.std.specs.Prelude.{◌≡◌, ◌↔◌, ℕ, ◌+◌, ◌-◌, ◌^◌, ◌≤◌, min, Bool, true, false, IsTrue, List, [], ◌∷◌, length, count_by}
+use Rattle.std.specs.Prelude.{◌≡◌, ◌≢◌, ◌↔◌, ⊤, ℕ, ◌+◌, ◌-◌, ◌≤◌, Bool, true, false, IsTrue, List, [], ◌∷◌, ◌++◌, length, map, filter}
 use Rattle.cube_model.specs.declared.outcome.Outcome.{Outcome}
 use Rattle.cube_model.specs.declared.outcome.Outcome.TheVariants.{Given, JournalFault, NoMemory}
 use Rattle.cube_model.specs.Rooms.{Room}
-use Rattle.cube_io.specs.Desks.{Manner, ForeignStay}
+use Rattle.cube_io.specs.Causes.{RoseBy}
+use Rattle.cube_io.specs.Desks.{Manner, ForeignStay, faults_in}
 use Rattle.cube_io.specs.Seen.{StoreState}
 use Rattle.cube_io.specs.States.{State, Gained}
 use Rattle.cube_server.specs.Logs.{Call}
@@ -25,27 +26,39 @@ pub record OnTheWay (m : Manner) (holds : List Room → ℕ → State → Type 0
   pub to : Reaches m here rooms'
   pub there : holds here log state
 
-abbrev pub is_fault : Outcome → Bool
-is_fault Given = false
-is_fault JournalFault = true
-is_fault NoMemory = false
+-- each ask for which the journal failed would have added to a history of the rooms that it met
+abbrev pub FailedFresh : Manner → List Room → List Call → Type 0
+FailedFresh m rooms [] = ⊤
+FailedFresh m rooms (c ∷ calls) = (c.outcome ≡ JournalFault → m.next rooms c.ask Given ≢ rooms) × FailedFresh m (m.next rooms c.ask c.outcome) calls
 
--- how often the journal failed
-abbrev pub faults_in : List Outcome → ℕ
-faults_in outcomes = count_by is_fault outcomes
+-- an ask found memory
+abbrev pub found_memory : Outcome → Bool
+found_memory Given = true
+found_memory JournalFault = true
+found_memory NoMemory = false
+
+-- These asks reached the desk and lead from its rooms to its rooms. The new outcomes are theirs in turn, but for asks that found no
+-- memory, which may not have reached it. The journal failed only for asks that would have added to a history.
+pub record Called (old new : DeskState) : Type 0 where
+  pub calls : List Call
+  pub rooms_are : new.rooms ≡ after old.manner old.rooms calls
+  pub added : List Outcome
+  pub outcomes_are : new.outcomes ≡ old.outcomes ++ added
+  pub matched : filter found_memory added ≡ filter found_memory (map (λ c. c.outcome) calls)
+  pub fresh : FailedFresh old.manner old.rooms calls
 
 -- What asks do to a desk and to a store. The desk's manner stays, and each ask takes room for one and leaves one outcome. The store
 -- tells what it told and was asked for no name. Where `within` held of the rooms at entry, it holds at each state that a log gains of the
 -- rooms that some of the asks leave, and at exit of the last rooms. Where `exact` held and the journal failed in no ask, it holds at
--- exit. The count of the store's faults rose for each ask in which the journal failed, and for no other. Logs that keep no room's
--- history stayed.
+-- exit. The count of the store's faults rose by one or more for each ask in which the journal failed, and stayed where it failed in none.
+-- Logs that keep no room's history stayed.
 pub record Endures (within within' exact exact' : List Room → ℕ → State → Type 0) (old new : DeskState) (store store' : StoreState) : Type 0 where
   pub manner : new.manner ≡ old.manner
   pub counted : new.room + length new.outcomes ≡ old.room + length old.outcomes
   pub fewer : new.room ≤ old.room
   pub told : store'.told ≡ store.told
   pub names : IsTrue store.told → store'.names ≡ store.names
-  pub reached : Reaches old.manner old.rooms new.rooms
+  pub asked : Called old new
   pub within_stays : (r : List Room) (log : ℕ) (state : State) → within' r log state ↔ within r log state
   pub exact_stays : (r : List Room) (log : ℕ) (state : State) → exact' r log state ↔ exact r log state
   pub passed : IsTrue store.told → (log : ℕ) → within old.rooms log (store.logs log).state
@@ -57,4 +70,4 @@ pub record Endures (within within' exact exact' : List Room → ℕ → State �
   pub more : faults_in old.outcomes ≤ faults_in new.outcomes
   pub later : store.faults ≤ store'.faults
   pub steady : faults_in new.outcomes ≡ faults_in old.outcomes → store'.faults ≡ store.faults
-  pub risen : min (store.faults + (faults_in new.outcomes - faults_in old.outcomes)) (2 ^ 64 - 1) ≤ store'.faults
+  pub risen : RoseBy (faults_in new.outcomes - faults_in old.outcomes) store.faults store'.faults

@@ -16,7 +16,8 @@ use Rattle.cube_http.specs.Stream.{Request}
 use Rattle.cube_http.specs.declared.connection.Heard.{Heard as Sound}
 use Rattle.cube_http.specs.declared.connection.Heard.TheVariants as heard
 use Rattle.cube_http.specs.declared.targets.Wanted.{Wanted}
-use Rattle.cube_server.specs.Logs.{Luck, Call, Course, Turn, Run, spoken, replied, answered, wanted_by, dealt_all, behind, run_of, log_of, end_of, met}
+use Rattle.cube_server.specs.Crashes.{FailedFresh, Called}
+use Rattle.cube_server.specs.Logs.{Luck, Call, Course, Turn, Run, spoken, replied, answered, wanted_by, dealt_all, behind, run_of, log_of, calls_of, end_of, met}
 use Rattle.cube_server.specs.declared.serving.ServeFault.{ServeFault}
 use Rattle.cube_server.specs.declared.serving.ServeFault.TheVariants as fault
 use Rattle.cube_server.specs.Seen.{DeskState}
@@ -70,14 +71,12 @@ pub record Speaks (c : ℕ) (op : Turn → Turn) (log log' : List LogEntry) (liv
 -- a step of the definition that may ask the desk too
 pub record Deals (c : ℕ) (op : Turn → Turn) (old new : DeskState) (log log' : List LogEntry) (live : Bool) : Type 0 where
   pub talks : Talks c log log' live
-  pub outcomes : List Outcome
+  pub asked : Called old new
   pub sends : List (Option ℕ)
   pub starved : List Bool
-  pub calls : List Call
-  pub gained : new.outcomes ≡ old.outcomes ++ outcomes
   pub shown : sends_in log' ≡ sends_in log ++ sends
   pub runs : (os : List Outcome) (ss : List (Option ℕ)) (bs : List Bool) (cs : List Call)
-      → op (turn (course old.rooms old.room (outcomes ++ os) (sends ++ ss) (starved ++ bs) cs log) true) ≡ turn (course new.rooms new.room os ss bs (cs ++ calls) log') live
+      → op (turn (course old.rooms old.room (asked.added ++ os) (sends ++ ss) (starved ++ bs) cs log) true) ≡ turn (course new.rooms new.room os ss bs (cs ++ asked.calls) log') live
 
 -- the reply to what a request wants: where it goes out, the request was dealt with
 abbrev pub MakesReply : Wanted → DeskState → DeskState → Reply → Type 0
@@ -107,14 +106,12 @@ pub record Meets (op : Run → Run) (lines' : List Line) (conns : List (ℕ × L
   pub kept : 0 < new.room → AreKept lines' conns'
   pub live : AreOpen lines' log'
   pub quiet : events_in log' ≡ events_in log
-  pub outcomes : List Outcome
+  pub asked : Called old new
   pub sends : List (Option ℕ)
   pub starved : List Bool
-  pub calls : List Call
-  pub gained : new.outcomes ≡ old.outcomes ++ outcomes
   pub shown : sends_in log' ≡ sends_in log ++ sends
   pub runs : (n : ℕ) (os : List Outcome) (ss : List (Option ℕ)) (bs : List Bool) (cs : List Call)
-      → op (run conns n (course old.rooms old.room (outcomes ++ os) (sends ++ ss) (starved ++ bs) cs log)) ≡ run conns' n (course new.rooms new.room os ss bs (cs ++ calls) log')
+      → op (run conns n (course old.rooms old.room (asked.added ++ os) (sends ++ ss) (starved ++ bs) cs log)) ≡ run conns' n (course new.rooms new.room os ss bs (cs ++ asked.calls) log')
 
 -- the same, whatever came on the connections that were open before
 abbrev pub MeetsAll : (Run → Run) → List Line → List Line → DeskState → DeskState → List LogEntry → List LogEntry → Type 0
@@ -135,7 +132,8 @@ stated_at desk events = record { asks = desk.room; events = events }
 
 -- The log of a whole call that takes so many events at most. It is the log of the definition for the rooms at entry, the events that it
 -- shows, and the stated numbers, the outcomes that were gained, the sends as the log shows them, and what constant replies starved. No
--- outcome is left over, the rooms are those at the end of the definition's run, and as many asks are left as the desk has room for.
+-- outcome is left over, the rooms are those at the end of the definition's run, and as many asks are left as the desk has room for. The
+-- journal failed only for asks that would have added to a history.
 pub record Serves (old new : DeskState) (events : ℕ) (log : List LogEntry) : Type 0 where
   pub outcomes : List Outcome
   pub starved : List Bool
@@ -144,6 +142,7 @@ pub record Serves (old new : DeskState) (events : ℕ) (log : List LogEntry) : T
   pub ended : new.rooms ≡ end_of old.manner old.rooms (events_in log) (luck_of (stated_at old events) outcomes (sends_in log) starved)
   pub none_left : (run_of old.manner old.rooms (events_in log) (luck_of (stated_at old events) outcomes (sends_in log) starved)).course.outcomes ≡ []
   pub asks_left : (run_of old.manner old.rooms (events_in log) (luck_of (stated_at old events) outcomes (sends_in log) starved)).course.asks ≡ new.room
+  pub fresh : FailedFresh old.manner old.rooms (calls_of old.manner old.rooms (events_in log) (luck_of (stated_at old events) outcomes (sends_in log) starved))
 
 abbrev pub is_end : Arrival → Bool
 is_end (Opened c) = false

@@ -1,4 +1,6 @@
 pub mod Started
+pub mod Sealing
+pub mod Unopened
 pub mod Phrases
 pub mod Wired
 pub mod Played

@@ -1,25 +1,10 @@
 -- What a run asked for where it was to listen.
 use Rattle.std.proofs.Common.{◌≡◌, ◌≢◌, ◌++◌, ◌∷◌, ◌⊎◌, ℕ, List, [], inl, inr, refl, sym, arith}
-use Rattle.std.specs.Prelude.{IfSome, IsSomeAnd, Result, Ok, Err}
-use Rattle.std.specs.declared.option.Option.{Option}
-use Rattle.std.specs.declared.option.Option.TheVariants.{Some, None}
-use Rattle.cube_io.specs.Seen.{FolderState, Seen}
-use Rattle.cube_opening.specs.Opening.{AsksAll, AskedFor, AsksTwo, names_of}
-use Rattle.cube_opening.specs.declared.cube_files.CubeFiles.{CubeFiles}
+use Rattle.std.specs.Prelude.{Result, Ok, Err}
 use Rattle.cube_opening.specs.declared.report.Report.{Report}
 use Rattle.cube_server.specs.declared.serving.ServeFault.{ServeFault}
 use Rattle.cube_server.specs.declared.serving.ServeFault.TheVariants.{WireFailed, Spent}
 use Rattle.cube_serving.specs.Serving.{served_status}
-
--- each of these names was asked for, or less was
-or_less : (old new : Option (List (List ℕ))) (names : List (List ℕ)) (Less : List (List ℕ) → List (List ℕ) → Type 0) → IfSome old (λ o. IsSomeAnd new (λ n. n ≡ o ++ names)) → IfSome old (λ o. IsSomeAnd new (λ n. (n ≡ o ++ names) ⊎ Less o n))
-or_less None new names Less asked = tt
-or_less (Some o) None names Less asked = absurd asked
-or_less (Some o) (Some n) names Less asked = inl asked
-
--- each of the three files was asked for
-pub asked_all : {F : Type 0} (cube : CubeFiles) (files : Seen FolderState F) (r : Report) → AskedFor (names_of cube) files → AsksAll cube files r
-asked_all cube files r asked = or_less files.before.asked files.after.asked (names_of cube) (λ o n. AsksTwo cube files o n r) asked
 
 -- the address was asked for, or the wire failed before
 pub heard_or_failed : (address : List ℕ) (old new : List (List ℕ)) (r : Report) → (new ≡ old) ⊎ (new ≡ old ++ address ∷ []) → r.status ≡ 8 → (new ≡ old ++ address ∷ []) ⊎ ((new ≡ old) × (r.status ≡ 8))

@@ -1,24 +1,23 @@
 -- How a script is read, and how its play ends.
-use Rattle.std.proofs.Common.{◌≡◌, ◌≤◌, ◌∙◌, refl, sym, ap, subst, ℕ, Bool, true, false, List, [], ◌∷◌, ◌++◌, length, append_assoc, Some, None, inl, inr, ⊎_elim, arith}
+use Rattle.std.proofs.Common.{◌≡◌, ◌≤◌, ◌∙◌, refl, sym, ap, subst, ℕ, Bool, true, false, List, [], ◌∷◌, ◌++◌, length, append_assoc, Some, None, inl, inr, arith}
 use Rattle.std.proofs.lemmas.Bool.Decides.{nat_tests}
 use Rattle.std.proofs.lemmas.Bool.{false≢true}
 use Rattle.std.specs.List.{list_any}
 use Rattle.std.specs.Option.{option_map}
 use Rattle.std.specs.Str.{bytes_eq}
 use Rattle.cube_model.proofs.Members.{tested}
-use Rattle.std.specs.Prelude.{◌⊎◌, ◌≢◌, ◌<◌, ◌+◌, ◌==◌, ◌||◌, Result, Ok, Err, IfSome, IsSomeAnd, codes, decimal, nat_lt, is_err, OnOk, OnErr}
+use Rattle.std.specs.Prelude.{◌⊎◌, ◌≢◌, ◌<◌, ◌+◌, ◌==◌, ◌||◌, Result, Ok, Err, codes, decimal, nat_lt, is_err, OnOk, OnErr}
 use Rattle.std.specs.declared.option.Option.{Option}
 use Rattle.std.specs.Io.KnownBytes.{Appends}
 use Rattle.cube_model.specs.declared.outcome.Outcome.{Outcome}
 use Rattle.cube_io.specs.Causes.{Rose}
 use Rattle.cube_io.specs.declared.faults.Failed.{Failed as Fault}
 use Rattle.cube_io.specs.Content.{AppendsPrefix}
-use Rattle.cube_io.specs.Seen.{FolderState, SinkState, Seen}
+use Rattle.cube_io.specs.Seen.{SinkState, Seen}
 use Rattle.cube_io.specs.Wires.{Arrival, LogEntry, events_in, render}
 use Rattle.cube_io.specs.Wires.Arrival.{Opened, Came, Closed, End}
 use Rattle.cube_io.specs.Files.{max_file}
-use Rattle.cube_opening.specs.Opening.{fault_text, faulted, unless_long, Failed, AsksAll, AsksTwo, EndsUnopened, names_of}
-use Rattle.cube_opening.specs.declared.cube_files.CubeFiles.{CubeFiles}
+use Rattle.cube_opening.specs.Opening.{fault_text, faulted, unless_long}
 use Rattle.cube_opening.specs.declared.report.Report.{Report}
 use Rattle.cube_script.specs.Playing.{Playing, IsPlaying, starting, started, has_torn}
 use Rattle.cube_script.specs.Scripts.{connection_of, bytes_of, came_of, event_of, words, lines, with_event, events_of, script_of}
@@ -29,7 +28,7 @@ use Rattle.cube_server.specs.Steps.{has_end, is_end}
 use Rattle.cube_server.specs.declared.serving.ServeFault.{ServeFault}
 use Rattle.cube_server.specs.declared.serving.ServeFault.TheVariants.{WireFailed, Spent}
 use Rattle.cube_serving.specs.Serving.{Ends}
-use Rattle.cube_serving.specs.Replaying.{script_said, AsksFour, played_status, played_text, Writes}
+use Rattle.cube_serving.specs.Replaying.{script_said, played_status, played_text, Writes}
 
 -- ---- what a script says
 
@@ -119,56 +118,6 @@ events_more n (line ∷ next ∷ more) es k = with_more n (event_of (words line)
 
 pub script_more : (text : List ℕ) (script : List Arrival) → script_of text ≡ Ok script → list_any is_end script ≡ false
 script_more text script k = events_more 1 (lines text) script k
-
--- ---- which files were asked for
-
--- a run that ends at one of three files ends by a failure, or by a file that is refused
-pub ended_by : {F : Type 0} (cube : CubeFiles) (files : Seen FolderState F) (r : Report) → EndsUnopened cube files r → Failed files r ⊎ (r.status ≡ 3)
-ended_by cube files r (inl (inl e)) = inl (inl e.0)
-ended_by cube files r (inl (inr (inl e))) = inl (inl e.0)
-ended_by cube files r (inl (inr (inr (inl e)))) = inl (inr ((e.0).0, e.1))
-ended_by cube files r (inl (inr (inr (inr (inl e))))) = inl (inr ((e.0).0, e.1))
-ended_by cube files r (inl (inr (inr (inr (inr (inl e)))))) = inr (e.0).0
-ended_by cube files r (inl (inr (inr (inr (inr (inr e)))))) = inr (e.0).0
-ended_by cube files r (inr (inl e)) = inl (inr ((e.0).0, e.1))
-ended_by cube files r (inr (inr e)) = inr (e.0).0
-
--- where the script was not reached
-not_reached : (old new : Option (List (List ℕ))) (names more : List (List ℕ)) (Less : List (List ℕ) → List (List ℕ) → Type 0) (why : Type 0) → why → IfSome old (λ o. IsSomeAnd new (λ n. (n ≡ o ++ names) ⊎ Less o n))
-    → IfSome old (λ o. IsSomeAnd new (λ n. (n ≡ o ++ names ++ more) ⊎ ((n ≡ o ++ names) × why) ⊎ Less o n))
-not_reached None new names more Less why w asks = tt
-not_reached (Some o) None names more Less why w asks = asks
-not_reached (Some o) (Some n) names more Less why w (inl e) = inr (inl (e, w))
-not_reached (Some o) (Some n) names more Less why w (inr two) = inr (inr two)
-
-pub asks_three : {F : Type 0} (cube : CubeFiles) (s : List ℕ) (files : Seen FolderState F) (r : Report) → Failed files r ⊎ (r.status ≡ 3) → AsksAll cube files r → AsksFour cube s files r
-asks_three cube s files r why asks = not_reached files.before.asked files.after.asked (names_of cube) (s ∷ []) (λ o n. AsksTwo cube files o n r) (Failed files r ⊎ (r.status ≡ 3)) why asks
-
--- where the script was asked for, behind the three files
-reached : (old mid new : Option (List (List ℕ))) (names more : List (List ℕ)) (Less : List (List ℕ) → List (List ℕ) → Type 0) → IfSome old (λ o. IsSomeAnd mid (λ n. n ≡ o ++ names)) → IfSome mid (λ o. IsSomeAnd new (λ n. n ≡ o ++ more))
-    → IfSome old (λ o. IsSomeAnd new (λ n. (n ≡ o ++ names ++ more) ⊎ Less o n))
-reached None mid new names more Less three four = tt
-reached (Some o) None new names more Less three four = absurd three
-reached (Some o) (Some n) None names more Less three four = four
-reached (Some o) (Some n) (Some k) names more Less three four = inl (four ∙ ap (λ (x : List (List ℕ)). x ++ more) three)
-
-pub asks_four : {F : Type 0} (cube : CubeFiles) (s : List ℕ) (files : Seen FolderState F) (mid : Option (List (List ℕ))) (r : Report) → IfSome files.before.asked (λ o. IsSomeAnd mid (λ n. n ≡ o ++ names_of cube)) → IfSome mid (λ o. IsSomeAnd files.after.asked (λ n. n ≡ o ++ s ∷ [])) → AsksFour cube s files r
-asks_four cube s files mid r three four = reached files.before.asked mid files.after.asked (names_of cube) (s ∷ []) (λ o n. ((n ≡ o ++ names_of cube) × (Failed files r ⊎ (r.status ≡ 3))) ⊎ AsksTwo cube files o n r) three four
-
--- where the run ended at the script
-once : (old mid new : Option (List (List ℕ))) (names : List (List ℕ)) (s : List ℕ) (why whys : Type 0) (Less : List (List ℕ) → List (List ℕ) → Type 0) → (why → whys) → IfSome old (λ o. IsSomeAnd mid (λ n. n ≡ o ++ names))
-    → IfSome mid (λ o. IsSomeAnd new (λ n. (n ≡ o ++ s ∷ []) ⊎ ((n ≡ o) × why))) → IfSome old (λ o. IsSomeAnd new (λ n. (n ≡ o ++ names ++ s ∷ []) ⊎ ((n ≡ o ++ names) × whys) ⊎ Less o n))
-once None mid new names s why whys Less f three four = tt
-once (Some o) None new names s why whys Less f three four = absurd three
-once (Some o) (Some n) None names s why whys Less f three four = four
-once (Some o) (Some n) (Some k) names s why whys Less f three (inl four) = inl (four ∙ ap (λ (x : List (List ℕ)). x ++ s ∷ []) three)
-once (Some o) (Some n) (Some k) names s why whys Less f three (inr same) = inr (inl (same.0 ∙ three, f same.1))
-
-pub asks_script : {F : Type 0} (cube : CubeFiles) (s : List ℕ) (files : Seen FolderState F) (mid : FolderState) (r : Report) → mid.faults ≡ files.before.faults → IfSome files.before.asked (λ o. IsSomeAnd mid.asked (λ n. n ≡ o ++ names_of cube))
-    → IfSome mid.asked (λ o. IsSomeAnd files.after.asked (λ n. (n ≡ o ++ s ∷ []) ⊎ ((n ≡ o) × ((r.status ≡ 7) ⊎ ((r.status ≡ 5) × Rose mid.faults files.after.faults))))) → AsksFour cube s files r
-asks_script cube s files mid r steady three four =
-    once files.before.asked mid.asked files.after.asked (names_of cube) s ((r.status ≡ 7) ⊎ ((r.status ≡ 5) × Rose mid.faults files.after.faults)) (Failed files r ⊎ (r.status ≡ 3)) (λ o n. AsksTwo cube files o n r)
-    (λ why. inl (⊎_elim (λ seven. inl seven) (λ x. inr (x.0, subst (λ (n : ℕ). Rose n files.after.faults) steady x.1)) why)) three four
 
 -- ---- why a play ends
 

@@ -1,11 +1,9 @@
 -- Over a world with the changes for a protected cell a served wire has the same log; and what a crash leaves meanwhile.
-use Rattle.std.proofs.Common.{◌≡◌, ◌≤◌, ◌^◌, ◌∙◌, refl, sym, ap, subst, ℕ, zero, suc, Bool, false, IsTrue, List, [], ◌∷◌, ◌++◌, cond, inl, inr, arith}
-use Rattle.std.proofs.lemmas.List.Sums.{sum_by-cons}
-use Rattle.std.specs.Prelude.{min, ◌+◌, ◌-◌, ◌<◌, ◌⊎◌, Result, Ok, Err, OnOk, OnErr, IfErr, length}
+use Rattle.std.proofs.Common.{◌≡◌, ◌≤◌, ◌∙◌, refl, sym, ap, subst, ℕ, Bool, false, IsTrue, List, [], ◌∷◌, ◌++◌, inl, inr, arith}
+use Rattle.std.specs.Prelude.{◌+◌, ◌-◌, ◌<◌, ◌⊎◌, Result, Ok, Err, OnOk, OnErr, IfErr, length}
 use Rattle.cube_model.specs.declared.cell.Cell.{Cell}
 use Rattle.cube_model.specs.declared.entry.Entry.{Entry}
 use Rattle.cube_model.specs.declared.outcome.Outcome.{Outcome}
-use Rattle.cube_model.specs.declared.outcome.Outcome.TheVariants.{Given, JournalFault, NoMemory}
 use Rattle.cube_model.specs.declared.policy.Policy.{Policy}
 use Rattle.cube_model.specs.Cores.{Core, IsCore, shown, world}
 use Rattle.cube_model.specs.Cubes.{Public, World, IsWorld, IsIn}
@@ -22,29 +20,27 @@ use Rattle.cube_io.specs.Seen.{FolderState, StoreState, Seen}
 use Rattle.cube_io.specs.States.{Gained}
 use Rattle.cube_io.specs.Wires.{LogEntry, Arrival, events_in}
 use Rattle.cube_io.specs.Wires.Arrival.{End}
-use Rattle.cube_io.specs.Causes.{Rose}
-use Rattle.cube_io.specs.Desks.{Manner}
+use Rattle.cube_io.specs.Causes.{RoseBy}
+use Rattle.cube_io.specs.Desks.{Manner, faults_in}
 use Rattle.cube_io.proofs.Trails.{gained_then, gained_map}
 use Rattle.cube_journal.specs.Keeping.{IsInRecovery}
-use Rattle.cube_engine.specs.Engines.{Engine, rooms_of, book_of}
+use Rattle.cube_engine.specs.Engines.{Engine, rooms_of}
 use Rattle.cube_engine.specs.Kept.{history_of, IsExact}
 use Rattle.cube_engine.specs.Steps.{manner}
-use Rattle.cube_engine.specs.Worlds.{first_history, IsRuled}
+use Rattle.cube_engine.specs.Worlds.{first_history}
 use Rattle.cube_engine.proofs.Worlds.{Reads, texts_read, room_open, other_sum, behind_ask, next_alone, ask_grows, ask_stays}
 use Rattle.cube_server.specs.Alike.{SameReplies}
-use Rattle.cube_server.specs.Crashes.{after, Reaches, OnTheWay, Endures, faults_in, is_fault}
+use Rattle.cube_server.specs.Crashes.{after, Reaches, OnTheWay, Called, Endures}
 use Rattle.cube_server.specs.Logs.{Call, Luck, calls_of, end_of}
 use Rattle.cube_server.specs.Seen.{DeskState}
 use Rattle.cube_server.specs.Steps.{Serves, IsCounted, has_end, sends_in, luck_of, stated_at}
 use Rattle.cube_server.specs.declared.serving.ServeFault.{ServeFault}
 use Rattle.cube_server.specs.declared.serving.ServeFault.TheVariants.{WireFailed, Spent}
 use Rattle.cube_server.proofs.Likeness.{logs_are_alike}
-use Rattle.cube_talk.specs.Asks.{NoneFailed}
 use Rattle.cube_talk.specs.Talk.{max_input}
-use Rattle.cube_opening.specs.Opening.{Make}
 use Rattle.cube_opening.specs.declared.cube_files.CubeFiles.{CubeFiles}
-use Rattle.cube_serving.specs.Serving.{Asking, asking, desk_before, Tells, Ends, Wired, Served}
-use Rattle.cube_serving.specs.Starting.{IsBetween, Survived}
+use Rattle.cube_serving.specs.Serving.{Asking, asking, desk_before, desk_behind, Tells, Ends, Wired, Served}
+use Rattle.cube_serving.specs.Starting.{IsBetween, IsOpen, Survived}
 use Rattle.cube_serving.proofs.Started.{exact_of, within_of, begun}
 
 -- ---- behind some asks
@@ -120,6 +116,7 @@ told core policy a behind log is_core is_policy adm at room outcomes served =
         ended = sym there ∙ served.ended;
         none_left = served.none_left;
         asks_left = served.asks_left ∙ room;
+        fresh = served.fresh;
       };
       hides = record {
         here = served.told;
@@ -129,6 +126,25 @@ told core policy a behind log is_core is_policy adm at room outcomes served =
             let alike = logs_are_alike (manner s) (alone w a.first) (alone (twin w m (changes w.shown later m t)) a.first) events luck (same_replies s w a.first later calls m t ok (texts_read core policy is_core is_policy) good on within) in
             record { same = served.told ∙ sym alike.same_log; other_sum = other_sum w later m t ok good within };
       };
+    }
+
+-- ---- what was asked
+
+-- what reached an engine that was asked nothing before
+pub called : (core : Core) (policy : Policy) (a : Asking) (outcomes : List Outcome) (behind : DeskState) → outcomes ≡ [] → a.last ≡ first_history behind.rooms → behind.outcomes ≡ a.outcomes
+    → Called (record { manner = manner core.dims; rooms = alone (world core policy) a.first; room = a.stated; outcomes = outcomes }) behind → Called (desk_before core policy a) (desk_behind core policy a)
+called core policy a outcomes behind unasked at same x =
+    let s = core.dims in
+    let w = world core policy in
+    let there : behind.rooms ≡ alone w (steps s w.shown a.first x.calls) = x.rooms_are ∙ after_alone s w a.first x.calls in
+    let is : a.last ≡ steps s w.shown a.first x.calls = at ∙ ap first_history there in
+    record {
+      calls = x.calls;
+      rooms_are = ap (λ (k : List Entry). alone w k) is ∙ sym (after_alone s w a.first x.calls);
+      added = x.added;
+      outcomes_are = sym same ∙ x.outcomes_are ∙ ap (λ (os : List Outcome). os ++ x.added) unasked;
+      matched = x.matched;
+      fresh = x.fresh;
     }
 
 -- ---- how a serving ended
@@ -147,32 +163,9 @@ ended_as (Err (Spent requests events)) told old old' new new' log first last roo
 
 -- ---- what a crash leaves
 
--- the journal failed for none, as counted
-none_counted : (os : List Outcome) → NoneFailed os → faults_in os ≡ 0
-none_counted [] none = refl
-none_counted (Given ∷ os) none = none_counted os none.1
-none_counted (JournalFault ∷ os) none = absurd (none.0 refl)
-none_counted (NoMemory ∷ os) none = none_counted os none.1
-
-counted_none : (os : List Outcome) → faults_in os ≡ 0 → NoneFailed os
-counted_none [] e = tt
-counted_none (Given ∷ os) e = (λ f. cc, counted_none os e)
-counted_none (JournalFault ∷ os) e = absurd (omega (arith, e, one))
-  where
-    one : faults_in (JournalFault ∷ os) ≡ 1 + faults_in os
-    one = sum_by-cons (λ (o : Outcome). cond (is_fault o) 1 0) JournalFault os
-counted_none (NoMemory ∷ os) e = (λ f. cc, counted_none os e)
-
--- where the count of the store did not rise, the journal failed for none
-pub calm : (first os : List Outcome) (before now : ℕ) → first ≡ [] → min (before + (faults_in os - faults_in first)) (2 ^ 64 - 1) ≤ now → ¬ Rose before now → NoneFailed os
-calm first os before now unasked risen quiet = by (faults_in os) refl
-  where
-    none : faults_in first ≡ 0
-    none = ap faults_in unasked
-
-    by : (n : ℕ) → faults_in os ≡ n → NoneFailed os
-    by zero e = counted_none os e
-    by (suc n) e = absurd (quiet (omega (arith, risen, e, none)))
+-- the count of the store rose for each ask in which the journal failed, where none was asked before
+pub rose_for : (first os : List Outcome) (before now : ℕ) → first ≡ [] → RoseBy (faults_in os - faults_in first) before now → RoseBy (faults_in os) before now
+rose_for first os before now unasked rose = let none : faults_in first ≡ 0 = ap faults_in unasked in omega (arith, rose, none)
 
 -- rooms on the way have a history between the first and the last
 on_the_way : (core : Core) (policy : Policy) (h : List Entry) (last here : List Room) → Reaches (manner core.dims) (alone (world core policy) h) here → Reaches (manner core.dims) here last → Extends h (first_history here) × Extends (first_history here) (first_history last)
@@ -210,7 +203,7 @@ kept {S} e last mid store zeroth unasked are exact opened v =
           (gained_map (OnTheWay (manner core.dims) (within_of e) (alone (world core policy) h) (rooms_of last) 0) (IsBetween core policy old.state h last.history) (mid.logs 0) new
           (λ s x. let between = on_the_way core policy h (rooms_of last) x.here x.from x.to in inr (first_history x.here, between.0, between.1, (x.there).1)) (v.passed are 0 around));
       ends = ((v.within_stays (rooms_of last) 0 new.state).0 (v.stays_within are 0 around)).1;
-      exact = λ none. ((v.exact_stays (rooms_of last) 0 new.state).0 (v.stays_exact (none_counted last.outcomes none ∙ sym (ap faults_in unasked)) are 0 (sym zeroth, exact))).1;
+      exact = λ none. ((v.exact_stays (rooms_of last) 0 new.state).0 (v.stays_exact (none ∙ sym (ap faults_in unasked)) are 0 (sym zeroth, exact))).1;
     }
 
 -- ---- the whole
@@ -222,18 +215,17 @@ Keeps core policy e last mid store =
     → (IsTrue store.before.told → Gained (IsInRecovery (history_of core policy) (store.before.logs 0).state) (store.before.logs 0) (mid.logs 0)) → Survived core policy e.history last.history last.outcomes store
 
 -- what is known of an engine that was opened and then served a wire, in one record
-pub served : {S : Type 0} (cube : CubeFiles) (files : FolderState) (mid : StoreState) (store : Seen StoreState S) (end : Result (Unit {0}) ServeFault) (told heard_told : Bool) (log : List LogEntry) (core : Core) (policy : Policy) (e last : Engine) (stated : ℕ)
-    → Make cube files core policy → e ≡ begun core policy e.history e.journal stated → IsRuled (book_of e) → (IsTrue store.before.told → history_of core policy (store.before.logs 0).state.now ≡ Ok e.history)
+pub served : {S : Type 0} (cube : CubeFiles) (files : FolderState) (mid : StoreState) (store : Seen StoreState S) (end : Result (Unit {0}) ServeFault) (told heard_told : Bool) (log : List LogEntry) (core : Core) (policy : Policy) (facts : List ℕ) (e last : Engine) (stated : ℕ)
+    → IsOpen cube files store core policy facts e.history → e ≡ begun core policy e.history e.journal stated
     → (IsTrue store.before.told → IsExact core policy e.history (mid.logs 0).state) → (IsTrue store.before.told → Gained (IsInRecovery (history_of core policy) (store.before.logs 0).state) (store.before.logs 0) (mid.logs 0))
     → heard_told ≡ told → Wired e.core e.policy (asking e last) end heard_told log → Keeps e.core e.policy e last mid store
-    → mid.faults ≡ store.before.faults → (¬ Rose mid.faults store.after.faults → NoneFailed last.outcomes) → Served cube files store (asking e last) end told log
-served {S} cube files mid store end told heard_told log core policy e last stated make is rules recovered exact crash same_heard wired keeps steady calm = record {
+    → mid.faults ≡ store.before.faults → RoseBy (faults_in last.outcomes) mid.faults store.after.faults → Served cube files store (asking e last) end told log
+served {S} cube files mid store end told heard_told log core policy facts e last stated is_open is exact crash same_heard wired keeps steady failed = record {
   core = core;
   policy = policy;
-  files_make = make;
-  recovered = recovered;
-  admissible = subst (λ (x : Engine). IsAdmissible (shown x.core x.policy) e.history) is rules.admissible;
+  facts = facts;
+  opened = is_open;
   wired = subst (λ (b : Bool). Wired core policy (asking e last) end b log) same_heard (subst (λ (x : Engine). Wired x.core x.policy (asking e last) end heard_told log) is wired);
   survived = λ are. subst (λ (x : Engine). Keeps x.core x.policy e last mid store) is keeps are (exact are) crash;
-  none_failed = λ quiet. calm (λ rose. quiet (subst (λ (n : ℕ). Rose n store.after.faults) steady rose));
+  failed = subst (λ (n : ℕ). RoseBy (faults_in last.outcomes) n store.after.faults) steady failed;
 }

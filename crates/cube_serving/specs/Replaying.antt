@@ -11,7 +11,7 @@ use Rattle.cube_io.specs.Content.{AppendsPrefix}
 use Rattle.cube_io.specs.Seen.{FolderState, SinkState, StoreState, Seen, Unused}
 use Rattle.cube_io.specs.Wires.{Arrival, LogEntry, events_in, render}
 use Rattle.cube_io.specs.Wires.Arrival.{End}
-use Rattle.cube_opening.specs.Opening.{fault_text, faulted, unless_long, FileSays, Unopened, Failed, IsSteady, AsksTwo, EndsUnopened, Make, HasAll, names_of}
+use Rattle.cube_opening.specs.Opening.{fault_text, faulted, unless_long, FileSays, EndsAt, GotBehind, Make, HasAll, names_of}
 use Rattle.cube_opening.specs.Reports.{IsReport, IsDone}
 use Rattle.cube_opening.specs.declared.cube_files.CubeFiles.{CubeFiles}
 use Rattle.cube_opening.specs.declared.report.Report.{Report}
@@ -22,7 +22,7 @@ use Rattle.cube_script.specs.declared.script_wire.TheConstants.{MAX_SENDS, MAX_S
 use Rattle.cube_server.specs.declared.serving.ServeFault.{ServeFault}
 use Rattle.cube_server.specs.declared.serving.ServeFault.TheVariants.{WireFailed}
 use Rattle.cube_serving.specs.Serving.{Asking, Served, Unserved, served_status, served_text}
-use Rattle.cube_serving.specs.Starting.{EndsUnstarted, HasJournal}
+use Rattle.cube_serving.specs.Starting.{EndsClosed, HasJournal}
 
 -- ---- the script
 
@@ -43,16 +43,11 @@ pub record Unscripted {F : Type 0} (cube : CubeFiles) (script_name : List ℕ) (
   pub core : Core
   pub policy : Policy
   pub files_make : Make cube files.before core policy
-  pub unopened : Unopened script_said script_name files r
+  pub ends : EndsAt (names_of cube) script_said script_name files r
 
--- All four names were asked for, in turn; where the run ended at a file, none behind it. The last may be lacking where memory ran out,
--- or where the folder failed.
-abbrev pub AsksFour : {F : Type 0} → CubeFiles → List ℕ → Seen FolderState F → Report → Type 0
-AsksFour cube script_name files r =
-    IfSome files.before.asked (λ o. IsSomeAnd files.after.asked (λ n.
-    (n ≡ o ++ names_of cube ++ script_name ∷ [])
-    ⊎ ((n ≡ o ++ names_of cube) × (Failed files r ⊎ (r.status ≡ 3)))
-    ⊎ AsksTwo cube files o n r))
+-- the names of all four files, in the turn in which they are read
+abbrev pub all_names : CubeFiles → List ℕ → List (List ℕ)
+all_names cube script_name = names_of cube ++ script_name ∷ []
 
 -- the script is there and is accepted
 abbrev pub HasScript : List ℕ → FolderState → Type 0
@@ -95,15 +90,14 @@ pub record Replayed {S O : Type 0} (cube : CubeFiles) (script_name : List ℕ) (
   pub unfailed : has_torn wire.log ≡ false → end ≢ Err WireFailed
   pub writes : Writes end wire.log out r
 
--- a run of `replay` ends at a file, at the script or at the journal, or for want of memory behind it; or it plays the script and writes
+-- a run of `replay` ends at the script, or before its cube is open, or for want of memory behind that; or it plays the script and writes
 -- the log
 abbrev pub ReplayEnds : {F S O : Type 0} → CubeFiles → List ℕ → ℕ → Seen FolderState F → Seen StoreState S → Seen SinkState O → Report → Type 0
 ReplayEnds cube script_name stated files store out r =
-    (EndsUnopened cube files r × Unused store × Unused out)
-    ⊎ (Unscripted cube script_name files r × Unused store × Unused out)
-    ⊎ (EndsUnstarted cube files.before store r × IsSteady files × Unused out)
-    ⊎ (Unserved cube files.before store × IsReport 7 (codes "no memory\n") r × IsSteady files × Unused out)
-    ⊎ (Replayed cube script_name stated files.before store out r × IsSteady files)
+    (Unscripted cube script_name files r × Unused store × Unused out)
+    ⊎ (EndsClosed cube (all_names cube script_name) files store r × Unused out)
+    ⊎ (Unserved cube files.before store × IsReport 7 (codes "no memory\n") r × GotBehind (all_names cube script_name) files × Unused out)
+    ⊎ (Replayed cube script_name stated files.before store out r × GotBehind (all_names cube script_name) files)
 
 -- where the files, the script and the journal are accepted, no count rose and less was taken than is taken at most, all is done
 abbrev pub ReplayCompletes : {F S O : Type 0} → CubeFiles → List ℕ → Seen FolderState F → Seen StoreState S → Seen SinkState O → Report → Type 0

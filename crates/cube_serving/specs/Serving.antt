@@ -5,28 +5,28 @@ use Rattle.std.specs.declared.result.Result.TheVariants.{Ok, Err}
 use Rattle.cube_model.specs.declared.entry.Entry.{Entry}
 use Rattle.cube_model.specs.declared.outcome.Outcome.{Outcome}
 use Rattle.cube_model.specs.declared.policy.Policy.{Policy}
-use Rattle.cube_model.specs.Cores.{Core, shown, world}
+use Rattle.cube_model.specs.Cores.{Core, world}
 use Rattle.cube_model.specs.Rooms.{alone}
-use Rattle.cube_model.specs.Verdicts.{IsAdmissible}
-use Rattle.cube_io.specs.Causes.{Rose}
+use Rattle.cube_io.specs.Causes.{Rose, RoseBy}
+use Rattle.cube_io.specs.Desks.{faults_in}
 use Rattle.cube_io.specs.Seen.{FolderState, StoreState, WireState, Seen, Unused, seen}
 use Rattle.cube_io.specs.Wires.{Arrival, LogEntry, events_in}
 use Rattle.cube_io.specs.Wires.Arrival.{End}
 use Rattle.cube_engine.specs.Engines.{Engine}
 use Rattle.cube_engine.specs.Headline.{Hides}
-use Rattle.cube_engine.specs.Kept.{history_of, IsExact}
+use Rattle.cube_engine.specs.Kept.{IsExact}
 use Rattle.cube_engine.specs.Steps.{manner}
-use Rattle.cube_opening.specs.Opening.{IsSteady, EndsUnopened, Make, HasAll}
+use Rattle.cube_opening.specs.Opening.{HasAll, GotBehind, names_of}
 use Rattle.cube_opening.specs.Reports.{IsReport, IsDone}
 use Rattle.cube_opening.specs.declared.cube_files.CubeFiles.{CubeFiles}
 use Rattle.cube_opening.specs.declared.report.Report.{Report}
+use Rattle.cube_server.specs.Crashes.{Called}
 use Rattle.cube_server.specs.Logs.{log_of}
 use Rattle.cube_server.specs.Seen.{DeskState}
 use Rattle.cube_server.specs.Steps.{Serves, IsCounted, has_end, sends_in, luck_of, stated_at}
 use Rattle.cube_server.specs.declared.serving.ServeFault.{ServeFault}
 use Rattle.cube_server.specs.declared.serving.ServeFault.TheVariants.{WireFailed, Spent}
-use Rattle.cube_serving.specs.Starting.{EndsUnstarted, HasJournal, Recovers, Survived}
-use Rattle.cube_talk.specs.Asks.{NoneFailed}
+use Rattle.cube_serving.specs.Starting.{EndsClosed, HasJournal, IsOpen, Recovers, Survived}
 use Rattle.cube_talk.specs.Talk.{max_input}
 
 -- ---- what the log of the wire tells
@@ -74,33 +74,34 @@ served_text (Ok u) = []
 served_text (Err WireFailed) = codes "wire failed\n"
 served_text (Err (Spent requests events)) = codes "spent: " ++ decimal requests ++ codes " requests, " ++ decimal events ++ codes " events\n"
 
--- A cube served a wire, of which this log is told where it is told.
+-- A cube served a wire, of which this log is told where it is told. What reached it are asks of which those that the journal failed for
+-- would have added to the history.
 pub record Wired (core : Core) (policy : Policy) (a : Asking) (end : Result (Unit {0}) ServeFault) (told : Bool) (log : List LogEntry) : Type 0 where
   pub ended : Ends end told (desk_before core policy a) (desk_behind core policy a) log
   pub counted : a.left + length a.outcomes ≡ a.stated
+  pub asked : Called (desk_before core policy a) (desk_behind core policy a)
   pub tells : IsTrue told → Tells core policy a log
 
 -- ---- the whole
 
--- A wire was served by the core that the files make, under their policy, from the history on that the journal recovers; and the journal
--- kept what was answered. It failed for some asks only where the store's count of faults rose.
+-- A wire was served by an open cube, and the journal kept what was answered. For each ask in which it failed the store's count of faults
+-- rose.
 pub record Served {S : Type 0} (cube : CubeFiles) (files : FolderState) (store : Seen StoreState S) (a : Asking) (end : Result (Unit {0}) ServeFault) (told : Bool) (log : List LogEntry) : Type 0 where
   pub core : Core
   pub policy : Policy
-  pub files_make : Make cube files core policy
-  pub recovered : IsTrue store.before.told → history_of core policy (store.before.logs 0).state.now ≡ Ok a.first
-  pub admissible : IsAdmissible (shown core policy) a.first
+  pub facts : List ℕ
+  pub opened : IsOpen cube files store core policy facts a.first
   pub wired : Wired core policy a end told log
   pub survived : IsTrue store.before.told → Survived core policy a.first a.last a.outcomes store
-  pub none_failed : ¬ Rose store.before.faults store.after.faults → NoneFailed a.outcomes
+  pub failed : RoseBy (faults_in a.outcomes) store.before.faults store.after.faults
 
--- The journal was opened, and nothing was served: of the log every crash leaves what recovers its history.
+-- A cube was opened, and nothing was served: of the journal every crash leaves what recovers its history.
 pub record Unserved {S : Type 0} (cube : CubeFiles) (files : FolderState) (store : Seen StoreState S) : Type 0 where
   pub core : Core
   pub policy : Policy
+  pub facts : List ℕ
   pub history : List Entry
-  pub files_make : Make cube files core policy
-  pub recovered : IsTrue store.before.told → history_of core policy (store.before.logs 0).state.now ≡ Ok history
+  pub opened : IsOpen cube files store core policy facts history
   pub passed : Recovers core policy store
   pub exact : IsTrue store.before.told → IsExact core policy history (store.after.logs 0).state
 
@@ -122,13 +123,12 @@ Hears address wire r = IsTrue wire.before.told → (wire.after.heard ≡ wire.be
 abbrev pub Unheard : {W : Type 0} → Seen WireState W → Report → Type 0
 Unheard wire r = (IsReport 8 (codes "wire failed\n") r × Rose wire.before.faults wire.after.faults) ⊎ IsReport 7 (codes "no memory\n") r
 
--- a run of `serve` ends at a file, at the journal, or where it is to listen; or it serves the connections of the wire
+-- a run of `serve` ends before its cube is open, or where it is to listen; or it serves the connections of the wire
 abbrev pub ServeEnds : {F S W : Type 0} → CubeFiles → ℕ → Seen FolderState F → Seen StoreState S → Seen WireState W → Report → Type 0
 ServeEnds cube stated files store wire r =
-    (EndsUnopened cube files r × Unused store × Unused wire)
-    ⊎ (EndsUnstarted cube files.before store r × IsSteady files × Unused wire)
-    ⊎ (Unserved cube files.before store × Unheard wire r × IsSteady files × (IsTrue wire.before.told → wire.after.log ≡ []))
-    ⊎ (ServedConnections cube stated files.before store wire r × IsSteady files)
+    (EndsClosed cube (names_of cube) files store r × Unused wire)
+    ⊎ (Unserved cube files.before store × Unheard wire r × GotBehind (names_of cube) files × (IsTrue wire.before.told → wire.after.log ≡ []))
+    ⊎ (ServedConnections cube stated files.before store wire r × GotBehind (names_of cube) files)
 
 -- where the files and the journal are accepted, no count rose and less was taken than is taken at most, all is done
 abbrev pub ServeCompletes : {F S W : Type 0} → CubeFiles → Seen FolderState F → Seen StoreState S → Seen WireState W → Report → Type 0

@@ -1,21 +1,25 @@
--- How a run ends at its journal, and what a crash may leave of its log.
-use Rattle.std.specs.Prelude.{◌≡◌, ◌⊎◌, ◌≤◌, ◌+◌, ◌^◌, ℕ, IsTrue, List, [], ◌∷◌, ◌++◌, length, codes, decimal, IsOk}
+-- How a run ends at its journal and at the seal beside it, and what a crash may leave of their logs.
+use Rattle.std.specs.Prelude.{◌≡◌, ◌≢◌, ◌⊎◌, ◌≤◌, ◌+◌, ◌^◌, ℕ, IsTrue, List, [], ◌∷◌, ◌++◌, length, codes, decimal, IsOk, Ok}
 use Rattle.cube_model.specs.declared.entry.Entry.{Entry}
 use Rattle.cube_model.specs.declared.outcome.Outcome.{Outcome}
 use Rattle.cube_model.specs.declared.policy.Policy.{Policy}
-use Rattle.cube_model.specs.Cores.{Core}
+use Rattle.cube_model.specs.Cores.{Core, shown}
 use Rattle.cube_model.specs.TwoWorlds.{Extends}
+use Rattle.cube_model.specs.Verdicts.{IsAdmissible}
 use Rattle.cube_io.specs.Causes.{Rose}
-use Rattle.cube_io.specs.Seen.{FolderState, StoreState, Seen}
+use Rattle.cube_io.specs.Desks.{faults_in}
+use Rattle.cube_io.specs.Seen.{FolderState, StoreState, Seen, Unused}
 use Rattle.cube_io.specs.States.{State, Gained}
-use Rattle.cube_io.specs.Told.{OthersStay}
+use Rattle.cube_io.specs.declared.store.TheConstants.{SEAL_LOG}
 use Rattle.cube_journal.specs.Keeping.{IsInRecovery}
 use Rattle.cube_engine.specs.Kept.{history_of, IsExact, IsWithin}
 use Rattle.cube_engine.specs.Opening.{IsStartFault}
 use Rattle.cube_engine.specs.declared.fault.EngineFault.{EngineFault}
 use Rattle.cube_engine.specs.declared.fault.EngineFault.TheVariants.{Failed, TooLong, Damaged, OtherCube, Inadmissible, NoMemory}
-use Rattle.cube_talk.specs.Asks.{NoneFailed}
-use Rattle.cube_opening.specs.Opening.{Make}
+use Rattle.cube_seal.specs.Seals.{Agrees, IsSealed, IsSealable, IsSealFault}
+use Rattle.cube_seal.specs.declared.fault.SealFault.{SealFault}
+use Rattle.cube_seal.specs.declared.fault.SealFault.TheVariants as seal
+use Rattle.cube_opening.specs.Opening.{Make, IsDigest, GotBehind, EndsUnopened}
 use Rattle.cube_opening.specs.Reports.{IsReport, NoRoom}
 use Rattle.cube_opening.specs.declared.cube_files.CubeFiles.{CubeFiles}
 use Rattle.cube_opening.specs.declared.report.Report.{Report}
@@ -44,44 +48,94 @@ abbrev pub IsRefused : Core → Policy → StoreState → EngineFault → Report
 IsRefused core policy store fault r =
     (journal_status fault ≡ 4) × IsReport 4 (journal_text fault) r × (IsTrue store.told → IsStartFault (history_of core policy (store.logs 0).state.now) (store.logs 0).state.now fault)
 
+-- the text on a seal that does not hold the journal, where this is the digest of the facts
+abbrev pub seal_text : List ℕ → SealFault → List ℕ
+seal_text now seal.Failed = codes "store failed\n"
+seal_text now seal.Damaged = codes "journal: seal damaged\n"
+seal_text now (seal.OtherFacts kept) = codes "journal: facts " ++ kept ++ codes " are not " ++ now ++ codes "\n"
+seal_text now seal.NoMemory = codes "no memory\n"
+
+abbrev pub seal_status : SealFault → ℕ
+seal_status seal.Failed = 9
+seal_status seal.Damaged = 4
+seal_status (seal.OtherFacts kept) = 4
+seal_status seal.NoMemory = 7
+
+-- the bytes of the seal are refused by this fault of theirs
+abbrev pub IsUnsealed : List ℕ → StoreState → SealFault → Report → Type 0
+IsUnsealed facts store fault r =
+    (seal_status fault ≡ 4) × IsReport 4 (seal_text facts fault) r × (IsTrue store.told → IsSealFault facts (store.logs SEAL_LOG).state.now fault)
+
 -- the store counted no fault
 abbrev pub IsCalm : {S : Type 0} → Seen StoreState S → Type 0
 IsCalm store = store.after.faults ≡ store.before.faults
 
--- A run over this core and policy ended at the journal: memory ran out, or the store failed, or the bytes of the log are refused.
-abbrev pub Unstarted : {S : Type 0} → Core → Policy → Seen StoreState S → Report → Type 0
-Unstarted core policy store r =
+-- A run over this core and policy and facts of this digest ended at the journal: memory ran out, or the store failed, or the bytes of the
+-- journal are refused, or those of its seal.
+abbrev pub Unstarted : {S : Type 0} → Core → Policy → List ℕ → Seen StoreState S → Report → Type 0
+Unstarted core policy facts store r =
     (NoRoom r × IsCalm store)
     ⊎ (IsReport 7 (codes "no memory\n") r × IsCalm store)
     ⊎ (IsReport 9 (codes "store failed\n") r × Rose store.before.faults store.after.faults)
     ⊎ ((fault : EngineFault) × IsRefused core policy store.before fault r × IsCalm store)
+    ⊎ ((fault : SealFault) × IsUnsealed facts store.before fault r × IsCalm store)
 
 -- the journal's name was asked for; it may lack where the store failed
 abbrev pub AsksStore : {S : Type 0} → List ℕ → Seen StoreState S → Report → Type 0
 AsksStore name store r = IsTrue store.before.told → (store.after.names ≡ store.before.names ++ name ∷ []) ⊎ ((store.after.names ≡ store.before.names) × (r.status ≡ 9))
 
--- What opening a journal leaves as it was: the store tells what it told before, no log but log 0 changed, and it took at most seven calls.
+-- no log changed but the journal's and the seal's
+abbrev pub OnlyJournal : StoreState → StoreState → Type 0
+OnlyJournal old new = IsTrue old.told → (k : ℕ) → k ≢ 0 → k ≢ SEAL_LOG → new.logs k ≡ old.logs k
+
+-- What opening a journal leaves as it was: the store tells what it told before, no other log changed, and it took at most eleven calls.
 pub record Opens {S : Type 0} (store : Seen StoreState S) : Type 0 where
   pub told : store.after.told ≡ store.before.told
-  pub others : OthersStay 0 store.before store.after
-  pub calls : IsTrue store.before.told → store.after.calls ≤ store.before.calls + 7
+  pub others : OnlyJournal store.before store.after
+  pub calls : IsTrue store.before.told → store.after.calls ≤ store.before.calls + 11
 
--- At each moment log 0 is as at entry, or every crash leaves what recovers the same.
+-- At each moment the journal is as at entry, or every crash leaves what recovers the same.
 abbrev pub Recovers : {S : Type 0} → Core → Policy → Seen StoreState S → Type 0
 Recovers core policy store = IsTrue store.before.told → Gained (IsInRecovery (history_of core policy) (store.before.logs 0).state) (store.before.logs 0) (store.after.logs 0)
 
--- the same over the core and the policy that the files make
+-- At no moment does a crash leave a seal of other facts, where none did so at entry.
+abbrev pub Seals : {S : Type 0} → List ℕ → Seen StoreState S → Type 0
+Seals facts store = IsTrue store.before.told → IsSealable facts (store.before.logs SEAL_LOG).state → Gained (IsSealable facts) (store.before.logs SEAL_LOG) (store.after.logs SEAL_LOG)
+
+-- A run ended at the journal, over the core, the policy and the facts that the files make.
 pub record EndsUnstarted {S : Type 0} (cube : CubeFiles) (files : FolderState) (store : Seen StoreState S) (r : Report) : Type 0 where
   pub core : Core
   pub policy : Policy
+  pub facts : List ℕ
   pub files_make : Make cube files core policy
-  pub unstarted : Unstarted core policy store r
+  pub digest : IsDigest cube files facts
+  pub unstarted : Unstarted core policy facts store r
   pub passed : Recovers core policy store
+  pub seals : Seals facts store
 
--- the log of the journal is accepted
-abbrev pub HasJournal : CubeFiles → FolderState → StoreState → Type 0
-HasJournal cube files store =
-    IsTrue store.told × (length (store.logs 0).state.now ≤ 2 ^ 28) × ((core : Core) (policy : Policy) → Make cube files core policy → IsOk (history_of core policy (store.logs 0).state.now))
+-- A run ended before its cube was open: at a file, or at the journal behind the files of these names.
+abbrev pub EndsClosed : {F S : Type 0} → CubeFiles → List (List ℕ) → Seen FolderState F → Seen StoreState S → Report → Type 0
+EndsClosed cube names files store r = (EndsUnopened cube files r × Unused store) ⊎ (EndsUnstarted cube files.before store r × GotBehind names files)
+
+-- the journal and its seal are accepted
+pub record HasJournal (cube : CubeFiles) (files : FolderState) (store : StoreState) : Type 0 where
+  pub told : IsTrue store.told
+  pub short : length (store.logs 0).state.now ≤ 2 ^ 28
+  pub recovers : (core : Core) (policy : Policy) → Make cube files core policy → IsOk (history_of core policy (store.logs 0).state.now)
+  pub agrees : (facts : List ℕ) → IsDigest cube files facts → Agrees facts (store.logs SEAL_LOG).state.now
+
+-- ---- an open cube
+
+-- A cube was opened: the core and the policy that the files make, the digest of the fact file, and the history that the journal recovers.
+-- The seal said nothing yet, or this digest; and whatever a crash leaves now says it.
+pub record IsOpen {S : Type 0} (cube : CubeFiles) (files : FolderState) (store : Seen StoreState S) (core : Core) (policy : Policy) (facts : List ℕ) (history : List Entry) : Type 0 where
+  pub files_make : Make cube files core policy
+  pub digest : IsDigest cube files facts
+  pub recovered : IsTrue store.before.told → history_of core policy (store.before.logs 0).state.now ≡ Ok history
+  pub admissible : IsAdmissible (shown core policy) history
+  pub agreed : IsTrue store.before.told → Agrees facts (store.before.logs SEAL_LOG).state.now
+  pub sealed : IsTrue store.before.told → IsSealed facts (store.after.logs SEAL_LOG).state
+  pub seals : Seals facts store
 
 -- ---- what a crash may leave
 
@@ -96,4 +150,4 @@ IsBetween core policy opened first last s =
 pub record Survived {S : Type 0} (core : Core) (policy : Policy) (first last : List Entry) (os : List Outcome) (store : Seen StoreState S) : Type 0 where
   pub passed : Gained (IsBetween core policy (store.before.logs 0).state first last) (store.before.logs 0) (store.after.logs 0)
   pub ends : IsWithin core policy last (store.after.logs 0).state
-  pub exact : NoneFailed os → IsExact core policy last (store.after.logs 0).state
+  pub exact : faults_in os ≡ 0 → IsExact core policy last (store.after.logs 0).state

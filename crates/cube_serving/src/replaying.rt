@@ -4,22 +4,21 @@ ghost use Rattle.std.specs.List.{list_any};
 ghost use Rattle.cube_io.specs.Causes.{Rose};
 ghost use Rattle.cube_io.specs.Files.{max_file};
 ghost use Rattle.cube_io.specs.Seen.{seen};
-ghost use Rattle.cube_io.specs.Told.{OthersStay};
 ghost use Rattle.cube_io.specs.Wires.{Arrival};
-ghost use Rattle.cube_opening.specs.Opening.{FileSays, Unopened, AskedFor, AsksOnce, Reads, IsSteady};
+ghost use Rattle.cube_opening.specs.Opening.{FileSays, AskedFor, EndsAt, Reads, IsSteady};
 ghost use Rattle.cube_opening.specs.Reports.{IsReport};
 ghost use Rattle.cube_script.specs.Playing.{has_torn};
 ghost use Rattle.cube_server.specs.Steps.{is_end};
 ghost use Rattle.cube_server.specs.declared.serving.ServeFault.TheVariants as fault;
-ghost use Rattle.cube_serving.specs.Replaying.{script_said, wire_of, AsksFour, ReplayEnds, ReplayCompletes, played_status, played_text};
-ghost use Rattle.cube_serving.specs.Starting.{AsksStore};
+ghost use Rattle.cube_serving.specs.Replaying.{script_said, wire_of, ReplayEnds, ReplayCompletes, played_status, played_text};
+ghost use Rattle.cube_serving.specs.Starting.{AsksStore, OnlyJournal};
 
 use crate::serving::{report_serving, serve_engine};
 use crate::starting::open_engine;
 use cube_engine::Engine;
 use cube_io::{Failed, Folder, Sink, Store};
 use cube_model::Text;
-use cube_opening::{CubeFiles, Guarded, Opened, Report, Room, open_guarded, read_bytes};
+use cube_opening::{CubeFiles, Opened, Report, Room, open_guarded, read_bytes};
 use cube_script::{ScriptFault, ScriptWire};
 use cube_server::{Pool, ServeFault};
 use std::alloc::Global;
@@ -51,9 +50,8 @@ fn open_script<F: Folder>(
 ) -> Result<Opened<ScriptWire>, Report>
     requires { room ≡ [] }
     ensures ok { IfOk result (λ opened. (opened.room ≡ []) × ((script : List Arrival) × (opened.value ≡ wire_of script) × (list_any is_end script ≡ false) × IfSome (F.state files.old).files (λ known. FileSays script_said name.now known (Ok script)))) }
-    ensures err { IfErr result (Unopened script_said name.now (seen F.state files.old files.new)) }
-    ensures asks_ok { OnOk result (AskedFor (name.now ∷ []) (seen F.state files.old files.new)) }
-    ensures asks_err { IfErr result (AsksOnce name.now (seen F.state files.old files.new)) }
+    ensures err { IfErr result (EndsAt [] script_said name.now (seen F.state files.old files.new)) }
+    ensures asks { OnOk result (AskedFor (name.now ∷ []) (seen F.state files.old files.new)) }
     ensures reads { Reads (seen F.state files.old files.new) result }
 {
     let opened = match read_bytes(alloc, room, b"script", name, files) {
@@ -113,11 +111,10 @@ pub fn replay_cube<F: Folder, S: Store, O: Sink>(
     requires room { room ≡ [] }
     requires stated { 1 ≤ stated }
     ensures answers { ReplayEnds cube.now script_name.now stated (seen F.state files.old files.new) (seen S.state store.old store.new) (seen O.state out.old out.new) result }
-    ensures asks { AsksFour cube.now script_name.now (seen F.state files.old files.new) result }
     ensures names { (store.new ≡ store.old) ⊎ AsksStore journal.now (seen S.state store.old store.new) result }
-    ensures others { OthersStay 0 (S.state store.old) (S.state store.new) }
+    ensures others { OnlyJournal (S.state store.old) (S.state store.new) }
     ensures unkept { result.status ≡ 9 → Rose (S.state store.old).faults (S.state store.new).faults × (result.outcomes ≡ []) }
-    ensures calls { result.status ≡ 9 → IsTrue (S.state store.old).told → (S.state store.new).calls ≤ (S.state store.old).calls + 7 }
+    ensures calls { result.status ≡ 9 → IsTrue (S.state store.old).told → (S.state store.new).calls ≤ (S.state store.old).calls + 11 }
     ensures unreadable { result.status ≡ 5 → Rose (F.state files.old).faults (F.state files.new).faults }
     ensures output { result.status ≡ 6 → Rose (O.state out.old).faults (O.state out.new).faults }
     ensures steady { result.status ≢ 5 → IsSteady (seen F.state files.old files.new) }
@@ -131,12 +128,12 @@ pub fn replay_cube<F: Folder, S: Store, O: Sink>(
         Ok(opened) => opened,
         Err(report) => return report,
     };
-    let Guarded { core, policy } = opened.value;
+    let guarded = opened.value;
     let played = match open_script(alloc, opened.room, script_name, files) {
         Ok(played) => played,
         Err(report) => return report,
     };
-    let started = match open_engine(alloc, played.room, core, policy, journal, stated, store) {
+    let started = match open_engine(alloc, played.room, guarded, journal, stated, store) {
         Ok(started) => started,
         Err(report) => return report,
     };

@@ -1,21 +1,21 @@
 // `serve`: the asks of connections are answered by the cube of the files.
 ghost use Rattle.std.specs.Prelude.{◌≡◌, ◌≢◌, ◌⊎◌, ◌≤◌, ◌+◌, [], IsTrue, Err};
-ghost use Rattle.cube_io.specs.Causes.{Rose};
+ghost use Rattle.cube_io.specs.Causes.{Rose, RoseBy};
+ghost use Rattle.cube_io.specs.Desks.{faults_in};
 ghost use Rattle.cube_io.specs.Seen.{seen};
 ghost use Rattle.cube_io.specs.Told.{OthersStay, PlaysOn};
 ghost use Rattle.cube_engine.specs.Kept.{IsKept};
-ghost use Rattle.cube_opening.specs.Opening.{AsksAll, IsSteady};
+ghost use Rattle.cube_opening.specs.Opening.{IsSteady};
 ghost use Rattle.cube_server.specs.Pools.{IsFree};
 ghost use Rattle.cube_server.specs.declared.serving.ServeFault.TheVariants as fault;
 ghost use Rattle.cube_serving.specs.Serving.{asking, Wired, ServeEnds, ServeCompletes, SurvivesFrom, Hears, served_status, served_text};
-ghost use Rattle.cube_serving.specs.Starting.{AsksStore};
-ghost use Rattle.cube_talk.specs.Asks.{NoneFailed};
+ghost use Rattle.cube_serving.specs.Starting.{AsksStore, OnlyJournal};
 
 use crate::starting::open_engine;
 use cube_engine::Engine;
 use cube_io::{Folder, Store, Wire};
 use cube_model::Text;
-use cube_opening::{CubeFiles, Guarded, Report, Room, open_guarded, spent_room};
+use cube_opening::{CubeFiles, Report, Room, open_guarded, spent_room};
 use cube_server::{Pool, ServeFault, serve};
 use std::alloc::Global;
 
@@ -40,7 +40,7 @@ pub(crate) fn serve_engine<S: Store, W: Wire>(
     ensures wired { Wired engine.old.core engine.old.policy (asking engine.old engine.new) result (W.state wire.old).told (W.state wire.new).log }
     ensures survived { SurvivesFrom S.state engine.old.core engine.old.policy (asking engine.old engine.new) store.old store.new }
     ensures others { OthersStay 0 (S.state store.old) (S.state store.new) }
-    ensures calm { ¬ Rose (S.state store.old).faults (S.state store.new).faults → NoneFailed engine.new.outcomes }
+    ensures asks { RoseBy (faults_in engine.new.outcomes) (S.state store.old).faults (S.state store.new).faults }
     ensures failed { result ≡ Err fault.WireFailed → Rose (W.state wire.old).faults (W.state wire.new).faults }
     ensures steady { result ≢ Err fault.WireFailed → (W.state wire.new).faults ≡ (W.state wire.old).faults }
     ensures told { (S.state store.new).told ≡ (S.state store.old).told }
@@ -75,6 +75,7 @@ pub fn serve_cube<F: Folder, S: Store, W: Wire>(
     journal: &Text,
     address: &Text,
     stated: u64,
+    idle: u32,
     files: &mut F,
     store: &mut S,
     wire: &mut W,
@@ -83,12 +84,11 @@ pub fn serve_cube<F: Folder, S: Store, W: Wire>(
     requires stated { 1 ≤ stated }
     requires quiet { IsTrue (W.state wire.old).told → (W.state wire.old).log ≡ [] }
     ensures answers { ServeEnds cube.now stated (seen F.state files.old files.new) (seen S.state store.old store.new) (seen W.state wire.old wire.new) result }
-    ensures asks { AsksAll cube.now (seen F.state files.old files.new) result }
     ensures names { (store.new ≡ store.old) ⊎ AsksStore journal.now (seen S.state store.old store.new) result }
     ensures heard { (wire.new ≡ wire.old) ⊎ Hears address.now (seen W.state wire.old wire.new) result }
-    ensures others { OthersStay 0 (S.state store.old) (S.state store.new) }
+    ensures others { OnlyJournal (S.state store.old) (S.state store.new) }
     ensures unkept { result.status ≡ 9 → Rose (S.state store.old).faults (S.state store.new).faults × (result.outcomes ≡ []) }
-    ensures calls { result.status ≡ 9 → IsTrue (S.state store.old).told → (S.state store.new).calls ≤ (S.state store.old).calls + 7 }
+    ensures calls { result.status ≡ 9 → IsTrue (S.state store.old).told → (S.state store.new).calls ≤ (S.state store.old).calls + 11 }
     ensures unreadable { result.status ≡ 5 → Rose (F.state files.old).faults (F.state files.new).faults }
     ensures unheard { result.status ≡ 8 → Rose (W.state wire.old).faults (W.state wire.new).faults }
     ensures steady { result.status ≢ 5 → IsSteady (seen F.state files.old files.new) }
@@ -102,15 +102,14 @@ pub fn serve_cube<F: Folder, S: Store, W: Wire>(
         Ok(opened) => opened,
         Err(report) => return report,
     };
-    let Guarded { core, policy } = opened.value;
-    let started = match open_engine(alloc, opened.room, core, policy, journal, stated, store) {
+    let started = match open_engine(alloc, opened.room, opened.value, journal, stated, store) {
         Ok(started) => started,
         Err(report) => return report,
     };
     let Ok(mut pool) = Pool::new(alloc) else {
         return started.room.with(b"no memory\n").close(alloc, 7);
     };
-    match wire.listen(address) {
+    match wire.listen(address, idle) {
         Ok(()) => {}
         Err(_) => return started.room.with(b"wire failed\n").close(alloc, 8),
     }

@@ -1,39 +1,49 @@
-// The journal of a command: the store is attached, and an engine starts over its log 0.
-ghost use Rattle.std.specs.Prelude.{◌≡◌, ◌⊎◌, ◌≤◌, ◌+◌, ◌++◌, ◌∷◌, decimal, length, [], IsTrue, IfOk, IfErr, OnOk, Ok, codes};
+// The journal of a command: the store is attached, an engine starts over its log 0, and the seal beside it is held.
+ghost use Rattle.std.specs.Prelude.{◌≡◌, ◌⊎◌, ◌≤◌, ◌+◌, ◌++◌, ◌∷◌, ℕ, List, decimal, length, [], IsTrue, IfOk, IfErr, OnOk, Ok, codes};
 ghost use Rattle.cube_model.specs.Policies.{IsPolicy};
 ghost use Rattle.cube_io.specs.Seen.{seen};
+ghost use Rattle.cube_io.specs.Told.{OthersStay};
 ghost use Rattle.cube_engine.specs.Engines.{book_of};
 ghost use Rattle.cube_engine.specs.Kept.{history_of, IsKept, IsExact};
 ghost use Rattle.cube_engine.specs.Worlds.{IsRuled};
 ghost use Rattle.cube_opening.specs.Reports.{IsReport, NoRoom};
-ghost use Rattle.cube_serving.specs.Starting.{journal_text as journal_words, journal_status as status_for, IsCalm, Unstarted, AsksStore, Opens, Recovers};
+ghost use Rattle.cube_seal.specs.Seals.{Agrees, IsSealed};
+ghost use Rattle.cube_serving.specs.Starting.{journal_text as journal_words, journal_status as status_for, seal_text as seal_words, seal_status, IsCalm, Unstarted, AsksStore, Opens, Recovers, Seals};
 
 use cube_core::Core;
 use cube_engine::{Engine, EngineFault};
-use cube_io::Store;
+use cube_io::{SEAL_LOG, Store};
 use cube_journal::Digest;
 use cube_model::{NoMemory, Policy, Text};
-use cube_opening::{Opened, Report, Room, no_room, with_text};
+use cube_opening::{Guarded, Opened, Report, Room, no_room, with_text};
+use cube_seal::{SealFault, hold_seal};
 use std::alloc::Global;
 
 // The log of a command.
 const LOG: u32 = 0;
 
-fn other_cube_text(alloc: Global, kept: &Digest, now: &Digest) -> Result<Text, NoMemory>
-    ensures { IfOk result (λ text. text ≡ codes "journal: digest " ++ kept.now ++ codes " is not " ++ now.now ++ codes "\n") }
+// The text on two digests, of which the one that is kept is not that of now.
+fn two_digests(
+    alloc: Global,
+    front: &[u8],
+    kept: &Digest,
+    words: &[u8],
+    now: &Digest,
+) -> Result<Text, NoMemory>
+    ensures { IfOk result (λ text. text ≡ front.now ++ kept.now ++ words.now ++ now.now ++ codes "\n") }
 {
-    let mut text = Text::from_bytes(alloc, b"journal: digest ")?;
+    let mut text = Text::from_bytes(alloc, front)?;
     text.extend(kept.digits())?;
-    text.extend(b" is not ")?;
+    text.extend(words)?;
     text.extend(now.digits())?;
     text.extend(b"\n")?;
     Ok(text)
 }
 
-fn other_cube(alloc: Global, kept: &Digest, now: &Digest) -> Report
-    ensures { IsReport 4 (codes "journal: digest " ++ kept.now ++ codes " is not " ++ now.now ++ codes "\n") result ⊎ NoRoom result }
+fn other_digest(alloc: Global, front: &[u8], kept: &Digest, words: &[u8], now: &Digest) -> Report
+    ensures { IsReport 4 (front.now ++ kept.now ++ words.now ++ now.now ++ codes "\n") result ⊎ NoRoom result }
 {
-    match other_cube_text(alloc, kept, now) {
+    match two_digests(alloc, front, kept, words, now) {
         Ok(text) => with_text(alloc, 4, text),
         Err(_) => no_room(alloc),
     }
@@ -61,12 +71,29 @@ fn refuse_journal(alloc: Global, room: Room, fault: EngineFault) -> Report
         EngineFault::Inadmissible { line } => {
             line_room(room, line, b" inadmissible\n").close(alloc, 4)
         }
-        EngineFault::OtherCube { kept, now } => other_cube(alloc, &kept, &now),
+        EngineFault::OtherCube { kept, now } => {
+            other_digest(alloc, b"journal: digest ", &kept, b" is not ", &now)
+        }
     }
 }
 
-/// Attaches a store by its name, and starts an engine over its log.
-pub fn open_engine<S: Store>(
+// The report on a journal that its seal does not hold.
+fn refuse_seal(alloc: Global, room: Room, fault: SealFault, facts: &Digest) -> Report
+    requires { room ≡ [] }
+    ensures { IsReport (seal_status fault) (seal_words facts.now fault) result ⊎ ((seal_status fault ≡ 4) × NoRoom result) }
+{
+    match fault {
+        SealFault::Failed => room.with(b"store failed\n").close(alloc, 9),
+        SealFault::NoMemory => room.with(b"no memory\n").close(alloc, 7),
+        SealFault::Damaged => room.with(b"journal: seal damaged\n").close(alloc, 4),
+        SealFault::OtherFacts { kept } => {
+            other_digest(alloc, b"journal: facts ", &kept, b" are not ", facts)
+        }
+    }
+}
+
+// Attaches a store by its name, and starts an engine over its log.
+fn start_engine<S: Store>(
     alloc: Global,
     room: Room,
     core: Core,
@@ -86,11 +113,13 @@ pub fn open_engine<S: Store>(
     ensures kept { IsTrue (S.state store.old).told → IfOk result (λ opened. IsKept core policy opened.value.history opened.value.journal ((S.state store.new).logs 0).state) }
     ensures exact { IsTrue (S.state store.old).told → IfOk result (λ opened. IsExact core policy opened.value.history ((S.state store.new).logs 0).state) }
     ensures crash { Recovers core policy (seen S.state store.old store.new) }
-    ensures err { IfErr result (Unstarted core policy (seen S.state store.old store.new)) }
+    ensures err { (facts : List ℕ) → IfErr result (Unstarted core policy facts (seen S.state store.old store.new)) }
     ensures steady { OnOk result (IsCalm (seen S.state store.old store.new)) }
     ensures names { OnOk result (IsTrue (S.state store.old).told → (S.state store.new).names ≡ (S.state store.old).names ++ name.now ∷ []) }
     ensures names_err { IfErr result (AsksStore name.now (seen S.state store.old store.new)) }
-    ensures opens { Opens (seen S.state store.old store.new) }
+    ensures told { (S.state store.new).told ≡ (S.state store.old).told }
+    ensures others { OthersStay 0 (S.state store.old) (S.state store.new) }
+    ensures calls { IsTrue (S.state store.old).told → (S.state store.new).calls ≤ (S.state store.old).calls + 7 }
 {
     match store.attach(name) {
         Ok(()) => {}
@@ -102,5 +131,49 @@ pub fn open_engine<S: Store>(
             Ok(Opened { room, value })
         }
         Err(fault) => Err(refuse_journal(alloc, room, fault)),
+    }
+}
+
+/// Attaches a store by its name, starts an engine over its log, and holds that by the seal of the facts.
+pub fn open_engine<S: Store>(
+    alloc: Global,
+    room: Room,
+    guarded: Guarded,
+    name: &Text,
+    stated: u64,
+    store: &mut S,
+) -> Result<Opened<Engine>, Report>
+    requires room { room ≡ [] }
+    requires policy { IsPolicy guarded.core.dims guarded.policy }
+    ensures room { IfOk result (λ opened. opened.room ≡ []) }
+    ensures engine { IfOk result (λ opened. opened.value ≡ record { core = guarded.core; policy = guarded.policy; history = opened.value.history; journal = opened.value.journal; outcomes = []; left = stated }) }
+    ensures rules { IfOk result (λ opened. IsRuled (book_of opened.value)) }
+    ensures log { IfOk result (λ opened. opened.value.journal.log ≡ 0) }
+    ensures attached { OnOk result (IsTrue (S.state store.new).attached) }
+    ensures history { IsTrue (S.state store.old).told → IfOk result (λ opened. history_of guarded.core guarded.policy ((S.state store.old).logs 0).state.now ≡ Ok opened.value.history) }
+    ensures kept { IsTrue (S.state store.old).told → IfOk result (λ opened. IsKept guarded.core guarded.policy opened.value.history opened.value.journal ((S.state store.new).logs 0).state) }
+    ensures exact { IsTrue (S.state store.old).told → IfOk result (λ opened. IsExact guarded.core guarded.policy opened.value.history ((S.state store.new).logs 0).state) }
+    ensures agreed { IsTrue (S.state store.old).told → OnOk result (Agrees guarded.facts ((S.state store.old).logs SEAL_LOG).state.now) }
+    ensures sealed { IsTrue (S.state store.old).told → OnOk result (IsSealed guarded.facts ((S.state store.new).logs SEAL_LOG).state) }
+    ensures crash { Recovers guarded.core guarded.policy (seen S.state store.old store.new) }
+    ensures seals { Seals guarded.facts (seen S.state store.old store.new) }
+    ensures err { IfErr result (Unstarted guarded.core guarded.policy guarded.facts (seen S.state store.old store.new)) }
+    ensures steady { OnOk result (IsCalm (seen S.state store.old store.new)) }
+    ensures names { OnOk result (IsTrue (S.state store.old).told → (S.state store.new).names ≡ (S.state store.old).names ++ name.now ∷ []) }
+    ensures names_err { IfErr result (AsksStore name.now (seen S.state store.old store.new)) }
+    ensures opens { Opens (seen S.state store.old store.new) }
+{
+    let Guarded {
+        core,
+        policy,
+        facts,
+    } = guarded;
+    let opened = match start_engine(alloc, room, core, policy, name, stated, store) {
+        Ok(opened) => opened,
+        Err(report) => return Err(report),
+    };
+    match hold_seal(alloc, store, &facts) {
+        Ok(()) => Ok(opened),
+        Err(fault) => Err(refuse_seal(alloc, opened.room, fault, &facts)),
     }
 }

@@ -1,12 +1,13 @@
 -- What is said to one line, and what a crash leaves meanwhile.
 use Rattle.std.proofs.Common.{◌≡◌, ◌≢◌, ◌⊎◌, ◌≤◌, ◌<◌, ℕ, ◌+◌, IsTrue, false, List, [], ◌∷◌, ◌++◌, drop, length, refl, sym, ap, subst, ◌∙◌, append-nil, arith, inl, inr}
 use Rattle.std.proofs.lemmas.Bool.Decides.{nat_tests}
-use Rattle.cube_io.specs.Desks.{IsConstant, Answered, ForeignStay}
+use Rattle.cube_io.specs.Causes.{RoseBy}
+use Rattle.cube_io.specs.Desks.{IsConstant, Answered, ForeignStay, faults_in}
 use Rattle.cube_io.specs.Seen.{StoreState}
 use Rattle.cube_io.specs.States.{State, Log, Gained}
 use Rattle.cube_io.proofs.Trails.{gained_none, gained_map}
 use Rattle.cube_model.specs.declared.outcome.Outcome.{Outcome}
-use Rattle.cube_model.specs.declared.outcome.Outcome.TheVariants.{JournalFault, NoMemory}
+use Rattle.cube_model.specs.declared.outcome.Outcome.TheVariants.{Given, JournalFault, NoMemory}
 use Rattle.cube_model.specs.declared.reply.Fixed.TheVariants as constant
 use Rattle.cube_model.specs.declared.reply.Reply.{Reply}
 use Rattle.cube_model.specs.declared.reply.Reply.TheVariants.{Fixed}
@@ -44,6 +45,17 @@ last_is (o ∷ os) a b e = last_is os a b (ap (λ (l : List Outcome). drop 1 l) 
 short_line : (line : List ℕ) → length line ≤ 65536 → is_too_long line ≡ false
 short_line line h = grind (arith, nat_tests)
 
+-- how often the journal failed in one ask
+no_fault : (o : Outcome) → faults_in (o ∷ []) ≡ 0 → o ≢ JournalFault
+no_fault Given none = λ e. cc
+no_fault JournalFault none = absurd (omega (arith, none))
+no_fault NoMemory none = λ e. cc
+
+risen_by : (o : Outcome) (before now : ℕ) → before ≤ now → (o ≡ JournalFault → RoseBy 1 before now) → RoseBy (faults_in (o ∷ [])) before now
+risen_by Given before now later rose = omega (arith, later)
+risen_by JournalFault before now later rose = rose refl
+risen_by NoMemory before now later rose = omega (arith, later)
+
 answered_one : (x y : Moment) (line : List ℕ) (reply : Reply) → length line ≤ 65536 → y.manner ≡ x.manner → 1 ≤ x.room → y.room + 1 ≡ x.room
     → (a : Answered x.manner (ask_of line) x.rooms y.rooms x.outcomes y.outcomes x.store.faults y.store.faults reply) → Answers x y (line ∷ []) (reply_text reply)
 answered_one x y line reply short same some left a =
@@ -58,7 +70,9 @@ answered_one x y line reply short same some left a =
       room_left = rw (asks_one line [] f) left;
       within = within_one x.room line some;
       later = a.later;
-      calm = λ none. (λ e. none (a.failed e).0, tt);
+      steady = λ none. a.steady (no_fault a.outcome none);
+      risen = risen_by a.outcome x.store.faults y.store.faults a.later (λ is. (a.failed is).0);
+      fresh = (λ long. tt, λ ask. (λ is. (a.failed is).1, tt));
     }
 
 -- what a desk says of one ask is what is said of its line
@@ -81,7 +95,7 @@ one_serves x y line reply short same some left a tells named exactly wholly pass
         within_stays = wholly;
         passed = λ t log w. gained_map (λ s. x.within x.rooms log s ⊎ x.within y.rooms log s) (IsPassed x.manner x.rooms (line ∷ []) (a.outcome ∷ []) x.within log) (x.store.logs log) (y.store.logs log) (λ s p. by_side log s p) (passed t log w);
         ends_within = ends;
-        ends_exact = λ t none log e. only (λ bad. none.0 (last_is x.outcomes a.outcome JournalFault (sym a.added ∙ bad))) t log e;
+        ends_exact = λ t none log e. only (λ bad. no_fault a.outcome none (last_is x.outcomes a.outcome JournalFault (sym a.added ∙ bad))) t log e;
         others = others;
       },
     )
@@ -100,14 +114,14 @@ missed x y line reply idle always is added stays = record {
   moved = stays ∙ sym (always.memory x.rooms (ask_of line)).1;
   later = let same = faults_stay in omega (arith, same);
   steady = λ n. faults_stay;
-  failed = λ e. absurd (no_fault e);
+  failed = λ e. absurd (unlike e);
 }
   where
     faults_stay : y.store.faults ≡ x.store.faults
     faults_stay = ap (λ (s : StoreState). s.faults) idle
 
-    no_fault : NoMemory ≡ JournalFault → ⊥
-    no_fault e = cc
+    unlike : NoMemory ≡ JournalFault → ⊥
+    unlike e = cc
 
 pub missed_serves : (x y : Moment) (line : List ℕ) (reply : Reply) → y.store ≡ x.store
     → length line ≤ 65536 → y.manner ≡ x.manner → 1 ≤ x.room → y.room + 1 ≡ x.room → IsConstant x.manner → reply ≡ Fixed constant.NoMemory → y.outcomes ≡ x.outcomes ++ NoMemory ∷ [] → y.rooms ≡ x.rooms → IsSame y.exact x.exact → IsSame y.within x.within

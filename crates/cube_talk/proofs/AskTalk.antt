@@ -37,7 +37,9 @@ too_long_said x line h some =
       room_left = rw (asks_long line [] l) (omega arith);
       within = within_one x.room line some;
       later = omega arith;
-      calm = λ e. tt;
+      steady = λ e. refl;
+      risen = omega arith;
+      fresh = tt;
     }
 
 pub too_long_adds : (x : Moment) (line : List ℕ) (h : 65536 < length line) (some : 1 ≤ x.room) → (too_long_said x line h some).added ≡ []

@@ -1,13 +1,15 @@
 -- The lines of `ask` are answered one after another.
-use Rattle.std.proofs.Common.{◌≡◌, ◌<◌, ◌≤◌, ℕ, zero, suc, ◌+◌, Bool, true, false, List, [], ◌∷◌, ◌++◌, length, drop, refl, sym, ap, ◌∙◌, append_assoc, append-nil, length-append, arith, if◌then◌else◌}
+use Rattle.std.proofs.Common.{◌≡◌, ◌<◌, ◌≤◌, ℕ, zero, suc, ◌+◌, Bool, true, false, List, [], ◌∷◌, ◌++◌, length, drop, cond, refl, sym, ap, subst, ◌∙◌, append_assoc, append-nil, length-append, arith, if◌then◌else◌}
+use Rattle.std.proofs.lemmas.Bool.{false≢true}
 use Rattle.std.proofs.lemmas.Bool.Decides.{nat_tests}
+use Rattle.std.proofs.lemmas.List.Sums.{sum_by-append}
 use Rattle.cube_model.specs.declared.outcome.Outcome.{Outcome}
 use Rattle.cube_model.specs.Rooms.{Room}
-use Rattle.cube_io.specs.Causes.{Rose}
-use Rattle.cube_io.specs.Desks.{Manner}
+use Rattle.cube_io.specs.Causes.{RoseBy}
+use Rattle.cube_io.specs.Desks.{Manner, is_fault, faults_in}
 use Rattle.cube_talk.specs.Moments.{Moment}
 use Rattle.cube_talk.specs.Replies.{reply_text}
-use Rattle.cube_talk.specs.Asks.{is_too_long, too_large, ask_of, asks_in, up_to_asks, said, rooms_behind, NoneFailed, Answers}
+use Rattle.cube_talk.specs.Asks.{is_too_long, too_large, ask_of, asks_in, up_to_asks, said, rooms_behind, FailedFresh, Answers}
 
 pub by_test : {P : Type 0} (b : Bool) → (b ≡ true → P) → (b ≡ false → P) → P
 by_test true f g = f refl
@@ -110,16 +112,54 @@ up_to_over (suc n) k (line ∷ rest) ys e is = by_test (is_too_long line)
     let left : n ≡ k + asks_in rest = let e' = asks_one line rest f in omega (arith, is, e') in
     rw f (ap (λ (l : List (List ℕ)). line ∷ l) (up_to_over n k rest ys inner left)))
 
-none_failed_append : (os ps : List Outcome) → NoneFailed os → NoneFailed ps → NoneFailed (os ++ ps)
-none_failed_append [] ps h k = k
-none_failed_append (o ∷ os) ps h k = (h.0, none_failed_append os ps h.1 k)
+-- ---- failures of the journal
 
--- a count that rose stays so
-rises_on : (a b c : ℕ) → Rose a b → b ≤ c → Rose a c
-rises_on a b c rose later = omega (arith, rose, later)
+not_both : {P : Type 0} (b : Bool) → b ≡ true → b ≡ false → P
+not_both true t f = absurd (false≢true (sym f))
+not_both false t f = absurd (false≢true t)
 
-rises_before : (a b c : ℕ) → a ≤ b → Rose b c → Rose a c
-rises_before a b c later rose = omega (arith, rose, later)
+fresh_long : (m : Manner) (rooms : List Room) (line : List ℕ) (rest : List (List ℕ)) (os : List Outcome) → is_too_long line ≡ true → FailedFresh m rooms rest os → FailedFresh m rooms (line ∷ rest) os
+fresh_long m rooms line rest [] t h = tt
+fresh_long m rooms line rest (o ∷ os) t h = (λ again. h, λ f. not_both (is_too_long line) t f)
+
+abbrev FreshAppends : Manner → List (List ℕ) → List (List ℕ) → List Outcome → Type 0
+FreshAppends m xs ys ps = (rooms : List Room) (os : List Outcome) → length os ≡ asks_in xs → FailedFresh m rooms xs os → FailedFresh m (rooms_behind m rooms xs os) ys ps → FailedFresh m rooms (xs ++ ys) (os ++ ps)
+
+fresh_append_long : (m : Manner) (rooms : List Room) (line : List ℕ) (rest ys : List (List ℕ)) (os ps : List Outcome) → is_too_long line ≡ true → length os ≡ asks_in (line ∷ rest) → FreshAppends m rest ys ps
+    → FailedFresh m rooms (line ∷ rest) os → FailedFresh m (rooms_behind m rooms (line ∷ rest) os) ys ps → FailedFresh m rooms (line ∷ rest ++ ys) (os ++ ps)
+fresh_append_long m rooms line rest ys os ps t e more h k =
+    fresh_long m rooms line (rest ++ ys) (os ++ ps) t
+    (more rooms os (e ∙ asks_long line rest t) (behind os h) (subst (λ (r : List Room). FailedFresh m r ys ps) (rooms_long m rooms line rest os t) k))
+  where
+    none : (ls : List (List ℕ)) → FailedFresh m rooms ls []
+    none [] = tt
+    none (l ∷ ls) = tt
+
+    behind : (os : List Outcome) → FailedFresh m rooms (line ∷ rest) os → FailedFresh m rooms rest os
+    behind [] h = none rest
+    behind (o ∷ os) h = h.0 t
+
+fresh_append_one : (m : Manner) (rooms : List Room) (line : List ℕ) (rest ys : List (List ℕ)) (os ps : List Outcome) → is_too_long line ≡ false → length os ≡ asks_in (line ∷ rest) → FreshAppends m rest ys ps
+    → FailedFresh m rooms (line ∷ rest) os → FailedFresh m (rooms_behind m rooms (line ∷ rest) os) ys ps → FailedFresh m rooms (line ∷ rest ++ ys) (os ++ ps)
+fresh_append_one m rooms line rest ys [] ps f e more h k = absurd (let e' = asks_one line rest f in omega (arith, e, e'))
+fresh_append_one m rooms line rest ys (o ∷ os) ps f e more h k =
+    let few : length os ≡ asks_in rest = let e' = asks_one line rest f in omega (arith, e, e') in
+    let behind = subst (λ (r : List Room). FailedFresh m r ys ps) (rooms_one m rooms line rest o os f) k in
+    (λ t. not_both (is_too_long line) t f, λ again. ((h.1 f).0, more (m.next rooms (ask_of line) o) os few (h.1 f).1 behind))
+
+fresh_append : (m : Manner) (xs ys : List (List ℕ)) (ps : List Outcome) → FreshAppends m xs ys ps
+fresh_append m [] ys ps rooms [] e h k = k
+fresh_append m [] ys ps rooms (o ∷ os) e h k = absurd (omega (arith, e))
+fresh_append m (line ∷ rest) ys ps rooms os e h k = by_test (is_too_long line)
+    (λ t. fresh_append_long m rooms line rest ys os ps t e (fresh_append m rest ys ps) h k)
+    (λ f. fresh_append_one m rooms line rest ys os ps f e (fresh_append m rest ys ps) h k)
+
+pub faults_append : (os ps : List Outcome) → faults_in (os ++ ps) ≡ faults_in os + faults_in ps
+faults_append os ps = sum_by-append (λ o. cond (is_fault o) 1 0) os ps
+
+-- a count that rose, and then rose on
+rises_on : (n k a b c : ℕ) → RoseBy n a b → RoseBy k b c → b ≤ c → RoseBy (n + k) a c
+rises_on n k a b c first last later = omega (arith, first, last, later)
 
 -- ---- the laws
 
@@ -134,7 +174,9 @@ none x = record {
   room_left = omega arith;
   within = up_to_none x.room;
   later = omega arith;
-  calm = λ e. tt;
+  steady = λ e. refl;
+  risen = omega arith;
+  fresh = tt;
 }
 
 pub onward : (x y z : Moment) (first more : List (List ℕ)) (text behind : List ℕ) → Answers x y first text → Answers y z more behind → Answers x z (first ++ more) (text ++ behind)
@@ -153,9 +195,13 @@ onward x y z first more text behind h k =
       room_left = rw (asks_append first more) (omega (arith, h.room_left, k.room_left));
       within = up_to_over x.room y.room first more h.within (sym h.room_left) ∙ ap (λ (l : List (List ℕ)). first ++ l) k.within;
       later = omega (arith, h.later, k.later);
-      calm = λ none. none_failed_append h.added k.added
-          (h.calm (λ rose. none (rises_on x.store.faults y.store.faults z.store.faults rose k.later)))
-          (k.calm (λ rose. none (rises_before x.store.faults y.store.faults z.store.faults h.later rose)));
+      steady = λ none.
+          let sum = faults_append h.added k.added in
+          k.steady (omega (arith, none, sum)) ∙ h.steady (omega (arith, none, sum));
+      risen = subst (λ (n : ℕ). RoseBy n x.store.faults z.store.faults) (sym (faults_append h.added k.added))
+          (rises_on (faults_in h.added) (faults_in k.added) x.store.faults y.store.faults z.store.faults h.risen k.risen k.later);
+      fresh = fresh_append x.manner first more k.added x.rooms h.added h.matched h.fresh
+          (subst (λ (r : List Room). FailedFresh x.manner r more k.added) h.rooms_are (subst (λ (m : Manner). FailedFresh m y.rooms more k.added) h.manner k.fresh));
     }
 
 pub none_adds : (x : Moment) → (none x).added ≡ []
@@ -191,7 +237,9 @@ alike x y line other text h k a =
       room_left = rw (asks_long other [] o) (rw (asks_long line [] l) at a.room_left);
       within = within_one x.room other (has_room x.room line a.within);
       later = a.later;
-      calm = a.calm;
+      steady = a.steady;
+      risen = a.risen;
+      fresh = fresh_long x.manner x.rooms other [] a.added o tt;
     }
 
 pub alike_adds : (x y : Moment) (line other text : List ℕ) (h : 65536 < length line) (k : 65536 < length other) (a : Answers x y (line ∷ []) text) → (alike x y line other text h k a).added ≡ a.added

@@ -1,5 +1,5 @@
 -- What is said to the lines of `ask`, each of which is an ask of a desk.
-use Rattle.std.specs.Prelude.{◌≡◌, ◌≢◌, ◌⊎◌, ⊤, ℕ, zero, suc, ◌+◌, ◌≤◌, ◌<◌, nat_lt, nat_eq, Bool, List, [], ◌∷◌, ◌++◌, length, drop, codes, if◌then◌else◌}
+use Rattle.std.specs.Prelude.{◌≡◌, ◌≢◌, ◌⊎◌, ⊤, ℕ, zero, suc, ◌+◌, ◌≤◌, ◌<◌, nat_lt, nat_eq, Bool, true, false, List, [], ◌∷◌, ◌++◌, length, drop, codes, if◌then◌else◌}
 use Rattle.std.specs.declared.option.Option.{Option}
 use Rattle.std.specs.declared.option.Option.TheVariants.{None}
 use Rattle.std.specs.List.{starts_with}
@@ -10,13 +10,13 @@ use Rattle.cube_model.specs.declared.ask.Ask.{Ask}
 use Rattle.cube_model.specs.declared.ask.Question.{Question}
 use Rattle.cube_model.specs.declared.ask.Question.TheVariants.{Query, Shape, Witness}
 use Rattle.cube_model.specs.declared.outcome.Outcome.{Outcome}
-use Rattle.cube_model.specs.declared.outcome.Outcome.TheVariants as outcome
+use Rattle.cube_model.specs.declared.outcome.Outcome.TheVariants.{Given, JournalFault}
 use Rattle.cube_model.specs.declared.reply.Fixed.TheVariants.{TooLarge}
 use Rattle.cube_model.specs.declared.reply.Reply.TheVariants.{Fixed}
 use Rattle.cube_model.specs.Rooms.{Room}
-use Rattle.cube_io.specs.Causes.{Rose}
+use Rattle.cube_io.specs.Causes.{RoseBy}
 use Rattle.cube_io.specs.Content.{AppendsPrefix}
-use Rattle.cube_io.specs.Desks.{Manner}
+use Rattle.cube_io.specs.Desks.{Manner, faults_in}
 use Rattle.cube_io.specs.Seen.{SourceState, SinkState, Seen}
 use Rattle.cube_talk.specs.Lines.{ended_lines}
 use Rattle.cube_talk.specs.Moments.{Moment}
@@ -82,13 +82,17 @@ talk m rooms ls os stated = said m rooms (up_to_asks stated ls) os
 
 -- ---- one who answers
 
--- the journal failed for none of the asks
-abbrev pub NoneFailed : List Outcome → Type 0
-NoneFailed [] = ⊤
-NoneFailed (o ∷ os) = (o ≢ outcome.JournalFault) × NoneFailed os
+-- each ask among the lines for which the journal failed would have added to a history of the rooms that it met
+abbrev pub FailedFresh : Manner → List Room → List (List ℕ) → List Outcome → Type 0
+FailedFresh m rooms [] os = ⊤
+FailedFresh m rooms (line ∷ rest) [] = ⊤
+FailedFresh m rooms (line ∷ rest) (o ∷ os) =
+    (is_too_long line ≡ true → FailedFresh m rooms rest (o ∷ os))
+    × (is_too_long line ≡ false → (o ≡ JournalFault → m.next rooms (ask_of line) Given ≢ rooms) × FailedFresh m (m.next rooms (ask_of line) o) rest os)
 
--- These lines were answered by this text, each ask with one outcome; all of them came while there was room. The journal failed for
--- some of them only where the store's count of faults rose.
+-- These lines were answered by this text, each ask with one outcome; all of them came while there was room. The count of the store's
+-- faults rose by one or more for each ask in which the journal failed, and stayed where it failed in none; it failed only for asks that
+-- would have added to a history.
 pub record Answers (before after : Moment) (ls : List (List ℕ)) (text : List ℕ) : Type 0 where
   pub manner : after.manner ≡ before.manner
   pub added : List Outcome
@@ -99,7 +103,9 @@ pub record Answers (before after : Moment) (ls : List (List ℕ)) (text : List �
   pub room_left : after.room + asks_in ls ≡ before.room
   pub within : up_to_asks before.room ls ≡ ls
   pub later : before.store.faults ≤ after.store.faults
-  pub calm : ¬ Rose before.store.faults after.store.faults → NoneFailed added
+  pub steady : faults_in added ≡ 0 → after.store.faults ≡ before.store.faults
+  pub risen : RoseBy (faults_in added) before.store.faults after.store.faults
+  pub fresh : FailedFresh before.manner before.rooms ls added
 
 -- ---- the whole
 

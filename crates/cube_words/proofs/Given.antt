@@ -7,8 +7,8 @@ use Rattle.cube_model.specs.Cubes.{IsIn}
 use Rattle.cube_model.proofs.Members.{tested, find_none}
 use Rattle.cube_words.specs.declared.words.Command.{Command}
 use Rattle.cube_words.specs.declared.words.Setting.{Setting}
-use Rattle.cube_words.specs.declared.words.Setting.TheVariants.{Requests, Number, Size}
-use Rattle.cube_words.specs.Words.{option_word, needed, is_option, is_requests, is_number, is_size, is_wrong_value, stands_in, options_in, first_wrong, value_behind, value_of, IsRight}
+use Rattle.cube_words.specs.declared.words.Setting.TheVariants.{Requests, Idle, Number, Size}
+use Rattle.cube_words.specs.Words.{option_word, needed, is_option, is_requests, is_idle, is_number, is_size, is_wrong_value, stands_in, options_in, first_wrong, value_behind, value_of, IsRight}
 
 pub not_none : {X : Type 0} (x : X) → Some x ≡ None → ⊥
 not_none x e = cc
@@ -64,18 +64,22 @@ left_of : (a b : Bool) → (a || b) ≡ false → a ≡ false
 left_of true b e = e
 left_of false b e = refl
 
--- so a stated number of asks, a number and a size are ones
+-- so a stated number of asks, one of seconds, a number and a size are ones
 pub stated : (c : Command) (words : List (List ℕ)) (v : List ℕ) → IsRight c words → value_behind (option_word Requests) words ≡ Some v → is_requests v ≡ true
-stated c words v right there = unwrong (is_requests v) (left_of (not (is_requests v)) false (left_of (not (is_requests v) || false) false (right_behind c [] words (option_word Requests) v right.0 there)))
+stated c words v right there =
+    unwrong (is_requests v) (left_of (not (is_requests v)) false (left_of (not (is_requests v) || false) false (left_of ((not (is_requests v) || false) || false) false (right_behind c [] words (option_word Requests) v right.0 there))))
+
+pub still : (c : Command) (words : List (List ℕ)) (v : List ℕ) → IsRight c words → value_behind (option_word Idle) words ≡ Some v → is_idle v ≡ true
+still c words v right there = unwrong (is_idle v) (right_behind c [] words (option_word Idle) v right.0 there)
 
 pub numbered : (c : Command) (words : List (List ℕ)) → IsRight c words → IsIn Number (needed c) → is_number (value_of Number words) ≡ true
 numbered c words right h =
     let there = given c words Number right h in
-    let good = unwrong (is_number there.0) (left_of (not (is_number there.0)) false (right_behind c [] words (option_word Number) there.0 right.0 there.1)) in
+    let good = unwrong (is_number there.0) (left_of (not (is_number there.0)) false (left_of (not (is_number there.0) || false) false (right_behind c [] words (option_word Number) there.0 right.0 there.1))) in
     rw there.1 good
 
 pub sized : (c : Command) (words : List (List ℕ)) → IsRight c words → IsIn Size (needed c) → is_size (value_of Size words) ≡ true
 sized c words right h =
     let there = given c words Size right h in
-    let good = unwrong (is_size there.0) (right_behind c [] words (option_word Size) there.0 right.0 there.1) in
+    let good = unwrong (is_size there.0) (left_of (not (is_size there.0)) false (right_behind c [] words (option_word Size) there.0 right.0 there.1)) in
     rw there.1 good

@@ -10,9 +10,9 @@ use Rattle.cube_opening.specs.declared.cube_files.CubeFiles.{CubeFiles}
 use Rattle.cube_words.specs.declared.ordered.Making.{Making}
 use Rattle.cube_words.specs.declared.ordered.Orders.{Orders}
 use Rattle.cube_words.specs.declared.ordered.Orders.TheVariants as orders
-use Rattle.cube_words.specs.declared.words.TheConstants.{MAX_REQUESTS, USUAL_REQUESTS, MAX_DIGITS, OVER, MAX_SIZE}
+use Rattle.cube_words.specs.declared.words.TheConstants.{MAX_REQUESTS, USUAL_REQUESTS, MAX_IDLE, USUAL_IDLE, MAX_DIGITS, OVER, MAX_SIZE}
 use Rattle.cube_words.specs.declared.words.Setting.{Setting}
-use Rattle.cube_words.specs.declared.words.Setting.TheVariants.{Dims, Facts, Policy, Journal, Cell, Address, Script, Requests, Number, Size}
+use Rattle.cube_words.specs.declared.words.Setting.TheVariants.{Dims, Facts, Policy, Journal, Cell, Address, Script, Requests, Idle, Number, Size}
 use Rattle.cube_words.specs.declared.words.Usage.{Usage}
 use Rattle.cube_words.specs.declared.words.Usage.TheVariants.{NoCommand, Wrong, Missing}
 
@@ -37,6 +37,7 @@ option_word Cell = codes "--cell"
 option_word Address = codes "--address"
 option_word Script = codes "--script"
 option_word Requests = codes "--requests"
+option_word Idle = codes "--idle"
 option_word Number = codes "--number"
 option_word Size = codes "--size"
 
@@ -65,7 +66,7 @@ allowed command.Check = Dims ∷ Facts ∷ Policy ∷ []
 allowed command.Ask = Dims ∷ Facts ∷ Policy ∷ Journal ∷ Requests ∷ []
 allowed command.Witness = Dims ∷ Facts ∷ Policy ∷ Journal ∷ Cell ∷ []
 allowed command.Twin = Dims ∷ Facts ∷ Policy ∷ Journal ∷ Cell ∷ []
-allowed command.Serve = Dims ∷ Facts ∷ Policy ∷ Journal ∷ Address ∷ Requests ∷ []
+allowed command.Serve = Dims ∷ Facts ∷ Policy ∷ Journal ∷ Address ∷ Requests ∷ Idle ∷ []
 allowed command.Replay = Dims ∷ Facts ∷ Policy ∷ Journal ∷ Script ∷ Requests ∷ []
 allowed command.Demo = Number ∷ Size ∷ []
 
@@ -91,6 +92,10 @@ options_in (option ∷ value ∷ more) = option ∷ options_in more
 abbrev pub is_requests : List ℕ → Bool
 is_requests text = is_digits text && nat_le 1 (digits_value 10 text) && nat_le (digits_value 10 text) MAX_REQUESTS
 
+-- decimal digits that write a number of seconds
+abbrev pub is_idle : List ℕ → Bool
+is_idle text = is_digits text && nat_le (digits_value 10 text) MAX_IDLE
+
 -- so few decimal digits that write a number in 64 bits
 abbrev pub is_number : List ℕ → Bool
 is_number text = nat_le (length text) MAX_DIGITS && is_digits text && nat_lt (digits_value 10 text) OVER
@@ -105,6 +110,7 @@ is_wrong_value option value =
     (bytes_eq option (codes "--requests") && not (is_requests value))
     || (bytes_eq option (codes "--number") && not (is_number value))
     || (bytes_eq option (codes "--size") && not (is_size value))
+    || (bytes_eq option (codes "--idle") && not (is_idle value))
 
 -- The number of the first wrong word behind these pairs, the command being word 0: no option of the command, one that
 -- stood before, one without a value, or a wrong value.
@@ -135,13 +141,18 @@ value_of s words = unwrap_or (value_behind (option_word s) words) []
 abbrev pub files_of : List (List ℕ) → CubeFiles
 files_of words = record { dims = value_of Dims words; facts = value_of Facts words; policy = value_of Policy words }
 
--- the stated number of asks, or the usual one
+-- the number that is stated, or the usual one
 abbrev pub stated_by : ℕ → Option (List ℕ) → ℕ
 stated_by usual None = usual
 stated_by usual (Some text) = digits_value 10 text
 
+-- how many asks are answered at most
 abbrev pub stated : ℕ → List (List ℕ) → ℕ
 stated usual words = stated_by usual (value_behind (option_word Requests) words)
+
+-- for how many seconds a connection may be still; for ever where they are 0
+abbrev pub idle : List (List ℕ) → ℕ
+idle words = stated_by USUAL_IDLE (value_behind (option_word Idle) words)
 
 -- the number and the size that a cube is made of
 abbrev pub making_of : List (List ℕ) → Making
@@ -158,7 +169,7 @@ orders_with command.Check words = orders.Check (files_of words)
 orders_with command.Ask words = orders.Ask (files_of words) (value_of Journal words) (stated USUAL_REQUESTS words)
 orders_with command.Witness words = orders.Witness (files_of words) (value_of Journal words) (value_of Cell words)
 orders_with command.Twin words = orders.Twin (files_of words) (value_of Journal words) (value_of Cell words)
-orders_with command.Serve words = orders.Serve (files_of words) (value_of Journal words) (value_of Address words) (stated MAX_REQUESTS words)
+orders_with command.Serve words = orders.Serve (files_of words) (value_of Journal words) (value_of Address words) (stated MAX_REQUESTS words) (idle words)
 orders_with command.Replay words = orders.Replay (files_of words) (value_of Journal words) (value_of Script words) (stated USUAL_REQUESTS words)
 orders_with command.Demo words = orders.Demo (making_of words)
 
@@ -192,7 +203,7 @@ IsMade m = (1 ≤ m.size) × (m.size ≤ MAX_SIZE)
 -- some ask is stated, and the size of a made cube is within its bounds
 abbrev pub Fits : Orders → Type 0
 Fits (orders.Ask files journal stated) = 1 ≤ stated
-Fits (orders.Serve files journal address stated) = 1 ≤ stated
+Fits (orders.Serve files journal address stated idle) = 1 ≤ stated
 Fits (orders.Replay files journal script stated) = 1 ≤ stated
 Fits (orders.Demo making) = IsMade making
 Fits other = Unit {0}

@@ -7,4 +7,4 @@ mod worked;
 
 pub use ordered::{Making, Orders};
 pub use words::{Setting, Usage, orders_of};
-pub use worked::{worked_makings, worked_requests};
+pub use worked::{worked_makings, worked_requests, worked_seconds};

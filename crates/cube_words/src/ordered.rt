@@ -5,10 +5,11 @@ ghost use Rattle.cube_model.specs.Cubes.{IsIn};
 ghost use Rattle.cube_words.specs.declared.words.Command.TheVariants as command;
 ghost use Rattle.cube_words.specs.declared.words.Setting.TheVariants as setting;
 ghost use Rattle.cube_words.specs.declared.words.TheConstants.{MAX_SIZE};
-ghost use Rattle.cube_words.specs.Words.{option_word, needed as needed_by, value_behind as value_in, value_of, files_of as files_in, stated as stated_in, making_of as making_in, orders_with as orders_behind, IsRight, IsMade, Fits};
+ghost use Rattle.cube_words.specs.Words.{option_word, needed as needed_by, value_behind as value_in, value_of, files_of as files_in, stated as stated_in, idle as idle_in_words, making_of as making_in, orders_with as orders_behind, IsRight, IsMade, Fits};
 
 use crate::words::{
-    Command, MAX_REQUESTS, Setting, USUAL_REQUESTS, number_in, requests_in, size_in, value_behind,
+    Command, MAX_REQUESTS, Setting, USUAL_IDLE, USUAL_REQUESTS, idle_in, number_in, requests_in,
+    size_in, value_behind,
 };
 use cube_model::{NoMemory, Text};
 use cube_opening::CubeFiles;
@@ -56,12 +57,13 @@ pub enum Orders {
         journal: Text,
         cell: Text,
     },
-    /// Answer asks over the network, at most as many as are stated.
+    /// Answer asks over the network, at most as many as are stated. A connection may be still for so many seconds.
     Serve {
         files: CubeFiles,
         journal: Text,
         address: Text,
         stated: u64,
+        idle: u32,
     },
     /// Play a script of connections, and answer at most as many asks as are stated.
     Replay {
@@ -134,6 +136,20 @@ fn stated(words: &[Text], command: Command, usual: u64) -> u64
         None => usual,
         Some(text) => match requests_in(text.as_slice()) {
             Some(number) => number,
+            None => unreachable!(),
+        },
+    }
+}
+
+// For how many seconds a connection may be still.
+fn idle_of(words: &[Text]) -> u32
+    requires { IsRight command.Serve words.now }
+    ensures { result ≡ idle_in_words words.now }
+{
+    match value_given(words, Setting::Idle) {
+        None => USUAL_IDLE,
+        Some(text) => match idle_in(text.as_slice()) {
+            Some(seconds) => seconds,
             None => unreachable!(),
         },
     }
@@ -225,6 +241,7 @@ fn serve_with(alloc: Global, words: &[Text]) -> Result<Orders, NoMemory>
         journal: needed_text(alloc, words, command, Setting::Journal)?,
         address: needed_text(alloc, words, command, Setting::Address)?,
         stated: stated(words, command, MAX_REQUESTS),
+        idle: idle_of(words),
     })
 }
 

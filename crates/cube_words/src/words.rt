@@ -4,7 +4,7 @@ ghost use Rattle.std.specs.Char.{is_ascii_digit};
 ghost use Rattle.std.specs.List.{list_all};
 ghost use Rattle.std.specs.Str.{bytes_eq};
 ghost use Rattle.std.specs.Str.Parse.{digits_value};
-ghost use Rattle.cube_words.specs.Words.{command_word, option_word, needed as needed_by, allowed as allowed_by, is_requests, is_number, is_size, is_wrong_value as is_wrong, command_of as command_in, is_option as is_option_of, stands_in, options_in, first_wrong as first_wrong_behind, orders_of as orders_in, value_behind as value_in, Fits};
+ghost use Rattle.cube_words.specs.Words.{command_word, option_word, needed as needed_by, allowed as allowed_by, is_requests, is_idle, is_number, is_size, is_wrong_value as is_wrong, command_of as command_in, is_option as is_option_of, stands_in, options_in, first_wrong as first_wrong_behind, orders_of as orders_in, value_behind as value_in, Fits};
 
 use crate::ordered::{Orders, orders_with};
 use cube_model::{NoMemory, Text};
@@ -55,6 +55,8 @@ pub enum Setting {
     Script,
     /// The most asks that are answered.
     Requests,
+    /// For how many seconds a connection may be still.
+    Idle,
     /// The number that a cube is made of.
     Number,
     /// The size that it is made of.
@@ -90,6 +92,12 @@ pub const MAX_REQUESTS: u64 = 16_777_216;
 
 /// How many asks `ask` and `replay` take where none are stated.
 pub const USUAL_REQUESTS: u64 = 1_000_000;
+
+/// The most seconds that a connection may be still for, a day.
+pub const MAX_IDLE: u64 = 86_400;
+
+/// For so many seconds it may be where none are stated.
+pub const USUAL_IDLE: u32 = 60;
 
 // The most digits of a number that a cube is made of.
 const MAX_DIGITS: usize = 20;
@@ -186,6 +194,7 @@ impl Command {
                 Setting::Journal,
                 Setting::Address,
                 Setting::Requests,
+                Setting::Idle,
             ],
             Command::Replay => &[
                 Setting::Dims,
@@ -214,6 +223,7 @@ impl Setting {
             Setting::Address => b"--address",
             Setting::Script => b"--script",
             Setting::Requests => b"--requests",
+            Setting::Idle => b"--idle",
             Setting::Number => b"--number",
             Setting::Size => b"--size",
         }
@@ -268,6 +278,16 @@ pub fn requests_in(text: &[u8]) -> Option<u64>
     }
 }
 
+/// The number of seconds that a text states.
+pub fn idle_in(text: &[u8]) -> Option<u32>
+    ensures { result ≡ (if is_idle text.now then Some (digits_value 10 text.now) else None) }
+{
+    match read_digits(text) {
+        Some(seconds) if seconds <= MAX_IDLE => Some(seconds as u32),
+        _ => None,
+    }
+}
+
 // The number that digits write, or `OVER` where it is larger.
 fn capped_value(digits: &[u8]) -> u128
     requires { IsTrue (list_all is_ascii_digit digits.now) }
@@ -311,6 +331,7 @@ fn is_wrong_value(option: &[u8], value: &[u8]) -> bool
     (option == Setting::Requests.word() && requests_in(value).is_none())
         || (option == Setting::Number.word() && number_in(value).is_none())
         || (option == Setting::Size.word() && size_in(value).is_none())
+        || (option == Setting::Idle.word() && idle_in(value).is_none())
 }
 
 // The first wrong word from a place on, before which there are pairs.

@@ -1,6 +1,6 @@
 // Numbers of asks, and the number and the size of a made cube, read by the definitions alone.
 ghost use Rattle.std.specs.Prelude.{◌≡◌, true, false, codes};
-ghost use Rattle.cube_words.specs.Words.{is_requests, is_number, is_size};
+ghost use Rattle.cube_words.specs.Words.{is_requests, is_idle, is_number, is_size};
 
 /// Which texts the definitions take for a stated number of asks.
 pub fn worked_requests()
@@ -8,6 +8,14 @@ pub fn worked_requests()
     ensures too_many { is_requests (codes "16777217") ≡ false }
     ensures none { is_requests (codes "0") ≡ false }
     ensures sign { is_requests (codes "+1") ≡ false }
+{}
+
+/// Which texts the definitions take for a number of seconds.
+pub fn worked_seconds()
+    ensures never { is_idle (codes "0") ≡ true }
+    ensures a_day { is_idle (codes "86400") ≡ true }
+    ensures too_long { is_idle (codes "86401") ≡ false }
+    ensures none { is_idle (codes "") ≡ false }
 {}
 
 /// Which texts the definitions take for the number and for the size of a made cube.

@@ -118,7 +118,7 @@ fn a_script_is_played(rt: HostRuntime) -> Result<(), Fail> {
     let script = Text::from_bytes(alloc, b"open 7\nopen 1\ndata 1 474f\nclose 1\n")?;
     let mut wire = ScriptWire::new(alloc, &script).expect(&rt, "a wire");
     let address = Text::from_bytes(alloc, b"127.0.0.1:0")?;
-    assert!(rt; wire.listen(&address).is_ok());
+    assert!(rt; wire.listen(&address, 0).is_ok());
     assert_eq!(rt; answered(alloc, &mut wire, b"hello\n"), Ok(Some(true)));
     let events = [
         (Event::Opened(1), [0, 0]),

@@ -128,7 +128,7 @@ fn put_event(event: Event, bytes: &[u8], buf: &mut [u8]) -> Event
 impl Wire for Played<'_> {
     ghost state = { λ w. silent_wire w.faults w.send_faults };
 
-    fn listen(&mut self, _address: &Text) -> Result<(), Failed> {
+    fn listen(&mut self, _address: &Text, _idle: u32) -> Result<(), Failed> {
         Ok(())
     }
 

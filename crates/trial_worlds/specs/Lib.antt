@@ -1,1 +1,2 @@
+pub mod OneClient
 pub mod OneFile

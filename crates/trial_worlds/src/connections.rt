@@ -1,5 +1,5 @@
 // The wire over the sockets of the machine, with clients on its own loopback.
-use cube_edge::{SocketWire, Sockets, TcpSockets};
+use cube_edge::{NoWatch, SocketWire, Sockets, TcpSockets};
 use cube_io::{Event, Wire};
 use cube_model::Text;
 use std::io::{Read, Write};
@@ -8,7 +8,7 @@ use std::test::Fail;
 
 type Notes<'a> = &'a mut [u8];
 
-type HostWire<'a> = SocketWire<TcpSockets<'a, HostRuntime, Notes<'a>>>;
+type HostWire<'a> = SocketWire<TcpSockets<'a, HostRuntime, Notes<'a>>, NoWatch>;
 
 // A wire that listens on a free port, and its address.
 fn listening<'a>(
@@ -16,11 +16,11 @@ fn listening<'a>(
     notes: Notes<'a>,
     idle: u32,
 ) -> Result<(HostWire<'a>, SocketAddr), Fail> {
-    let mut sockets = TcpSockets::new(rt.alloc(), rt, notes)?;
+    let sockets = TcpSockets::new(rt.alloc(), rt, notes)?;
+    let mut wire = SocketWire::new(rt.alloc(), sockets, NoWatch)?;
     let address = Text::from_bytes(rt.alloc(), b"127.0.0.1:0")?;
-    sockets.listen(&address).map_err(|_| "not listening")?;
-    let port = sockets.port().ok_or("no port")?;
-    let wire = SocketWire::new(rt.alloc(), sockets, idle)?;
+    wire.listen(&address, idle).map_err(|_| "not listening")?;
+    let port = wire.sockets().port().ok_or("no port")?;
     Ok((wire, SocketAddr::from(([127, 0, 0, 1], port))))
 }
 

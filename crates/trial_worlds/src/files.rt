@@ -70,7 +70,7 @@ fn a_call_that_fails_is_noted_and_the_next_goes_on(rt: HostRuntime) -> Result<()
             b"kept\n",
             b"log: moved or deleted\n",
         ),
-        (64, (true, true, true), b"kept\nmore", b"\0"),
+        (64, (true, true, true), b"kept\nmore", b"log: entries 0\n\0"),
     ];
     for (failing, went, text, note) in cases {
         let mut notes = [0u8; 64];
@@ -106,6 +106,6 @@ fn a_log_is_cut_and_opened_again(rt: HostRuntime) -> Result<(), Fail> {
     assert!(rt; store.attach(&Text::from_bytes(alloc, b"log")?).is_ok());
     assert_eq!(rt; store.read_all(alloc, 0)?.as_slice(), b"kept".as_slice());
     drop(store);
-    assert!(rt; notes.starts_with(b"log: no storage space\n\0"));
+    assert!(rt; notes.starts_with(b"log: new\nlog: no storage space\nlog: new\nlog: new\n\0"));
     Ok(())
 }

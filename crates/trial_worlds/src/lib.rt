@@ -1,5 +1,5 @@
-//! Trials of what lies outside the program: stores in memory whose calls fail, and the streams, files and connections of the
-//! machine.
+//! Trials of what lies outside the program: stores in memory whose calls fail, the seals that stand in them, a wire over sockets
+//! in memory, and the streams, files and connections of the machine.
 //!
 //! There is nothing here but tests, each of something that no clause of the crates below says.
 #![tactic(auto)]
@@ -13,4 +13,10 @@ mod machine;
 #[cfg(test)]
 mod mem_disk;
 #[cfg(test)]
+mod mem_sockets;
+#[cfg(test)]
 mod memory;
+#[cfg(test)]
+mod seals;
+#[cfg(test)]
+mod wires;

@@ -1,6 +1,6 @@
 // The objects over bytes in memory, and the folder and the store over the machine's files.
 use cube_edge::{FileFolder, FileStore, MachineDisk, ReaderSource, WriterSink};
-use cube_io::{Folder, ReadFault, Sink, Source, Store};
+use cube_io::{Folder, ReadFault, SEAL_LOG, Sink, Source, Store};
 use cube_model::Text;
 use std::fs;
 use std::io::Write;
@@ -32,7 +32,8 @@ fn a_writer_takes_all_of_a_piece_or_fails(rt: HostRuntime) -> Result<(), Fail> {
 #[test]
 fn a_file_is_read_whole_or_is_at_fault(rt: HostRuntime) -> Result<(), Fail> {
     let alloc = rt.alloc();
-    let mut folder = FileFolder::new(&rt);
+    let mut notes = [0u8; 128];
+    let mut folder = FileFolder::new(&rt, notes.as_mut_slice());
     let empty = folder.read_file(alloc, &Text::from_bytes(alloc, b"/dev/null")?)?;
     assert!(rt; empty.is_empty());
     let endless = folder.read_file(alloc, &Text::from_bytes(alloc, b"/dev/zero")?);
@@ -41,15 +42,18 @@ fn a_file_is_read_whole_or_is_at_fault(rt: HostRuntime) -> Result<(), Fail> {
     assert_eq!(rt; missing.err(), Some(ReadFault::Failed));
     let not_utf8 = folder.read_file(alloc, &Text::from_bytes(alloc, b"\xFF")?);
     assert_eq!(rt; not_utf8.err(), Some(ReadFault::Failed));
+    drop(folder);
+    assert!(rt; notes.starts_with(b"no/such/file: No such file or directory"));
     Ok(())
 }
 
-// Writes log 0 and log 2 of a name.
+// Writes log 0, log 2 and the log of the seal of a name.
 fn write_logs(rt: &HostRuntime, name: &Text) -> Result<(), Fail> {
     let mut store = FileStore::new(rt.alloc(), MachineDisk::new(rt), rt.stderr())?;
     store.attach(name)?;
     store.append(0, b"kept\n")?;
     store.append(2, b"other")?;
+    store.append(SEAL_LOG, b"sealed")?;
     store.append(0, b"torn")?;
     store.cut(0, 5)?;
     store.sync(0)?;
@@ -69,6 +73,9 @@ fn logs_are_kept_in_files(rt: HostRuntime) -> Result<(), Fail> {
     assert_eq!(rt; other.as_slice(), b"other".as_slice());
     fs::remove_file(&rt, "logs_are_kept_in_files.log")?;
     fs::remove_file(&rt, "logs_are_kept_in_files.log.2")?;
+    let sealed = fs::read(&rt, "logs_are_kept_in_files.log.seal")?;
+    assert_eq!(rt; sealed.as_slice(), b"sealed".as_slice());
+    fs::remove_file(&rt, "logs_are_kept_in_files.log.seal")?;
     Ok(())
 }
 

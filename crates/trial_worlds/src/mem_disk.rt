@@ -86,7 +86,7 @@ fn count<S: Store + Drop>(log: &mut Attached<S>, alloc: Global) -> Result<u64, T
 }
 
 // The first bytes of a piece, at most so many.
-fn front(piece: &[u8], most: usize) -> &[u8]
+pub(crate) fn front(piece: &[u8], most: usize) -> &[u8]
     ensures rest { piece.now ≡ result.now ++ drop (length result.now) piece.now }
     ensures short { length result.now ≤ length piece.now }
 {

@@ -111,11 +111,34 @@ fn a_log_that_is_no_journal_is_refused(rt: HostRuntime) -> Result<(), Fail> {
     Ok(())
 }
 
+// The facts of the pay cube, one value of which was corrected.
+const CORRECTED: &[u8] =
+    b"city,month,pay,hours\nLyon,Jan,10,1\nLyon,Feb,20,2\nNice,Jan,31,3\nParis,Jan,40,4\nParis,Feb,50,5\n";
+
+#[test]
+fn corrected_facts_are_refused(rt: HostRuntime) -> Result<(), Fail> {
+    let mut store = store_of(rt.alloc(), b"", Vec::new(rt.alloc()))?;
+    let first = asked_over(rt.alloc(), &lines(MONTHS), &mut store)?;
+    assert_eq!(rt; first.written.as_slice(), MONTHS_KEPT);
+    let mut corrected = lines(MONTHS);
+    corrected.facts = CORRECTED;
+    let got = asked_over(rt.alloc(), &corrected, &mut store)?;
+    assert_eq!(rt; got.status, 4);
+    assert_eq!(rt;
+        got.text.as_slice(),
+        b"journal: facts 1fbf44caad722249ed1094f21daff58e42ec2d71237f564424cb208683c859a4 are not 0eefbe0fb6d6ad8242eeffd539c47497d65e8188e6fd51aaabadd77b10212fc9\n".as_slice()
+    );
+    assert_eq!(rt; got.written.as_slice(), b"".as_slice());
+    let again = asked_over(rt.alloc(), &lines(MONTHS), &mut store)?;
+    assert_eq!(rt; again.written.as_slice(), MONTHS_KEPT);
+    Ok(())
+}
+
 #[test]
 fn a_failed_sync_is_an_answer(rt: HostRuntime) -> Result<(), Fail> {
     let failing = vec![in rt.alloc();
         Failing {
-            call: 6,
+            call: 9,
             reach: Reach::Nothing
         },
     ]?;
@@ -153,8 +176,8 @@ fn check_failing(rt: &impl Abort, alloc: Global, call: u64, reach: Reach) -> Res
 
 #[test]
 fn any_call_may_fail(rt: HostRuntime) -> Result<(), Fail> {
-    // One call attaches, two read the log, two begin it, two keep the request.
-    for call in 0..7u64 {
+    // One call attaches, two read the log, two begin it, three hold its seal, two keep the request.
+    for call in 0..10u64 {
         check_failing(&rt, rt.alloc(), call, Reach::Nothing)?;
         check_failing(&rt, rt.alloc(), call, Reach::Part(3))?;
         check_failing(&rt, rt.alloc(), call, Reach::All)?;
@@ -175,12 +198,13 @@ fn reopened(rt: &HostRuntime) -> Result<Got, Fail> {
     let mut files = FileStore::new(alloc, MachineDisk::new(rt), rt.stderr())?;
     let got = asked_over(alloc, &lines(b"slice pay by region.area\n"), &mut files)?;
     fs::remove_file(rt, "log")?;
+    fs::remove_file(rt, "log.seal")?;
     Ok(got)
 }
 
 #[test]
 fn files_that_stop_hold_what_was_answered(rt: HostRuntime) -> Result<(), Fail> {
-    for calls in 0..10u64 {
+    for calls in 0..13u64 {
         let got = stopped(&rt, calls)?;
         let later = reopened(&rt)?;
         let is_kept = later.written.as_slice() == AREAS_REFUSED;

@@ -1,14 +1,16 @@
-use Rattle.std.proofs.Common.{◌≡◌, ◌∙◌, ℕ, List, length, inr, refl, sym, ap, subst, IsTrue}
-use Rattle.cube_model.specs.Cores.{shown}
-use Rattle.cube_model.specs.Verdicts.{IsAdmissible}
-use Rattle.cube_model.specs.declared.outcome.Outcome.{Outcome}
-use Rattle.cube_io.specs.Causes.{Rose}
+use Rattle.std.proofs.Common.{◌≡◌, ◌∙◌, ◌++◌, ℕ, List, length, inl, inr, refl, sym, ap, subst, IsTrue}
+use Rattle.std.specs.Prelude.{codes}
+use Rattle.cube_io.specs.Causes.{RoseBy}
+use Rattle.cube_io.specs.Desks.{faults_in}
 use Rattle.cube_io.specs.Seen.{seen}
+use Rattle.cube_io.specs.declared.store.TheConstants.{SEAL_LOG}
 use Rattle.cube_engine.specs.Engines.{Engine}
 use Rattle.cube_talk.specs.Asks.{Talk}
 use Rattle.cube_talk.specs.Crashes.{TalkedOver}
 use Rattle.cube_app.specs.Texts.{ending_text}
-use Rattle.cube_serving.proofs.Started.{begun}
+use Rattle.cube_serving.proofs.Started.{opened, still_open}
+use Rattle.cube_serving.proofs.Sealing.{seal_is_other}
+use Rattle.cube_serving.proofs.Unopened.{not_nine}
 use Rattle.cube_opening.proofs.Accepted.{all_accepted}
 use Rattle.cube_app.proofs.Lives.{moment_of, survived}
 use Rattle.cube_app.proofs.Worlds.{hides}
@@ -16,8 +18,9 @@ use Rattle.cube_app.proofs.run.ask.Goals as goal
 
 pub returns-clause-answers : goal.returns-clause-answers
 returns-clause-answers g c =
-    let core = c.in-Ok.opened.value.core in
-    let policy = c.in-Ok.opened.value.policy in
+    let guarded = c.in-Ok.opened.value in
+    let core = guarded.core in
+    let policy = guarded.policy in
     let engine = c.in-Ok-open_engine.started.value in
     let h = engine.history in
     let j = engine.journal in
@@ -29,10 +32,10 @@ returns-clause-answers g c =
     let mid = g.S.Store.state c.open_engine.new.store in
     let new = c.converse_by_asks-engine.new.store in
     let store = seen g.S.Store.state c.args.store.now new in
-    let opened = c.in-Ok-open_engine.ensures in
-    let served = subst (λ (e : Engine). TalkedOver (moment_of e mid) (moment_of last (g.S.Store.state new)) end input out) opened.engine c.converse_by_asks-engine.ensures.talked in
-    let admissible = subst (λ (e : Engine). IsAdmissible (shown e.core e.policy) e.history) opened.engine opened.rules.admissible in
-    inr (inr (
+    let y = c.in-Ok-open_engine.ensures in
+    let served = subst (λ (e : Engine). TalkedOver (moment_of e mid) (moment_of last (g.S.Store.state new)) end input out) y.engine c.converse_by_asks-engine.ensures.talked in
+    let at_start = opened c.args.cube.now (g.F.Folder.state c.args.files.now) g.S.Store.state c.args.store.now c.open_engine.new.store core policy guarded.facts engine c.args.stated c.in-Ok.ensures.ok.1 c.in-Ok.ensures.digest y.engine y.rules y.history y.agreed y.sealed y.seals in
+    inr (
       talk,
       refl,
       record {
@@ -43,25 +46,76 @@ returns-clause-answers g c =
       record {
         core = core;
         policy = policy;
+        facts = guarded.facts;
         first = h;
         last = _;
-        files_make = c.in-Ok.ensures.ok.1;
-        recovered = opened.history;
-        admissible = admissible;
+        opened = still_open c.args.cube.now (g.F.Folder.state c.args.files.now) g.S.Store.state c.args.store.now c.open_engine.new.store new core policy guarded.facts h
+            (λ told. c.converse_by_asks-engine.ensures.talked.survives.others (subst IsTrue (sym y.opens.told) told) SEAL_LOG (λ rooms s x. seal_is_other (x.0 ∙ y.log))) at_start;
         talked = served.talked;
         last_is = refl;
-        hides = hides core policy h talk input out c.dims-rules.ensures.rules c.in-Ok.ensures.rules admissible served.talked;
-        survived = λ told. survived core policy h j c.args.stated last end mid store opened.log (subst IsTrue (sym opened.opens.told) told) (opened.exact told) (opened.crash told) served;
-        none_failed = λ quiet. c.converse_by_asks-engine.ensures.calm (λ rose. quiet (subst (λ n. Rose n (g.S.Store.state new).faults) opened.steady rose));
+        hides = hides core policy h talk input out c.dims-rules.ensures.rules c.in-Ok.ensures.rules at_start.admissible served.talked;
+        survived = λ told. survived core policy h j c.args.stated last end mid store y.log (subst IsTrue (sym y.opens.told) told) (y.exact told) (y.crash told) served;
+        failed = subst (λ n. RoseBy (faults_in last.outcomes) n (g.S.Store.state new).faults) y.steady served.risen;
+        fresh = served.fresh;
       },
-      c.in-Ok.ensures.reads.steady,
-    ))
+      c.in-Ok.ensures.behind,
+    )
 
 pub returns-in-Err-clause-complete : goal.returns-in-Err-clause-complete
 returns-in-Err-clause-complete g c = λ all kept some files store input out. inr (all_accepted c.args.cube.now (seen g.F.Folder.state c.args.files.now c.open_guarded.new.files) c.in-Err.report c.in-Err.ensures.err all files)
 
 pub returns-clause-others : goal.returns-clause-others
-returns-clause-others g c = λ told log other.
-    let opened = c.in-Ok-open_engine.ensures in
+returns-clause-others g c = λ told log zero seal.
+    let y = c.in-Ok-open_engine.ensures in
     let survives = c.converse_by_asks-engine.ensures.talked.survives in
-    survives.others (subst IsTrue (sym opened.opens.told) told) log (λ rooms s x. other (x.0 ∙ opened.log)) ∙ opened.opens.others told log other
+    survives.others (subst IsTrue (sym y.opens.told) told) log (λ rooms s x. zero (x.0 ∙ y.log)) ∙ y.opens.others told log zero seal
+
+pub returns-in-Err-clause-unkept : goal.returns-in-Err-clause-unkept
+returns-in-Err-clause-unkept g c = λ nine. absurd (not_nine c.args.cube.now (seen g.F.Folder.state c.args.files.now c.open_guarded.new.files) c.in-Err.report c.in-Err.ensures.err nine)
+
+pub returns-in-Err-clause-answers : goal.returns-in-Err-clause-answers
+returns-in-Err-clause-answers g c = inl (inl (c.in-Err.ensures.err, refl), refl, refl)
+
+pub returns-in-Err-open_engine-clause-answers : goal.returns-in-Err-open_engine-clause-answers
+returns-in-Err-open_engine-clause-answers g c =
+    let guarded = c.in-Ok.opened.value in
+    inl (
+      inr (
+        record {
+          core = guarded.core;
+          policy = guarded.policy;
+          facts = guarded.facts;
+          files_make = c.in-Ok.ensures.ok.1;
+          digest = c.in-Ok.ensures.digest;
+          unstarted = c.in-Err-open_engine.ensures.err;
+          passed = c.in-Err-open_engine.ensures.crash;
+          seals = c.in-Err-open_engine.ensures.seals;
+        },
+        c.in-Ok.ensures.behind,
+      ),
+      refl,
+      refl,
+    )
+
+pub returns-in_default-clause-answers : goal.returns-in_default-clause-answers
+returns-in_default-clause-answers g c =
+    let guarded = c.in-Ok.opened.value in
+    let y = c.in-Ok-open_engine.ensures in
+    let e = c.close.ensures in
+    inl (
+      inr (
+        record {
+          core = guarded.core;
+          policy = guarded.policy;
+          facts = guarded.facts;
+          files_make = c.in-Ok.ensures.ok.1;
+          digest = c.in-Ok.ensures.digest;
+          unstarted = inr (inl ((e.0, e.1, e.2 ∙ c.with.ensures ∙ ap (λ (t : List ℕ). t ++ codes "no memory\n") y.room), y.steady));
+          passed = y.crash;
+          seals = y.seals;
+        },
+        c.in-Ok.ensures.behind,
+      ),
+      refl,
+      refl,
+    )

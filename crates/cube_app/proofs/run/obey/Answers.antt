@@ -19,7 +19,7 @@ returns-in-Help g c =
         wire_steady = λ no. refl;
       };
       ordered = x.words;
-      others = λ told k other. refl;
+      others = λ told k zero seal. refl;
     })
 
 pub returns-in-Version : goal.returns-in-Version
@@ -38,14 +38,14 @@ returns-in-Version g c =
         wire_steady = λ no. refl;
       };
       ordered = x.words;
-      others = λ told k other. refl;
+      others = λ told k zero seal. refl;
     })
 
 pub returns-in-Sum : goal.returns-in-Sum
 returns-in-Sum g c =
     let x = c.sum.ensures in
     obeyed_as c.args.orders (orders.Sum c.in-Sum.facts) c.in-Sum.is (record {
-      does = record { answers = x.answers; asks = x.asks; ended = x.ended; complete = x.complete };
+      does = record { answers = x.answers; ended = x.ended; complete = x.complete };
       leaves = (x.store, refl, x.outcomes);
       causes = record {
         unreadable = x.unreadable;
@@ -57,14 +57,14 @@ returns-in-Sum g c =
         wire_steady = λ no. refl;
       };
       ordered = x.words;
-      others = λ told k other. ap (λ s. (g.S.Store.state s).logs k) x.store;
+      others = λ told k zero seal. ap (λ s. (g.S.Store.state s).logs k) x.store;
     })
 
 pub returns-in-Check : goal.returns-in-Check
 returns-in-Check g c =
     let x = c.check.ensures in
     obeyed_as c.args.orders (orders.Check c.in-Check.cube) c.in-Check.is (record {
-      does = record { answers = x.checks; asks = x.asks; complete = x.complete };
+      does = record { answers = x.checks; complete = x.complete };
       leaves = (refl, refl, refl, x.outcomes);
       causes = record {
         unreadable = λ is. inl (x.unreadable is, refl);
@@ -76,14 +76,14 @@ returns-in-Check g c =
         wire_steady = λ no. refl;
       };
       ordered = x.words;
-      others = λ told k other. refl;
+      others = λ told k zero seal. refl;
     })
 
 pub returns-in-Ask : goal.returns-in-Ask
 returns-in-Ask g c =
     let x = c.ask.ensures in
     obeyed_as c.args.orders (orders.Ask c.in-Ask.cube c.in-Ask.journal c.in-Ask.stated) c.in-Ask.is (record {
-      does = record { answers = x.answers; asks = x.asks; named = x.names; few_calls = x.calls; ended = x.ended; memory = x.memory; complete = x.complete };
+      does = record { answers = x.answers; named = x.names; few_calls = x.calls; ended = x.ended; memory = x.memory; complete = x.complete };
       leaves = refl;
       causes = record {
         unreadable = x.unreadable;
@@ -102,7 +102,7 @@ pub returns-in-Witness : goal.returns-in-Witness
 returns-in-Witness g c =
     let x = c.tell.ensures in
     obeyed_as c.args.orders (orders.Witness c.in-Witness.cube c.in-Witness.journal c.in-Witness.cell) c.in-Witness.is (record {
-      does = record { answers = x.answers; asks = x.asks; named = x.names; few_calls = x.calls; complete = x.complete };
+      does = record { answers = x.answers; named = x.names; few_calls = x.calls; complete = x.complete };
       leaves = (refl, refl, x.outcomes);
       causes = record {
         unreadable = λ is. inl (x.unreadable is, refl);
@@ -121,7 +121,7 @@ pub returns-in-Twin : goal.returns-in-Twin
 returns-in-Twin g c =
     let x = c.tell-in-Twin.ensures in
     obeyed_as c.args.orders (orders.Twin c.in-Twin.cube c.in-Twin.journal c.in-Twin.cell) c.in-Twin.is (record {
-      does = record { answers = x.answers; asks = x.asks; named = x.names; few_calls = x.calls; complete = x.complete };
+      does = record { answers = x.answers; named = x.names; few_calls = x.calls; complete = x.complete };
       leaves = (refl, refl, x.outcomes);
       causes = record {
         unreadable = λ is. inl (x.unreadable is, refl);
@@ -139,8 +139,8 @@ returns-in-Twin g c =
 pub returns-in-Serve : goal.returns-in-Serve
 returns-in-Serve g c =
     let x = c.serve_cube.ensures in
-    obeyed_as c.args.orders (orders.Serve c.in-Serve.cube c.in-Serve.journal c.in-Serve.address c.in-Serve.stated) c.in-Serve.is (record {
-      does = record { answers = x.answers; asks = x.asks; named = x.names; few_calls = x.calls; listened = x.heard; memory = x.memory; complete = x.complete };
+    obeyed_as c.args.orders (orders.Serve c.in-Serve.cube c.in-Serve.journal c.in-Serve.address c.in-Serve.stated c.in-Serve.idle) c.in-Serve.is (record {
+      does = record { answers = x.answers; named = x.names; few_calls = x.calls; listened = x.heard; memory = x.memory; complete = x.complete };
       leaves = (refl, refl);
       causes = record {
         unreadable = λ is. inl (x.unreadable is, refl);
@@ -159,7 +159,7 @@ pub returns-in-Replay : goal.returns-in-Replay
 returns-in-Replay g c =
     let x = c.replay_cube.ensures in
     obeyed_as c.args.orders (orders.Replay c.in-Replay.cube c.in-Replay.journal c.in-Replay.script c.in-Replay.stated) c.in-Replay.is (record {
-      does = record { answers = x.answers; asks = x.asks; named = x.names; few_calls = x.calls; memory = x.memory; complete = x.complete };
+      does = record { answers = x.answers; named = x.names; few_calls = x.calls; memory = x.memory; complete = x.complete };
       leaves = (refl, refl);
       causes = record {
         unreadable = λ is. inl (x.unreadable is, refl);
@@ -190,5 +190,5 @@ returns-in-Demo g c =
         wire_steady = λ no. refl;
       };
       ordered = x.words;
-      others = λ told k other. refl;
+      others = λ told k zero seal. refl;
     })

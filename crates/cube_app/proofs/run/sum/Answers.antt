@@ -11,5 +11,5 @@ returns-clause-answers g c = inr (
     reported = c.report_talk.ensures;
     talked = c.converse_by_sums-lines.ensures.talked;
   },
-  c.in-Ok.ensures.reads.steady,
+  record { asked = c.in-Ok.ensures.asks; steady = c.in-Ok.ensures.reads.steady },
 )

@@ -1,5 +1,6 @@
 use Rattle.cube_server.proofs.Dealt.{none_dealt, one_dealt, body_dealt, dead_dealt}
 use Rattle.cube_http.specs.Stream.Item.{Whole}
+use Rattle.cube_server.proofs.Enduring.{endures_none}
 use Rattle.cube_server.proofs.deal.deal.Goals as goal
 
 pub returns-in-Head-clause-deals : goal.returns-in-Head-clause-deals
@@ -15,3 +16,12 @@ returns-in-Done-clause-deals g c = λ told. rw c.in-Done.is (one_dealt (g.D.Desk
 pub returns-in-Dead-clause-deals : goal.returns-in-Dead-clause-deals
 returns-in-Dead-clause-deals g c = λ told. let off = c.deal_dead.ensures.off in
     rw (c.in-Dead.is, off) (dead_dealt (g.D.Desk.manner c.args.desk.now) c.args.c c.args.heard _ _ _ _ c.requires.room (c.deal_dead.ensures.says told))
+
+pub returns-in-Head-clause-endures : goal.returns-in-Head-clause-endures
+returns-in-Head-clause-endures g c = endures_none _ _ _ _
+
+pub returns-in-Body-clause-endures : goal.returns-in-Body-clause-endures
+returns-in-Body-clause-endures g c = endures_none _ _ _ _
+
+pub returns-in-Dead-clause-endures : goal.returns-in-Dead-clause-endures
+returns-in-Dead-clause-endures g c = endures_none _ _ _ _

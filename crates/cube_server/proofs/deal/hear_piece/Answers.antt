@@ -39,7 +39,7 @@ items-preserved g c =
       progress = λ told stream k.
           let deals = c.in-On.ensures.deals (rw (← was.sending.plays.told) at told) in
           rw c.skip-rest.ensures (step_on (g.D.Desk.manner c.args.desk.now) c.args.c stream c.args.piece.now c.items.rest.now c.feed-fed.result.used c.items.ear c.in-On.next c.feed-fed.result.heard c.feed-fed.result.conn _ _ _ _ _ _
-          (was.progress told stream k) was.endures.manner c.feed-fed.ensures.used.0 c.feed-fed.ensures.used.1 c.feed-fed.ensures.hears deals c.in-On.ensures.leaves);
+          (was.progress told stream k) was.endures.manner was.endures.manner c.feed-fed.ensures.used.0 c.feed-fed.ensures.used.1 c.feed-fed.ensures.hears deals c.in-On.ensures.leaves);
     }
 
 pub returns-in-Off-clause-deals : goal.returns-in-Off-clause-deals
@@ -48,7 +48,7 @@ returns-in-Off-clause-deals g c = λ told stream k.
     let deals = c.in-Off.ensures.deals (rw (← was.sending.plays.told) at told) in
     record {
       deals = step_off (g.D.Desk.manner c.args.desk.now) c.args.c stream c.args.piece.now c.items.rest.now c.feed-fed.result.used c.items.ear c.feed-fed.result.heard c.feed-fed.result.conn _ _ _ _ _ _
-          (was.progress told stream k) was.endures.manner c.feed-fed.ensures.used.0 c.feed-fed.ensures.used.1 c.feed-fed.ensures.hears deals (was.talks told);
+          (was.progress told stream k) was.endures.manner was.endures.manner c.feed-fed.ensures.used.0 c.feed-fed.ensures.used.1 c.feed-fed.ensures.hears deals (was.talks told);
       goes = λ some. tt;
     }
 

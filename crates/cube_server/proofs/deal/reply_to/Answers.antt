@@ -1,10 +1,10 @@
 use Rattle.cube_server.proofs.Dealt.{asked_deals, constant_deals}
-use Rattle.cube_server.proofs.Enduring.{endures_answer}
+use Rattle.cube_server.proofs.Enduring.{endures_none, endures_answer}
 use Rattle.cube_server.proofs.deal.reply_to.Goals as goal
 
 pub returns-in-Asked-clause-deals : goal.returns-in-Asked-clause-deals
 returns-in-Asked-clause-deals g c = let a = c.answer.ensures.answered in
-    rw c.in-Asked.is (λ q n log log' live s. asked_deals n q c.in-Asked.ask a.outcome c.answer.result _ _ log log' live a.added a.replied a.moved c.answer.ensures.room s)
+    rw c.in-Asked.is (λ q n log log' live s. asked_deals n q c.in-Asked.ask a.outcome c.answer.result _ _ log log' live a.added a.replied a.moved c.answer.ensures.room (λ is. (a.failed is).1) s)
 
 pub returns-in-Constant-clause-deals : goal.returns-in-Constant-clause-deals
 returns-in-Constant-clause-deals g c = rw c.in-Constant.is (λ q n log log' live s. constant_deals n q c.in-Constant.fixed _ log log' live s)
@@ -24,3 +24,6 @@ returns-in-Asked-clause-endures g c = let a = c.answer.ensures in
       exact = a.exact;
       others = a.others;
     })
+
+pub returns-in-Constant-clause-endures : goal.returns-in-Constant-clause-endures
+returns-in-Constant-clause-endures g c = endures_none _ _ _ _

@@ -1,5 +1,6 @@
 use Rattle.cube_server.proofs.Lookup.{taken_is_open}
 use Rattle.cube_server.proofs.Meetings.{dropped_meets, piece_on, piece_off}
+use Rattle.cube_server.proofs.Enduring.{endures_none}
 use Rattle.cube_server.proofs.serving.hear.Goals as goal
 
 pub returns-in_default-clause-meets : goal.returns-in_default-clause-meets
@@ -21,3 +22,6 @@ pub returns-in-Off-clause-meets : goal.returns-in-Off-clause-meets
 returns-in-Off-clause-meets g c = λ told conns k.
     piece_off c.args.c c.args.piece.now c.in-Some.ear _ c.args.lines.now.lines.items c.take.new.self.lines.items c.give.new.self.lines.items conns _ _ _ _
     (c.in-Some.ensures.some.1) c.give.ensures.lines k (c.requires.live told) (c.in-Off.ensures.deals told)
+
+pub returns-in_default-clause-endures : goal.returns-in_default-clause-endures
+returns-in_default-clause-endures g c = endures_none _ _ _ _

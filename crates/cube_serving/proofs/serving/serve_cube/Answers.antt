@@ -1,74 +1,75 @@
 use Rattle.std.proofs.Common.{◌∙◌, ◌++◌, ℕ, List, codes, ap, inl, inr, refl, subst, sym, IsTrue}
 use Rattle.cube_io.specs.Causes.{Rose}
 use Rattle.cube_io.specs.Seen.{seen}
+use Rattle.cube_io.specs.declared.store.TheConstants.{SEAL_LOG}
 use Rattle.cube_engine.specs.Engines.{Engine}
 use Rattle.cube_opening.proofs.Accepted.{all_accepted}
 use Rattle.cube_serving.specs.Serving.{asking}
-use Rattle.cube_serving.proofs.Listening.{asked_all, heard_or_failed, not_two, not_five, not_six, not_seven, not_nine, eight_failed, failed_eight, all_served}
+use Rattle.cube_serving.proofs.Listening.{heard_or_failed, not_two, not_five, not_six, not_seven, not_nine, eight_failed, failed_eight, all_served}
+use Rattle.cube_serving.proofs.Started.{opened, still_open}
+use Rattle.cube_serving.proofs.Unopened as unopened
 use Rattle.cube_serving.proofs.Wired.{served}
 use Rattle.cube_serving.proofs.serving.serve_cube.Goals as goal
 
 pub returns-clause-answers : goal.returns-clause-answers
 returns-clause-answers g c =
-    let opened = c.in-Ok-open_engine in
-    let e = opened.started.value in
+    let files = c.in-Ok in
+    let guarded = files.opened.value in
+    let y = c.in-Ok-open_engine.ensures in
+    let e = c.in-Ok-open_engine.started.value in
     let last = c.serve_engine-end.new.engine in
-    let mid = g.S.Store.state c.open_engine.new.store in
-    let store = seen g.S.Store.state c.args.store.now c.serve_engine-end.new.store in
+    let tells = g.S.Store.state in
+    let mid = c.open_engine.new.store in
+    let new = c.serve_engine-end.new.store in
     let end = c.serve_engine-end.result in
     let x = c.serve_engine-end.ensures in
-    inr (inr (inr (
+    let at_start = opened c.args.cube.now (g.F.Folder.state c.args.files.now) tells c.args.store.now mid guarded.core guarded.policy guarded.facts e c.args.stated files.ensures.ok.1 files.ensures.digest y.engine y.rules y.history y.agreed y.sealed y.seals in
+    inr (inr (
       record {
         asking = asking e last;
-        stated_is = ap (λ (y : Engine). y.left) opened.ensures.engine;
+        stated_is = ap (λ (z : Engine). z.left) y.engine;
         outcomes_are = c.report_serving.ensures.outcomes;
         end = end;
-        served = served c.args.cube.now (g.F.Folder.state c.args.files.now) mid store end (g.W.Wire.state c.args.wire.now).told (g.W.Wire.state c.listen.new.self).told (g.W.Wire.state c.serve_engine-end.new.wire).log c.in-Ok.opened.value.core c.in-Ok.opened.value.policy e last c.args.stated
-            c.in-Ok.ensures.ok.1 opened.ensures.engine opened.ensures.rules opened.ensures.history opened.ensures.exact opened.ensures.crash c.in-Ok-listen.ensures.told x.wired
-            (λ told exact crash. x.survived (subst IsTrue (sym opened.ensures.opens.told) told) exact c.args.store.now crash (sym opened.ensures.opens.told)) opened.ensures.steady x.calm;
+        served = served c.args.cube.now (g.F.Folder.state c.args.files.now) (tells mid) (seen tells c.args.store.now new) end (g.W.Wire.state c.args.wire.now).told (g.W.Wire.state c.listen.new.self).told (g.W.Wire.state c.serve_engine-end.new.wire).log guarded.core guarded.policy guarded.facts e last c.args.stated
+            (still_open c.args.cube.now (g.F.Folder.state c.args.files.now) tells c.args.store.now mid new guarded.core guarded.policy guarded.facts e.history (λ told. x.others (subst IsTrue (sym y.opens.told) told) SEAL_LOG (λ zero. cc)) at_start)
+            y.engine y.exact y.crash c.in-Ok-listen.ensures.told x.wired (λ told exact crash. x.survived (subst IsTrue (sym y.opens.told) told) exact c.args.store.now crash (sym y.opens.told)) y.steady x.asks;
         status = c.report_serving.ensures.status;
         text = c.report_serving.ensures.text;
       },
-      c.in-Ok.ensures.reads.steady,
-    )))
+      files.ensures.behind,
+    ))
 
 pub returns-in-Err-listen-clause-answers : goal.returns-in-Err-listen-clause-answers
 returns-in-Err-listen-clause-answers g c =
-    let opened = c.in-Ok-open_engine in
+    let files = c.in-Ok in
+    let guarded = files.opened.value in
+    let y = c.in-Ok-open_engine.ensures in
+    let engine = c.in-Ok-open_engine.started.value in
     let e = c.close-in-Err-listen.ensures in
-    inr (inr (inl (
+    inr (inl (
       record {
-        core = c.in-Ok.opened.value.core;
-        policy = c.in-Ok.opened.value.policy;
-        history = opened.started.value.history;
-        files_make = c.in-Ok.ensures.ok.1;
-        recovered = opened.ensures.history;
-        passed = opened.ensures.crash;
-        exact = opened.ensures.exact;
+        core = guarded.core;
+        policy = guarded.policy;
+        facts = guarded.facts;
+        history = engine.history;
+        opened = opened c.args.cube.now (g.F.Folder.state c.args.files.now) g.S.Store.state c.args.store.now c.open_engine.new.store guarded.core guarded.policy guarded.facts engine c.args.stated files.ensures.ok.1 files.ensures.digest y.engine y.rules y.history y.agreed y.sealed y.seals;
+        passed = y.crash;
+        exact = y.exact;
       },
-      inl ((e.0, e.1, e.2 ∙ c.with-in-Err-listen.ensures ∙ ap (λ (x : List ℕ). x ++ codes "wire failed\n") opened.ensures.room), c.in-Err-listen.ensures.cause.failed),
-      c.in-Ok.ensures.reads.steady,
+      inl ((e.0, e.1, e.2 ∙ c.with-in-Err-listen.ensures ∙ ap (λ (t : List ℕ). t ++ codes "wire failed\n") y.room), c.in-Err-listen.ensures.cause.failed),
+      files.ensures.behind,
       λ told. c.in-Err-listen.ensures.log told ∙ c.requires.quiet told,
-    )))
+    ))
 
 pub returns-in-Err-clause-complete : goal.returns-in-Err-clause-complete
 returns-in-Err-clause-complete g c = λ all kept some files store wire. inr (all_accepted c.args.cube.now (seen g.F.Folder.state c.args.files.now c.open_guarded.new.files) c.in-Err.report c.in-Err.ensures.err all files)
 
 pub returns-clause-others : goal.returns-clause-others
-returns-clause-others g c = λ told log other. c.serve_engine-end.ensures.others (subst IsTrue (sym c.in-Ok-open_engine.ensures.opens.told) told) log other ∙ c.in-Ok-open_engine.ensures.opens.others told log other
-
-pub returns-in-Err-listen-clause-asks : goal.returns-in-Err-listen-clause-asks
-returns-in-Err-listen-clause-asks g c = asked_all c.args.cube.now (seen g.F.Folder.state c.args.files.now c.open_guarded.new.files) c.close-in-Err-listen.result c.in-Ok.ensures.asks_ok
+returns-clause-others g c = λ told log zero seal. c.serve_engine-end.ensures.others (subst IsTrue (sym c.in-Ok-open_engine.ensures.opens.told) told) log zero ∙ c.in-Ok-open_engine.ensures.opens.others told log zero seal
 
 pub returns-in-Err-listen-clause-heard : goal.returns-in-Err-listen-clause-heard
 returns-in-Err-listen-clause-heard g c =
     inr (λ told. heard_or_failed c.args.address.now (g.W.Wire.state c.args.wire.now).heard (g.W.Wire.state c.listen.new.self).heard c.close-in-Err-listen.result (c.in-Err-listen.ensures.heard told) c.close-in-Err-listen.ensures.0)
-
-pub returns-clause-asks : goal.returns-clause-asks
-returns-clause-asks g c = asked_all c.args.cube.now (seen g.F.Folder.state c.args.files.now c.open_guarded.new.files) c.report_serving.result c.in-Ok.ensures.asks_ok
-
-pub returns-in_default-clause-asks : goal.returns-in_default-clause-asks
-returns-in_default-clause-asks g c = asked_all c.args.cube.now (seen g.F.Folder.state c.args.files.now c.open_guarded.new.files) c.close.result c.in-Ok.ensures.asks_ok
 
 pub returns-clause-unkept : goal.returns-clause-unkept
 returns-clause-unkept g c = λ nine. absurd (not_nine c.serve_engine-end.result (sym c.report_serving.ensures.status ∙ nine))
@@ -89,39 +90,49 @@ pub returns-clause-words : goal.returns-clause-words
 returns-clause-words g c = λ two. not_two c.serve_engine-end.result (sym c.report_serving.ensures.status ∙ two)
 
 pub returns-in-Err-clause-answers : goal.returns-in-Err-clause-answers
-returns-in-Err-clause-answers g c = inl (c.in-Err.ensures.err, refl, refl)
+returns-in-Err-clause-answers g c = inl (inl (c.in-Err.ensures.err, refl), refl)
 
 pub returns-in-Err-open_engine-clause-answers : goal.returns-in-Err-open_engine-clause-answers
-returns-in-Err-open_engine-clause-answers g c = inr (inl (
-  record {
-    core = c.in-Ok.opened.value.core;
-    policy = c.in-Ok.opened.value.policy;
-    files_make = c.in-Ok.ensures.ok.1;
-    unstarted = c.in-Err-open_engine.ensures.err;
-    passed = c.in-Err-open_engine.ensures.crash;
-  },
-  c.in-Ok.ensures.reads.steady,
-  refl,
-))
+returns-in-Err-open_engine-clause-answers g c =
+    let guarded = c.in-Ok.opened.value in
+    inl (
+      inr (
+        record {
+          core = guarded.core;
+          policy = guarded.policy;
+          facts = guarded.facts;
+          files_make = c.in-Ok.ensures.ok.1;
+          digest = c.in-Ok.ensures.digest;
+          unstarted = c.in-Err-open_engine.ensures.err;
+          passed = c.in-Err-open_engine.ensures.crash;
+          seals = c.in-Err-open_engine.ensures.seals;
+        },
+        c.in-Ok.ensures.behind,
+      ),
+      refl,
+    )
 
 pub returns-in_default-clause-answers : goal.returns-in_default-clause-answers
 returns-in_default-clause-answers g c =
-    let opened = c.in-Ok-open_engine in
+    let files = c.in-Ok in
+    let guarded = files.opened.value in
+    let y = c.in-Ok-open_engine.ensures in
+    let engine = c.in-Ok-open_engine.started.value in
     let e = c.close.ensures in
-    inr (inr (inl (
+    inr (inl (
       record {
-        core = c.in-Ok.opened.value.core;
-        policy = c.in-Ok.opened.value.policy;
-        history = opened.started.value.history;
-        files_make = c.in-Ok.ensures.ok.1;
-        recovered = opened.ensures.history;
-        passed = opened.ensures.crash;
-        exact = opened.ensures.exact;
+        core = guarded.core;
+        policy = guarded.policy;
+        facts = guarded.facts;
+        history = engine.history;
+        opened = opened c.args.cube.now (g.F.Folder.state c.args.files.now) g.S.Store.state c.args.store.now c.open_engine.new.store guarded.core guarded.policy guarded.facts engine c.args.stated files.ensures.ok.1 files.ensures.digest y.engine y.rules y.history y.agreed y.sealed y.seals;
+        passed = y.crash;
+        exact = y.exact;
       },
-      inr (e.0, e.1, e.2 ∙ c.with.ensures ∙ ap (λ (x : List ℕ). x ++ codes "no memory\n") opened.ensures.room),
-      c.in-Ok.ensures.reads.steady,
+      inr (e.0, e.1, e.2 ∙ c.with.ensures ∙ ap (λ (t : List ℕ). t ++ codes "no memory\n") y.room),
+      files.ensures.behind,
       c.requires.quiet,
-    )))
+    ))
 
 pub returns-clause-heard : goal.returns-clause-heard
 returns-clause-heard g c = inr (λ told. inl (c.serve_engine-end.ensures.plays.heard (subst IsTrue (sym c.in-Ok-listen.ensures.told) told) ∙ c.in-Ok-listen.ensures.heard told))
@@ -144,3 +155,6 @@ returns-clause-complete g c = λ all kept some files store wire.
     let end = c.serve_engine-end.result in
     let status = c.report_serving.ensures.status in
     inl (status ∙ all_served end (λ ten. some (status ∙ ten)) (λ failed. wire (subst (λ (n : ℕ). Rose n (g.W.Wire.state c.serve_engine-end.new.wire).faults) c.in-Ok-listen.ensures.cause.steady (c.serve_engine-end.ensures.failed failed))))
+
+pub returns-in-Err-clause-unkept : goal.returns-in-Err-clause-unkept
+returns-in-Err-clause-unkept g c = λ nine. absurd (unopened.not_nine c.args.cube.now (seen g.F.Folder.state c.args.files.now c.open_guarded.new.files) c.in-Err.report c.in-Err.ensures.err nine)

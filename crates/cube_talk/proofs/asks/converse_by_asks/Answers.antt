@@ -1,7 +1,9 @@
 use Rattle.std.proofs.lemmas.Bool.{false≢true}
-use Rattle.std.proofs.Common.{List, length, sym, subst, ap, ◌∙◌}
+use Rattle.std.proofs.Common.{◌≡◌, List, length, sym, subst, ap, ◌∙◌}
 use Rattle.cube_model.specs.declared.outcome.Outcome.{Outcome}
-use Rattle.cube_talk.specs.Asks.{NoneFailed, rooms_behind}
+use Rattle.cube_io.specs.Causes.{RoseBy}
+use Rattle.cube_io.specs.Desks.{faults_in}
+use Rattle.cube_talk.specs.Asks.{FailedFresh, rooms_behind}
 use Rattle.cube_talk.specs.Crashes.{Survives}
 use Rattle.cube_talk.specs.Moments.{moment}
 use Rattle.cube_talk.proofs.AskTalk.{added_are, said_of}
@@ -27,15 +29,10 @@ returns-clause-talked g c =
       };
       rooms_are = a.rooms_are ∙ ap (λ (os : List Outcome). rooms_behind x.manner x.rooms v.first os) (sym same);
       survives = subst (λ (os : List Outcome). Survives x y v.first os) (sym same) v.answered.1;
+      steady = subst (λ (os : List Outcome). faults_in os ≡ 0 → y.store.faults ≡ x.store.faults) (sym same) a.steady;
+      risen = subst (λ (os : List Outcome). RoseBy (faults_in os) x.store.faults y.store.faults) (sym same) a.risen;
+      fresh = subst (λ (os : List Outcome). FailedFresh x.manner x.rooms v.first os) (sym same) a.fresh;
     }
 
 pub returns-clause-later : goal.returns-clause-later
 returns-clause-later g c = c.converse-end.ensures.conversed.answered.0.later
-
-pub returns-clause-calm : goal.returns-clause-calm
-returns-clause-calm g c = λ e.
-    let v = c.converse-end.ensures.conversed in
-    let x = moment g.D.Desk.manner g.D.Desk.rooms g.D.Desk.outcomes g.D.Desk.room g.D.Desk.exact g.D.Desk.within c.args.desk (g.S.Store.state c.args.store.now) in
-    let y = moment g.D.Desk.manner g.D.Desk.rooms g.D.Desk.outcomes g.D.Desk.room g.D.Desk.exact g.D.Desk.within c.converse-end.new.responder.desk (g.S.Store.state c.converse-end.new.store) in
-    let a = v.answered.0 in
-    subst NoneFailed (sym (added_are x y v.first v.said c.requires.fresh a)) (a.calm e)

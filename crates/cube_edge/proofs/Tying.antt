@@ -1,0 +1,372 @@
+-- A log stays tied to what the sockets tell.
+use Rattle.std.proofs.Common.{◌≡◌, ◌≢◌, ◌<◌, ◌≤◌, ℕ, ◌==◌, Bool, true, false, List, [], ◌∷◌, ◌++◌, length, get_or, take, refl, sym, ◌∙◌, ap, subst, arith, append-nil, if◌then◌else◌, length-set, get_or-set_same, get_or-set_other}
+use Rattle.std.proofs.Math.ListN.{set}
+use Rattle.std.specs.Prelude.{IsTrue, Option, Some, None, Result, Ok, Err, IsSomeAnd, All, slice_get, slice_set}
+use Rattle.std.proofs.lemmas.Bool.Decides.{nat_tests}
+use Rattle.std.proofs.lemmas.Option.{slice_get_within, slice_get-get_or, get_or_from_slice_get, slice_get_read}
+use Rattle.cube_io.specs.declared.faults.Failed.{Failed}
+use Rattle.cube_io.specs.declared.wire.Event.{Event}
+use Rattle.cube_io.specs.Wires.{LogEntry, IsOpen, open_by, open_after}
+use Rattle.cube_io.specs.Wires.Arrival.{Opened, Came, Closed}
+use Rattle.cube_io.specs.Wires.LogEntry.{Heard, Sent, Torn, Shut}
+use Rattle.cube_edge.specs.declared.link.Link.{Link}
+use Rattle.cube_edge.specs.declared.link.Look.TheVariants as look
+use Rattle.cube_edge.specs.declared.link.Stage.{Stage}
+use Rattle.cube_edge.specs.declared.link.Stage.TheVariants as stage
+use Rattle.cube_edge.specs.Sockets.{SocketsState, OnlyOn, Elsewhere, MovedNothing, Accepted, AcceptTells, LookTells, LookFits, SendGoesOut, outgoing}
+use Rattle.cube_edge.specs.Links.{closed_behind}
+use Rattle.cube_edge.specs.Watches.{WatchState, Notes}
+use Rattle.cube_edge.specs.Flows.{Flow, no_flow, flow_by, flow_after, flow, is_there, is_open, IsTied, AreTied, Keeps, Takes, TakesAccept, TakesEvent, TakesSend}
+
+same_number : (c : ℕ) → (c == c) ≡ true
+same_number c = grind (arith, nat_tests)
+
+other_number : (c d : ℕ) → d ≢ c → (c == d) ≡ false
+other_number c d differs = grind (arith, nat_tests)
+
+flow_more : (c : ℕ) (was : Flow) (log : List LogEntry) (e : LogEntry) → flow_after c was (log ++ e ∷ []) ≡ flow_by c (flow_after c was log) e
+flow_more c was [] e = refl
+flow_more c was (x ∷ log) e = flow_more c (flow_by c was x) log e
+
+open_more : (c : ℕ) (was : Bool) (log : List LogEntry) (e : LogEntry) → open_after c was (log ++ e ∷ []) ≡ open_by c (open_after c was log) e
+open_more c was [] e = refl
+open_more c was (x ∷ log) e = open_more c (open_by c was x) log e
+
+-- what an entry on connection c does to its own flow: it adds these bytes that went out and these that came
+abbrev pub Adds : ℕ → LogEntry → List ℕ → List ℕ → Type 0
+Adds c e gave took = (was : Flow) → flow_by c was e ≡ record { sent = was.sent ++ gave; came = was.came ++ took }
+
+-- an entry that says nothing of connection d
+pub record Leaves (d : ℕ) (e : LogEntry) : Type 0 where
+  pub flow : (was : Flow) → flow_by d was e ≡ was
+  pub opens : (was : Bool) → open_by d was e ≡ was
+
+-- and that of every other it leaves
+abbrev pub LeavesOthers : ℕ → LogEntry → Type 0
+LeavesOthers c e = (d : ℕ) → d ≢ c → Leaves d e
+
+if_true : {A : Type 0} (b : Bool) (x y : A) → b ≡ true → (if b then x else y) ≡ x
+if_true true x y e = refl
+if_true false x y e = absurd (cc)
+
+if_false : {A : Type 0} (b : Bool) (x y : A) → b ≡ false → (if b then x else y) ≡ y
+if_false true x y e = absurd (cc)
+if_false false x y e = refl
+
+pub sent_adds : (c : ℕ) (bytes : List ℕ) → Adds c (Sent c bytes) bytes []
+sent_adds c bytes was = if_true (c == c) (record { sent = was.sent ++ bytes; came = was.came }) was (same_number c) ∙ ap (λ (l : List ℕ). let f : Flow = record { sent = was.sent ++ bytes; came = l } in f) (sym (append-nil was.came))
+
+pub torn_adds : (c : ℕ) (bytes : List ℕ) → Adds c (Torn c bytes) bytes []
+torn_adds c bytes was = if_true (c == c) (record { sent = was.sent ++ bytes; came = was.came }) was (same_number c) ∙ ap (λ (l : List ℕ). let f : Flow = record { sent = was.sent ++ bytes; came = l } in f) (sym (append-nil was.came))
+
+pub came_adds : (c : ℕ) (bytes : List ℕ) → Adds c (Heard (Came c bytes)) [] bytes
+came_adds c bytes was = if_true (c == c) (record { sent = was.sent; came = was.came ++ bytes }) was (same_number c) ∙ ap (λ (l : List ℕ). let f : Flow = record { sent = l; came = was.came ++ bytes } in f) (sym (append-nil was.sent))
+
+pub sent_leaves : (c : ℕ) (bytes : List ℕ) → LeavesOthers c (Sent c bytes)
+sent_leaves c bytes d differs = record { flow = λ was. if_false (c == d) (record { sent = was.sent ++ bytes; came = was.came }) was (other_number c d differs); opens = λ was. refl }
+
+pub torn_leaves : (c : ℕ) (bytes : List ℕ) → LeavesOthers c (Torn c bytes)
+torn_leaves c bytes d differs = record { flow = λ was. if_false (c == d) (record { sent = was.sent ++ bytes; came = was.came }) was (other_number c d differs); opens = λ was. refl }
+
+pub came_leaves : (c : ℕ) (bytes : List ℕ) → LeavesOthers c (Heard (Came c bytes))
+came_leaves c bytes d differs = record { flow = λ was. if_false (c == d) (record { sent = was.sent; came = was.came ++ bytes }) was (other_number c d differs); opens = λ was. refl }
+
+pub opened_leaves : (c : ℕ) → LeavesOthers c (Heard (Opened c))
+opened_leaves c d differs = record { flow = λ was. if_false (c == d) no_flow was (other_number c d differs); opens = λ was. if_false (c == d) true was (other_number c d differs) }
+
+pub closed_leaves : (c : ℕ) → LeavesOthers c (Heard (Closed c))
+closed_leaves c d differs = record { flow = λ was. refl; opens = λ was. if_false (c == d) false was (other_number c d differs) }
+
+pub shut_leaves : (c : ℕ) → LeavesOthers c (Shut c)
+shut_leaves c d differs = record { flow = λ was. refl; opens = λ was. if_false (c == d) false was (other_number c d differs) }
+
+-- ---- one connection
+
+-- an entry on it
+pub entry_ties : (c : ℕ) (e : LogEntry) (gave took : List ℕ) (s s' : SocketsState) (old new : Link) → Adds c e gave took
+    → (IsTrue (is_there new.stage) → IsTrue (is_there old.stage)) → (IsTrue (is_open new.stage) → IsTrue (is_open old.stage)) → open_by c (is_open old.stage) e ≡ is_open new.stage
+    → outgoing c s' new.waiting ≡ outgoing c s old.waiting ++ gave → (IsTrue (is_open new.stage) → s'.taken c ≡ s.taken c ++ took)
+    → (log : List LogEntry) → IsTied c s log old → IsTied c s' (log ++ e ∷ []) new
+entry_ties c e gave took s s' old new adds there opens turns goes comes log tied =
+    let more : flow c (log ++ e ∷ []) ≡ record { sent = (flow c log).sent ++ gave; came = (flow c log).came ++ took } = flow_more c no_flow log e ∙ adds (flow c log) in
+    record {
+      opens = open_more c false log e ∙ ap (λ (b : Bool). open_by c b e) tied.opens ∙ turns;
+      sends = λ is. ap (λ (f : Flow). f.sent) more ∙ ap (λ (l : List ℕ). l ++ gave) (tied.sends (there is)) ∙ sym goes;
+      comes = λ is. ap (λ (f : Flow). f.came) more ∙ ap (λ (l : List ℕ). l ++ took) (tied.comes (opens is)) ∙ sym (comes is);
+    }
+
+-- no entry
+pub keeps_tied : (c : ℕ) (s s' : SocketsState) (old new : Link)
+    → (IsTrue (is_there new.stage) → IsTrue (is_there old.stage)) → is_open new.stage ≡ is_open old.stage
+    → (IsTrue (is_there new.stage) → outgoing c s' new.waiting ≡ outgoing c s old.waiting) → (IsTrue (is_open new.stage) → s'.taken c ≡ s.taken c)
+    → (log : List LogEntry) → IsTied c s log old → IsTied c s' log new
+keeps_tied c s s' old new there same goes comes log tied = record {
+  opens = tied.opens ∙ sym same;
+  sends = λ is. tied.sends (there is) ∙ sym (goes is);
+  comes = λ is. tied.comes (sym same ∙ is) ∙ sym (comes is);
+}
+
+-- it was accepted
+pub opened_ties : (c : ℕ) (s : SocketsState) (new : Link) → new.stage ≡ stage.Open → new.waiting ≡ [] → s.given c ≡ [] → s.taken c ≡ [] → (log : List LogEntry) → IsTied c s (log ++ Heard (Opened c) ∷ []) new
+opened_ties c s new stage waits given taken log =
+    let none : flow c (log ++ Heard (Opened c) ∷ []) ≡ no_flow = flow_more c no_flow log (Heard (Opened c)) ∙ if_true (c == c) no_flow (flow c log) (same_number c) in
+    record {
+      opens = open_more c false log (Heard (Opened c)) ∙ if_true (c == c) true (open_after c false log) (same_number c) ∙ sym (ap is_open stage);
+      sends = λ is. ap (λ (f : Flow). f.sent) none ∙ sym (ap (λ (l : List ℕ). s.given c ++ l) waits ∙ append-nil (s.given c) ∙ given);
+      comes = λ is. ap (λ (f : Flow). f.came) none ∙ sym taken;
+    }
+
+-- ---- a turn
+
+open_or_not : (b b' : Bool) → (b ≡ false → b' ≡ false) → IsTrue b' → IsTrue b
+open_or_not true b' h is = refl
+open_or_not false b' h is = absurd (let no : b' ≡ false = h refl in cc)
+
+pub elsewhere_only : (c : ℕ) (s s' : SocketsState) → OnlyOn c s s' → IsTrue s.told → Elsewhere c s s'
+elsewhere_only c s s' only told = record { taken = only.taken told; given = only.given told }
+
+-- a piece comes only where it is open
+pub piece_ties : (c n : ℕ) (buf : List ℕ) (s s' : SocketsState) (old new : Link) → (is_open old.stage ≡ false → (bytes : List ℕ) → LookFits (look.Piece n) bytes)
+    → (is_there old.stage ≡ false → is_there new.stage ≡ false) → is_open new.stage ≡ is_open old.stage → (is_open old.stage ≡ true → LookTells c (look.Piece n) buf s s')
+    → outgoing c s' new.waiting ≡ outgoing c s old.waiting → (log : List LogEntry) → IsTied c s log old → IsTied c s' (log ++ Heard (Came c (take n buf)) ∷ []) new
+piece_ties c n buf s s' old new none there same hears goes =
+    entry_ties c (Heard (Came c (take n buf))) [] (take n buf) s s' old new (came_adds c (take n buf)) (open_or_not (is_there old.stage) (is_there new.stage) there) (λ is. sym same ∙ is) (sym same)
+    (goes ∙ sym (append-nil (outgoing c s old.waiting))) (λ is. hears (sym same ∙ is))
+
+-- it was open and is no more
+pub closed_ties : (c : ℕ) (s s' : SocketsState) (old new : Link) → new.stage ≡ stage.Free → (log : List LogEntry) → IsTied c s log old → IsTied c s' (log ++ Heard (Closed c) ∷ []) new
+closed_ties c s s' old new free log tied = record {
+  opens = open_more c false log (Heard (Closed c)) ∙ if_true (c == c) false (open_after c false log) (same_number c) ∙ sym (ap is_open free);
+  sends = λ is. absurd (let no : false ≡ true = ap is_there (sym free) ∙ is in cc);
+  comes = λ is. absurd (let no : false ≡ true = ap is_open (sym free) ∙ is in cc);
+}
+
+-- it was not open and is no more
+pub gone_ties : (c : ℕ) (s s' : SocketsState) (old new : Link) → new.stage ≡ stage.Free → is_open old.stage ≡ false → (log : List LogEntry) → IsTied c s log old → IsTied c s' log new
+gone_ties c s s' old new free was log tied = record {
+  opens = tied.opens ∙ was ∙ sym (ap is_open free);
+  sends = λ is. absurd (let no : false ≡ true = ap is_there (sym free) ∙ is in cc);
+  comes = λ is. absurd (let no : false ≡ true = ap is_open (sym free) ∙ is in cc);
+}
+
+-- ---- all of them
+
+-- two logs say the same of connection d
+pub record Agrees (d : ℕ) (log log' : List LogEntry) : Type 0 where
+  pub flow : flow d log' ≡ flow d log
+  pub opens : open_after d false log' ≡ open_after d false log
+
+-- one is tied anew, and the logs say the same of the others
+pub tied_at : (c : ℕ) (s s' : SocketsState) (log log' : List LogEntry) (links : List Link) (old new : Link) → c < length links → old ≡ get_or links c old → Elsewhere c s s'
+    → ((d : ℕ) → d ≢ c → Agrees d log log') → (IsTied c s log old → IsTied c s' log' new) → AreTied s log links → AreTied s' log' (set links c new)
+tied_at c s s' log log' links old new few is elsewhere others mine tied d link at = by (c == d) refl
+  where
+    here : get_or (set links c new) d link ≡ link
+    here = get_or_from_slice_get (set links c new) d link link at
+
+    within : d < length links
+    within = subst (λ (n : ℕ). d < n) (length-set links c new) (slice_get_within (set links c new) d link at)
+
+    mine_now : IsTied c s' log' new
+    mine_now = mine (tied c old (slice_get_read links (length links) c old refl few is))
+
+    same : c ≡ d → IsTied d s' log' link
+    same e = subst (λ (l : Link). IsTied d s' log' l) (sym (get_or-set_same links c new link few) ∙ ap (λ (n : ℕ). get_or (set links c new) n link) e ∙ here) (subst (λ (n : ℕ). IsTied n s' log' new) e mine_now)
+
+    kept : d ≢ c → get_or links d link ≡ link
+    kept differs = sym (get_or-set_other links c d new link differs) ∙ here
+
+    was : d ≢ c → IsTied d s log link
+    was differs = tied d link (slice_get-get_or links d link within ∙ ap (λ (l : Link). let o = Some l in o) (kept differs))
+
+    other : d ≢ c → IsTied d s' log' link
+    other differs = record {
+      opens = (others d differs).opens ∙ (was differs).opens;
+      sends = λ h. ap (λ (f : Flow). f.sent) (others d differs).flow ∙ (was differs).sends h ∙ ap (λ (l : List ℕ). l ++ link.waiting) (sym (elsewhere.given d differs));
+      comes = λ h. ap (λ (f : Flow). f.came) (others d differs).flow ∙ (was differs).comes h ∙ sym (elsewhere.taken d differs);
+    }
+
+    by : (b : Bool) → (c == d) ≡ b → IsTied d s' log' link
+    by true e = same (grind (arith, nat_tests))
+    by false e = other (λ same. absurd (grind (arith, nat_tests)))
+
+-- the logs say the same of the others where one has an entry more on connection c
+pub others_say : (c : ℕ) (e : LogEntry) → LeavesOthers c e → (log : List LogEntry) → (d : ℕ) → d ≢ c → Agrees d log (log ++ e ∷ [])
+others_say c e leaves log d differs = record { flow = flow_more d no_flow log e ∙ (leaves d differs).flow (flow d log); opens = open_more d false log e ∙ (leaves d differs).opens (open_after d false log) }
+
+-- no byte moved
+pub tied_still : (s s' : SocketsState) (log : List LogEntry) (links : List Link) → ((d : ℕ) → s'.taken d ≡ s.taken d) → ((d : ℕ) → s'.given d ≡ s.given d) → AreTied s log links → AreTied s' log links
+tied_still s s' log links taken given tied c link at = record {
+  opens = (tied c link at).opens;
+  sends = λ h. (tied c link at).sends h ∙ ap (λ (l : List ℕ). l ++ link.waiting) (sym (given c));
+  comes = λ h. (tied c link at).comes h ∙ sym (taken c);
+}
+
+-- an entry that says nothing of any
+pub entry_still : (s : SocketsState) (log : List LogEntry) (e : LogEntry) (links : List Link) → ((d : ℕ) → Leaves d e) → AreTied s log links → AreTied s (log ++ e ∷ []) links
+entry_still s log e links stays tied c link at =
+    let same : flow c (log ++ e ∷ []) ≡ flow c log = flow_more c no_flow log e ∙ (stays c).flow (flow c log) in
+    record {
+      opens = open_more c false log e ∙ (stays c).opens (open_after c false log) ∙ (tied c link at).opens;
+      sends = λ h. ap (λ (f : Flow). f.sent) same ∙ (tied c link at).sends h;
+      comes = λ h. ap (λ (f : Flow). f.came) same ∙ (tied c link at).comes h;
+    }
+
+-- ---- the calls of all connections
+
+pub still : (s s' : SocketsState) (links : List Link) → MovedNothing s s' → Keeps s links s' links
+still s s' links moved told log tied = tied_still s s' log links (moved.taken told) (moved.given told) tied
+
+pub takes_at : (c : ℕ) (e : LogEntry) (s s' : SocketsState) (links : List Link) (old new : Link) → c < length links → old ≡ get_or links c old → (IsTrue s.told → Elsewhere c s s') → LeavesOthers c e
+    → (IsTrue s.told → (log : List LogEntry) → IsTied c s log old → IsTied c s' (log ++ e ∷ []) new) → Takes e s links s' (slice_set links c new)
+takes_at c e s s' links old new few is elsewhere leaves mine told log tied = tied_at c s s' log (log ++ e ∷ []) links old new few is (elsewhere told) (others_say c e leaves log) (mine told log) tied
+
+pub keeps_at : (c : ℕ) (s s' : SocketsState) (links : List Link) (old new : Link) → c < length links → old ≡ get_or links c old → (IsTrue s.told → Elsewhere c s s')
+    → (IsTrue s.told → (log : List LogEntry) → IsTied c s log old → IsTied c s' log new) → Keeps s links s' (slice_set links c new)
+keeps_at c s s' links old new few is elsewhere mine told log tied = tied_at c s s' log log links old new few is (elsewhere told) (λ d differs. record { flow = refl; opens = refl }) (mine told log) tied
+
+pub takes_still : (e : LogEntry) (s s' : SocketsState) (links links' : List Link) → ((d : ℕ) → Leaves d e) → Keeps s links s' links' → Takes e s links s' links'
+takes_still e s s' links links' stays keeps told log tied = entry_still s' log e links' stays (keeps told log tied)
+
+-- what waits was pushed out
+pub push_keeps : (c : ℕ) (s s' : SocketsState) (links : List Link) (old new : Link) → c < length links → old ≡ get_or links c old → OnlyOn c s s' → new.stage ≡ old.stage
+    → (IsTrue s.told → outgoing c s' new.waiting ≡ outgoing c s old.waiting) → (IsTrue s.told → s'.taken c ≡ s.taken c) → Keeps s links s' (slice_set links c new)
+push_keeps c s s' links old new few is only stage goes taken =
+    keeps_at c s s' links old new few is (elsewhere_only c s s' only)
+    (λ told. keeps_tied c s s' old new (λ i. ap is_there (sym stage) ∙ i) (ap is_open stage) (λ i. goes told) (λ i. taken told))
+
+-- nothing was done
+pub same_keeps : (c : ℕ) (s : SocketsState) (links : List Link) (link : Link) → c < length links → link ≡ get_or links c link → Keeps s links s (slice_set links c link)
+same_keeps c s links link few is = keeps_at c s s links link link few is (λ told. record { taken = λ d differs. refl; given = λ d differs. refl }) (λ told log tied. tied)
+
+-- a connection that is open sends
+pub send_takes : (r : Result (Unit {0}) ℕ) (c : ℕ) (piece : List ℕ) (s s' : SocketsState) (links : List Link) (old new : Link) → c < length links → old ≡ get_or links c old → OnlyOn c s s' → new.stage ≡ old.stage
+    → (IsTrue s.told → SendGoesOut r piece (outgoing c s old.waiting) (outgoing c s' new.waiting)) → (IsTrue s.told → s'.taken c ≡ s.taken c) → TakesSend r c piece s links s' (slice_set links c new)
+send_takes (Ok u) c piece s s' links old new few is only stage goes taken =
+    takes_at c (Sent c piece) s s' links old new few is (elsewhere_only c s s' only) (sent_leaves c piece)
+    (λ told. entry_ties c (Sent c piece) piece [] s s' old new (sent_adds c piece) (λ i. ap is_there (sym stage) ∙ i) (λ i. ap is_open (sym stage) ∙ i) (ap is_open (sym stage)) (goes told) (λ i. taken told ∙ sym (append-nil (s.taken c))))
+send_takes (Err n) c piece s s' links old new few is only stage goes taken =
+    takes_at c (Torn c (take n piece)) s s' links old new few is (elsewhere_only c s s' only) (torn_leaves c (take n piece))
+    (λ told. entry_ties c (Torn c (take n piece)) (take n piece) [] s s' old new (torn_adds c (take n piece)) (λ i. ap is_there (sym stage) ∙ i) (λ i. ap is_open (sym stage) ∙ i) (ap is_open (sym stage)) (goes told) (λ i. taken told ∙ sym (append-nil (s.taken c))))
+
+-- nothing went out of a send
+nothing_torn : (c d : ℕ) → Leaves d (Torn c [])
+nothing_torn c d = record { flow = λ was. by was (c == d); opens = λ was. refl }
+  where
+    by : (was : Flow) (b : Bool) → (if b then record { sent = was.sent ++ []; came = was.came } else was) ≡ was
+    by was true = ap (λ (l : List ℕ). let f : Flow = record { sent = l; came = was.came } in f) (append-nil was.sent)
+    by was false = refl
+
+pub no_send_takes : (c : ℕ) (s s' : SocketsState) (links links' : List Link) → Keeps s links s' links' → Takes (Torn c []) s links s' links'
+no_send_takes c s s' links links' keeps = takes_still (Torn c []) s s' links links' (nothing_torn c) keeps
+
+-- a close told of connection c, that is not open behind it
+pub shut_ties : (c : ℕ) (s s' : SocketsState) (old new : Link) → is_open new.stage ≡ false → (IsTrue (is_there new.stage) → IsTrue (is_there old.stage)) → outgoing c s' new.waiting ≡ outgoing c s old.waiting
+    → (log : List LogEntry) → IsTied c s log old → IsTied c s' (log ++ Shut c ∷ []) new
+shut_ties c s s' old new ends there goes log tied =
+    let same : flow c (log ++ Shut c ∷ []) ≡ flow c log = flow_more c no_flow log (Shut c) in
+    record {
+      opens = open_more c false log (Shut c) ∙ if_true (c == c) false (open_after c false log) (same_number c) ∙ sym ends;
+      sends = λ is. ap (λ (f : Flow). f.sent) same ∙ tied.sends (there is) ∙ sym goes;
+      comes = λ is. absurd (let no : false ≡ true = sym ends ∙ is in cc);
+    }
+
+same_there : (old : Stage) → is_open old ≡ true → IsTrue (is_there old)
+same_there stage.Free h = absurd (cc)
+same_there stage.Open h = refl
+same_there stage.Closing h = refl
+same_there stage.Finished h = refl
+
+not_open : (b : Bool) → is_open (if b then stage.Finished else stage.Closing) ≡ false
+not_open true = refl
+not_open false = refl
+
+-- a connection that is open is closed
+pub close_takes : (c : ℕ) (s s' : SocketsState) (links : List Link) (old new : Link) → c < length links → old ≡ get_or links c old → MovedNothing s s' → is_open old.stage ≡ true
+    → new.stage ≡ closed_behind old.waiting → new.waiting ≡ old.waiting → Takes (Shut c) s links s' (slice_set links c new)
+close_takes c s s' links old new few is quiet opens stage waiting =
+    takes_at c (Shut c) s s' links old new few is (λ told. record { taken = λ d differs. quiet.taken told d; given = λ d differs. quiet.given told d }) (shut_leaves c)
+    (λ told. shut_ties c s s' old new (ap is_open stage ∙ not_open (length old.waiting == 0)) (λ i. same_there old.stage opens) (ap (λ (l : List ℕ). s'.given c ++ l) waiting ∙ ap (λ (l : List ℕ). l ++ old.waiting) (quiet.given told c)))
+
+-- one that is not open stays as it is
+pub no_close_takes : (c : ℕ) (s : SocketsState) (links : List Link) (link : Link) → c < length links → link ≡ get_or links c link → is_open link.stage ≡ false → Takes (Shut c) s links s (slice_set links c link)
+no_close_takes c s links link few is ends =
+    takes_at c (Shut c) s s links link link few is (λ told. record { taken = λ d differs. refl; given = λ d differs. refl }) (shut_leaves c) (λ told. shut_ties c s s link link ends (λ i. i) refl)
+
+-- and so do all where there is none with the number
+pub none_takes : (c : ℕ) (s : SocketsState) (links : List Link) → length links ≤ c → Takes (Shut c) s links s links
+none_takes c s links past told log tied d link at =
+    let within : d < length links = slice_get_within links d link at in
+    let agrees : Agrees d log (log ++ Shut c ∷ []) = others_say c (Shut c) (shut_leaves c) log d (λ same. absurd (omega (arith, same))) in
+    record {
+      opens = agrees.opens ∙ (tied d link at).opens;
+      sends = λ h. ap (λ (f : Flow). f.sent) agrees.flow ∙ (tied d link at).sends h;
+      comes = λ h. ap (λ (f : Flow). f.came) agrees.flow ∙ (tied d link at).comes h;
+    }
+
+-- what is open is open by the log
+pub open_by_log : (c : ℕ) (s : SocketsState) (log : List LogEntry) (links : List Link) (o : Option Link) → slice_get links c ≡ o → IsSomeAnd o (λ link. is_open link.stage ≡ true) → AreTied s log links → IsOpen c log
+open_by_log c s log links None at h tied = absurd h
+open_by_log c s log links (Some link) at h tied = (tied c link at).opens ∙ h
+
+pub was_accepted : (b : Bool) (c : ℕ) (s s' : SocketsState) → b ≡ true → AcceptTells c (Ok b) s s' → Accepted c s s'
+was_accepted true c s s' is tells = tells
+was_accepted false c s s' is tells = absurd (cc)
+
+pub none_accepted : (b : Bool) (c : ℕ) (s s' : SocketsState) → b ≡ false → AcceptTells c (Ok b) s s' → MovedNothing s s'
+none_accepted true c s s' is tells = absurd (cc)
+none_accepted false c s s' is tells = tells
+
+-- a connection is accepted
+pub accept_takes : (c : ℕ) (s s' : SocketsState) (links : List Link) (old new : Link) → c < length links → old ≡ get_or links c old → (IsTrue s.told → Accepted c s s') → new.stage ≡ stage.Open → new.waiting ≡ [] → Takes (Heard (Opened c)) s links s' (slice_set links c new)
+accept_takes c s s' links old new few is accepted stage waits =
+    takes_at c (Heard (Opened c)) s s' links old new few is (λ told. (accepted told).others) (opened_leaves c) (λ told log tied. opened_ties c s' new stage waits (accepted told).none_given (accepted told).none_taken log)
+
+-- ---- one step behind another
+
+pub keeps_then : (s s' s'' : SocketsState) (l l' l'' : List Link) → s'.told ≡ s.told → Keeps s l s' l' → Keeps s' l' s'' l'' → Keeps s l s'' l''
+keeps_then s s' s'' l l' l'' same f h told log tied = h (subst IsTrue (sym same) told) log (f told log tied)
+
+pub event_then : (found : Option Event) (buf : List ℕ) (s s' s'' : SocketsState) (l l' l'' : List Link) → s'.told ≡ s.told → Keeps s l s' l' → TakesEvent found buf s' l' s'' l'' → TakesEvent found buf s l s'' l''
+event_then (Some event) buf s s' s'' l l' l'' same f h = λ told log tied. h (subst IsTrue (sym same) told) log (f told log tied)
+event_then None buf s s' s'' l l' l'' same f h = λ told log tied. h (subst IsTrue (sym same) told) log (f told log tied)
+
+pub send_then : (r : Result (Unit {0}) ℕ) (c : ℕ) (piece : List ℕ) (s s' s'' : SocketsState) (l l' l'' : List Link) → s'.told ≡ s.told → Keeps s l s' l' → TakesSend r c piece s' l' s'' l'' → TakesSend r c piece s l s'' l''
+send_then (Ok u) c piece s s' s'' l l' l'' same f h = λ told log tied. h (subst IsTrue (sym same) told) log (f told log tied)
+send_then (Err n) c piece s s' s'' l l' l'' same f h = λ told log tied. h (subst IsTrue (sym same) told) log (f told log tied)
+
+pub accept_then : (r : Result (Option ℕ) Failed) (s s' s'' : SocketsState) (l l' l'' : List Link) → s'.told ≡ s.told → Keeps s l s' l' → TakesAccept r s' l' s'' l'' → TakesAccept r s l s'' l''
+accept_then (Ok (Some c)) s s' s'' l l' l'' same f h = λ told log tied. h (subst IsTrue (sym same) told) log (f told log tied)
+accept_then (Ok None) s s' s'' l l' l'' same f h = λ told log tied. h (subst IsTrue (sym same) told) log (f told log tied)
+accept_then (Err e) s s' s'' l l' l'' same f h = λ told log tied. h (subst IsTrue (sym same) told) log (f told log tied)
+
+-- ---- the watch of a wire
+
+-- it is told of a step
+pub told_step : (e : LogEntry) (w w' : WatchState) (s s' : SocketsState) (l l' : List Link) → Notes e w w' → Takes e s l s' l' → (IsTrue w.told → IsTrue s.told) → (IsTrue w.told → AreTied s w.log l) → IsTrue w'.told → AreTied s' w'.log l'
+told_step e w w' s s' l l' notes takes tells tied on =
+    let told = subst IsTrue notes.told on in
+    subst (λ (log : List LogEntry). AreTied s' log l') (sym (notes.log told)) (takes (tells told) w.log (tied told))
+
+-- it has nothing to be told of
+pub quiet_step : (w w' : WatchState) (s s' : SocketsState) (l l' : List Link) → w'.told ≡ w.told → (IsTrue w.told → w'.log ≡ w.log) → Keeps s l s' l' → (IsTrue w.told → IsTrue s.told) → (IsTrue w.told → AreTied s w.log l) → IsTrue w'.told → AreTied s' w'.log l'
+quiet_step w w' s s' l l' same log keeps tells tied on =
+    let told = subst IsTrue same on in
+    subst (λ (log : List LogEntry). AreTied s' log l') (sym (log told)) (keeps (tells told) w.log (tied told))
+
+pub still_tells : (w w' : WatchState) (s s' : SocketsState) → w'.told ≡ w.told → s'.told ≡ s.told → (IsTrue w.told → IsTrue s.told) → IsTrue w'.told → IsTrue s'.told
+still_tells w w' s s' same same' tells on = subst IsTrue (sym same') (tells (subst IsTrue same on))
+
+-- no connection is there
+pub free_ties : (s : SocketsState) (links : List Link) → All (λ link. link.stage ≡ stage.Free) links → AreTied s [] links
+free_ties s links free c link at =
+    let is : link.stage ≡ stage.Free = ap (λ (l : Link). l.stage) (sym (get_or_from_slice_get links c link link at)) ∙ free c link (slice_get_within links c link at) in
+    record {
+      opens = sym (ap is_open is);
+      sends = λ h. absurd (let no : false ≡ true = ap is_there (sym is) ∙ h in cc);
+      comes = λ h. absurd (let no : false ≡ true = ap is_open (sym is) ∙ h in cc);
+    }
+
+-- a watch that was told of nothing
+pub begun : (w : WatchState) (s : SocketsState) (links : List Link) → (IsTrue w.told → w.log ≡ []) → AreTied s [] links → IsTrue w.told → AreTied s w.log links
+begun w s links fresh tied told = subst (λ (log : List LogEntry). AreTied s log links) (sym (fresh told)) tied

@@ -1,0 +1,23 @@
+use Rattle.std.proofs.Common.{◌≡◌, ◌<◌, ◌≤◌, length, get_or, true, false, rules}
+use Rattle.cube_edge.specs.Flows.{is_open}
+use Rattle.cube_edge.proofs.Tying.{close_takes, no_close_takes, none_takes}
+use Rattle.cube_edge.proofs.hub.Hub.close.Goals as goal
+
+pub returns-then-is_open-clause-takes : goal.returns-then-is_open-clause-takes
+returns-then-is_open-clause-takes g c =
+    let few : c.args.c < length c.args.self.now.links.items = search rules in
+    let is : c.in-Some.link.now ≡ get_or c.args.self.now.links.items c.args.c c.in-Some.link.now = search rules in
+    let opens : is_open c.in-Some.link.now.stage ≡ true = search rules in
+    close_takes c.args.c (g.S.Sockets.state c.args.self.now.sockets) (g.S.Sockets.state c.close.new.sockets) c.args.self.now.links.items c.in-Some.link.now c.close.new.self few is c.close.ensures.quiet opens c.close.ensures.stage c.close.ensures.waiting
+
+pub returns-else-is_open-clause-takes : goal.returns-else-is_open-clause-takes
+returns-else-is_open-clause-takes g c =
+    let few : c.args.c < length c.args.self.now.links.items = search rules in
+    let is : c.in-Some.link.now ≡ get_or c.args.self.now.links.items c.args.c c.in-Some.link.now = search rules in
+    let ends : is_open c.in-Some.link.now.stage ≡ false = search rules in
+    no_close_takes c.args.c (g.S.Sockets.state c.args.self.now.sockets) c.args.self.now.links.items c.in-Some.link.now few is ends
+
+pub returns-in_default-clause-takes : goal.returns-in_default-clause-takes
+returns-in_default-clause-takes g c =
+    let past : length c.args.self.now.links.items ≤ c.args.c = search rules in
+    none_takes c.args.c (g.S.Sockets.state c.args.self.now.sockets) c.args.self.now.links.items past

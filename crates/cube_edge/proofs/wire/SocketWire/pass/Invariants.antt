@@ -1,9 +1,0 @@
-use Rattle.std.proofs.Common.{◌≡◌, length}
-use Rattle.cube_edge.proofs.wire.SocketWire.pass.Given as goal
-
-abbrev pub invariant-links : goal.invariant-links
-invariant-links g l = record {
-  size : length l.buf ≡ length l.initial.buf;
-  faults : (g.S.Sockets.state l.self.sockets).faults ≡ (g.S.Sockets.state l.initial.self.sockets).faults;
-  sends : l.self.send_faults ≡ l.initial.self.send_faults;
-}

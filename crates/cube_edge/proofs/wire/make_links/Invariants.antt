@@ -1,5 +1,0 @@
-use Rattle.std.proofs.Common.{◌≡◌, ◌≤◌, vec_len, vec_capacity}
-use Rattle.cube_edge.proofs.wire.make_links.Given as goal
-
-abbrev pub invariant-loop-place : goal.invariant-loop-place
-invariant-loop-place l = record { full : vec_len l.links ≡ l._place; room : 128 ≤ vec_capacity l.links }

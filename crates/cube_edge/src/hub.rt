@@ -1,0 +1,242 @@
+// The connections over sockets, side by side.
+ghost use Rattle.std.specs.Prelude.{◌≡◌, ◌<◌, ◌≤◌, [], length, vec_len, slice_get, true, false, All, IsTrue, IfOk, IfErr, IfSome, IsSomeAnd};
+ghost use Rattle.cube_io.specs.Causes.{HasCause};
+ghost use Rattle.cube_io.specs.Wires.{FitsBuffer};
+ghost use Rattle.cube_io.specs.Wires.LogEntry.{Shut};
+ghost use Rattle.cube_edge.specs.Flows.{Keeps, Takes, is_open, is_there, TakesAccept, TakesEvent, TakesNext, TakesSend, AreTied};
+ghost use Rattle.cube_edge.specs.declared.link.Stage.TheVariants as stage;
+
+use crate::link::{Link, Look, Stage};
+use crate::sockets::Sockets;
+use cube_io::{Event, Failed};
+use cube_model::{NoMemory, Text};
+use std::alloc::Global;
+
+/// Room for connections: 64 that are open, and as many that are told that there are too many or that are being closed.
+pub(crate) const MAX_LINKS: usize = 128;
+
+/// The connections over sockets, each by its number. What a call does to each of them is said of every log that is true of them
+/// before: it is true of them behind the call too, with what the call tells at its end.
+#[derive(Drop)]
+pub struct Hub<S: Sockets + Drop> {
+    alloc: Global,
+    pub sockets: S,
+    pub links: Vec<Link>,
+    turn: usize,
+    sent: usize,
+    pub now: u64,
+    pub idle: u64,
+    ghost room: { vec_len links ≡ 128 },
+}
+
+// Room for connections.
+fn make_links(alloc: Global) -> Result<Vec<Link>, NoMemory>
+    ensures room { IfOk result (λ links. vec_len links ≡ 128) }
+    ensures free { IfOk result (λ links. All (λ link. link.stage ≡ stage.Free) links.items) }
+{
+    let mut links = Vec::with_capacity(alloc, MAX_LINKS)?;
+    for _place in 0..MAX_LINKS {
+        links.push_reserved(Link::new(alloc, Stage::Free));
+    }
+    Ok(links)
+}
+
+// The first number that no connection has.
+fn free_number(links: &[Link]) -> Option<usize>
+    ensures within { IfSome result (λ place. place < length links.now) }
+    ensures free { IfSome result (λ place. IsSomeAnd (slice_get links.now place) (λ link. is_there link.stage ≡ false)) }
+{
+    links.iter().position(|link| link.stage == Stage::Free)
+}
+
+impl<S: Sockets + Drop> Hub<S> {
+    /// No connection.
+    pub fn new(alloc: Global, sockets: S) -> Result<Self, NoMemory>
+        ensures sockets { IfOk result (λ hub. S.state hub.sockets ≡ S.state sockets) }
+        ensures tied { IfOk result (λ hub. AreTied (S.state hub.sockets) [] hub.links.items) }
+    {
+        Ok(Hub {
+            alloc,
+            sockets,
+            links: make_links(alloc)?,
+            turn: 0,
+            sent: MAX_LINKS,
+            now: 0,
+            idle: 0,
+        })
+    }
+
+    /// Whether there is no connection.
+    pub fn is_settled(&self) -> bool {
+        self.links.iter().all(|link| link.stage == Stage::Free)
+    }
+
+    /// Waits for something to do, for at most so many milliseconds.
+    pub fn wait(&mut self, millis: u64) -> Result<(), Failed>
+        ensures cause { HasCause (S.state self.old.sockets).faults (S.state self.new.sockets).faults result }
+        ensures told { (S.state self.new.sockets).told ≡ (S.state self.old.sockets).told }
+        ensures keeps { Keeps (S.state self.old.sockets) self.old.links.items (S.state self.new.sockets) self.new.links.items }
+    {
+        self.now = self.sockets.wait(millis)?;
+        Ok(())
+    }
+
+    /// Listens on an address. A connection that is still for so many seconds is closed; none where they are 0.
+    pub fn listen(&mut self, address: &Text, idle: u32) -> Result<(), Failed>
+        ensures cause { HasCause (S.state self.old.sockets).faults (S.state self.new.sockets).faults result }
+        ensures told { (S.state self.new.sockets).told ≡ (S.state self.old.sockets).told }
+        ensures keeps { Keeps (S.state self.old.sockets) self.old.links.items (S.state self.new.sockets) self.new.links.items }
+    {
+        self.idle = u64::from(idle) * 1_000;
+        self.sockets.listen(address)
+    }
+
+    // Writes of what waits on the connection of the last send as much as it takes.
+    fn flush(&mut self)
+        ensures faults { (S.state self.new.sockets).faults ≡ (S.state self.old.sockets).faults }
+        ensures told { (S.state self.new.sockets).told ≡ (S.state self.old.sockets).told }
+        ensures keeps { Keeps (S.state self.old.sockets) self.old.links.items (S.state self.new.sockets) self.new.links.items }
+    {
+        let place = self.sent;
+        self.sent = MAX_LINKS;
+        let Some(link) = self.links.get_mut(place) else {
+            return;
+        };
+        let _ = link.push(&mut self.sockets, place as u32);
+    }
+
+    // Makes a connection that of the last send.
+    fn begin(&mut self, c: u32)
+        ensures faults { (S.state self.new.sockets).faults ≡ (S.state self.old.sockets).faults }
+        ensures told { (S.state self.new.sockets).told ≡ (S.state self.old.sockets).told }
+        ensures keeps { Keeps (S.state self.old.sockets) self.old.links.items (S.state self.new.sockets) self.new.links.items }
+    {
+        let place = c as usize;
+        if self.sent == place {
+            return;
+        }
+        self.flush();
+        self.sent = place;
+    }
+
+    /// Sends a piece on a connection, or says how many bytes of it went out. What is sent on one connection between two looks
+    /// for an event is written together.
+    pub fn send(&mut self, c: u32, piece: &[u8]) -> Result<(), usize>
+        ensures fits { IfErr result (λ count. count ≤ length piece.now) }
+        ensures faults { (S.state self.new.sockets).faults ≡ (S.state self.old.sockets).faults }
+        ensures told { (S.state self.new.sockets).told ≡ (S.state self.old.sockets).told }
+        ensures takes { TakesSend result c piece.now (S.state self.old.sockets) self.old.links.items (S.state self.new.sockets) self.new.links.items }
+    {
+        self.begin(c);
+        let Some(link) = self.links.get_mut(c as usize) else {
+            return Err(0);
+        };
+        if !link.is_open() {
+            return Err(0);
+        }
+        link.send(&mut self.sockets, c, piece)
+    }
+
+    /// Whether a connection is open.
+    pub fn is_open(&self, place: usize) -> bool
+        requires { place < 128 }
+        ensures { IsTrue result → IsSomeAnd (slice_get self.entry.now.links.items place) (λ link. is_open link.stage ≡ true) }
+    {
+        self.links[place].is_open()
+    }
+
+    /// Closes a connection behind what waits, where it is open.
+    pub fn close(&mut self, c: u32)
+        ensures faults { (S.state self.new.sockets).faults ≡ (S.state self.old.sockets).faults }
+        ensures told { (S.state self.new.sockets).told ≡ (S.state self.old.sockets).told }
+        ensures takes { Takes (Shut c) (S.state self.old.sockets) self.old.links.items (S.state self.new.sockets) self.new.links.items }
+    {
+        if let Some(link) = self.links.get_mut(c as usize) {
+            if link.is_open() {
+                link.close(&mut self.sockets, c);
+            }
+        }
+    }
+
+    // Looks at a connection.
+    fn visit(&mut self, place: usize, buf: &mut [u8]) -> Option<Event>
+        requires place { place < 128 }
+        requires buf { 0 < length buf.old }
+        ensures size { length buf.new ≡ length buf.old }
+        ensures fits { IfSome result (λ event. FitsBuffer event buf.new) }
+        ensures faults { (S.state self.new.sockets).faults ≡ (S.state self.old.sockets).faults }
+        ensures told { (S.state self.new.sockets).told ≡ (S.state self.old.sockets).told }
+        ensures takes { TakesEvent result buf.new (S.state self.old.sockets) self.old.links.items (S.state self.new.sockets) self.new.links.items }
+    {
+        let c = place as u32;
+        let link = &mut self.links[place];
+        let was_open = link.is_open();
+        let look = link.turn(self.alloc, &mut self.sockets, c, buf, self.now, self.idle);
+        match look {
+            Look::Piece(count) => Some(Event::Piece(c, count)),
+            Look::Gone if was_open => Some(Event::Closed(c)),
+            Look::Gone => None,
+            Look::Quiet => None,
+        }
+    }
+
+    /// Looks at the connections whose turn it is, up to one of which there is something to say.
+    pub fn pass(&mut self, buf: &mut [u8]) -> Option<Event>
+        requires { 0 < length buf.old }
+        ensures size { length buf.new ≡ length buf.old }
+        ensures fits { IfSome result (λ event. FitsBuffer event buf.new) }
+        ensures faults { (S.state self.new.sockets).faults ≡ (S.state self.old.sockets).faults }
+        ensures told { (S.state self.new.sockets).told ≡ (S.state self.old.sockets).told }
+        ensures takes { TakesEvent result buf.new (S.state self.old.sockets) self.old.links.items (S.state self.new.sockets) self.new.links.items }
+    {
+        'links: for place in self.turn..MAX_LINKS {
+            self.turn = place + 1;
+            if let Some(event) = self.visit(place, buf) {
+                return Some(event);
+            }
+        }
+        self.turn = 0;
+        None
+    }
+
+    // Accepts a connection, where one is there and there is a number for it.
+    fn admit(&mut self) -> Result<Option<u32>, Failed>
+        ensures free { IfOk result (λ found. IfSome found (λ c. IsSomeAnd (slice_get self.old.links.items c) (λ link. is_there link.stage ≡ false))) }
+        ensures cause { HasCause (S.state self.old.sockets).faults (S.state self.new.sockets).faults result }
+        ensures told { (S.state self.new.sockets).told ≡ (S.state self.old.sockets).told }
+        ensures takes { TakesAccept result (S.state self.old.sockets) self.old.links.items (S.state self.new.sockets) self.new.links.items }
+    {
+        let Some(place) = free_number(&self.links) else {
+            return Ok(None);
+        };
+        let c = place as u32;
+        match self.sockets.accept(c) {
+            Ok(true) => {
+                self.links[place] = Link::new(self.alloc, Stage::Open);
+                Ok(Some(c))
+            }
+            Ok(false) => Ok(None),
+            Err(failed) => Err(failed),
+        }
+    }
+
+    /// The next event, where there is one now.
+    pub fn find(&mut self, buf: &mut [u8]) -> Result<Option<Event>, Failed>
+        requires { 0 < length buf.old }
+        ensures size { length buf.new ≡ length buf.old }
+        ensures fits { IfOk result (λ found. IfSome found (λ event. FitsBuffer event buf.new)) }
+        ensures cause { HasCause (S.state self.old.sockets).faults (S.state self.new.sockets).faults result }
+        ensures told { (S.state self.new.sockets).told ≡ (S.state self.old.sockets).told }
+        ensures takes { TakesNext result buf.new (S.state self.old.sockets) self.old.links.items (S.state self.new.sockets) self.new.links.items }
+    {
+        self.flush();
+        if let Some(event) = self.pass(buf) {
+            return Ok(Some(event));
+        }
+        match self.admit() {
+            Ok(Some(c)) => Ok(Some(Event::Opened(c))),
+            Ok(None) => Ok(None),
+            Err(failed) => Err(failed),
+        }
+    }
+}

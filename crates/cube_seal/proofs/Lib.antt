@@ -1,0 +1,2 @@
+pub mod SealBytes
+pub mod SealStates

@@ -1,0 +1,68 @@
+-- The logs of a store while its seal is held.
+use Rattle.std.proofs.Common.{◌≡◌, ◌≢◌, ◌∙◌, ◌≤◌, ◌+◌, ℕ, List, IsTrue, ◌⊎◌, inl, inr, refl, sym, subst, arith}
+use Rattle.std.specs.Prelude.{Err}
+use Rattle.cube_model.specs.declared.policy.Policy.{Policy}
+use Rattle.cube_model.specs.Cores.{Core}
+use Rattle.cube_io.specs.Causes.{Rose}
+use Rattle.cube_io.specs.Seen.{StoreState, seen}
+use Rattle.cube_io.specs.States.{Log, Gained}
+use Rattle.cube_io.specs.Told.{OthersStay, Works}
+use Rattle.cube_io.specs.declared.store.TheConstants.{SEAL_LOG}
+use Rattle.cube_io.proofs.Trails.{gained_none}
+use Rattle.cube_journal.specs.Keeping.{IsInRecovery}
+use Rattle.cube_engine.specs.Kept.{history_of}
+use Rattle.cube_seal.specs.Seals.{SealCause, IsSealFault, IsSealable}
+use Rattle.cube_seal.specs.declared.fault.SealFault.{SealFault}
+use Rattle.cube_seal.specs.declared.fault.SealFault.TheVariants.{Failed, NoMemory, Damaged, OtherFacts}
+use Rattle.cube_opening.specs.Reports.{IsReport, NoRoom}
+use Rattle.cube_opening.specs.declared.report.Report.{Report}
+use Rattle.cube_serving.specs.Starting.{seal_text, seal_status, Unstarted, OnlyJournal, Opens, Recovers, Seals}
+
+-- the seal's log is not the journal's
+pub seal_is_other : SEAL_LOG ≢ 0
+seal_is_other e = omega (arith, e)
+
+pub journal_is_other : 0 ≢ SEAL_LOG
+journal_is_other e = omega (arith, e)
+
+-- what is known of the journal stays while its seal is held
+pub recovers_on : {S : Type 0} (core : Core) (policy : Policy) (tells : S → StoreState) (old mid new : S) → (tells mid).told ≡ (tells old).told → OthersStay SEAL_LOG (tells mid) (tells new) → Recovers core policy (seen tells old mid) → Recovers core policy (seen tells old new)
+recovers_on core policy tells old mid new same others recovers = λ told. subst (λ (l : Log). Gained (IsInRecovery (history_of core policy) ((tells old).logs 0).state) ((tells old).logs 0) l) (sym (others (subst IsTrue (sym same) told) 0 journal_is_other)) (recovers told)
+
+-- what is known of the seal at entry holds where it begins to be held
+pub seals_from : {S : Type 0} (facts : List ℕ) (tells : S → StoreState) (old mid new : S) → (tells mid).told ≡ (tells old).told → OthersStay 0 (tells old) (tells mid)
+    → (IsTrue (tells mid).told → IsSealable facts ((tells mid).logs SEAL_LOG).state → Gained (IsSealable facts) ((tells mid).logs SEAL_LOG) ((tells new).logs SEAL_LOG)) → Seals facts (seen tells old new)
+seals_from facts tells old mid new same others crash = λ told able.
+    let is = others told SEAL_LOG seal_is_other in
+    subst (λ (l : Log). Gained (IsSealable facts) l ((tells new).logs SEAL_LOG)) is (crash (subst IsTrue (sym same) told) (subst (λ (l : Log). IsSealable facts l.state) (sym is) able))
+
+-- where it is not reached
+pub seals_unreached : {S : Type 0} (facts : List ℕ) (tells : S → StoreState) (old new : S) → OthersStay 0 (tells old) (tells new) → Seals facts (seen tells old new)
+seals_unreached facts tells old new others = λ told able. subst (λ (l : Log). Gained (IsSealable facts) ((tells old).logs SEAL_LOG) l) (sym (others told SEAL_LOG seal_is_other)) (gained_none (IsSealable facts) ((tells old).logs SEAL_LOG) ((tells old).logs SEAL_LOG) refl)
+
+-- no log changed but these two
+pub only_journal : (old mid new : StoreState) → mid.told ≡ old.told → OthersStay 0 old mid → OthersStay SEAL_LOG mid new → OnlyJournal old new
+only_journal old mid new same first second = λ told k zero seal. second (subst IsTrue (sym same) told) k seal ∙ first told k zero
+
+pub opens : {S : Type 0} (tells : S → StoreState) (old mid new : S) → (tells mid).told ≡ (tells old).told → OthersStay 0 (tells old) (tells mid) → (IsTrue (tells old).told → (tells mid).calls ≤ (tells old).calls + 7)
+    → OthersStay SEAL_LOG (tells mid) (tells new) → Works (tells mid) (tells new) 4 → Opens (seen tells old new)
+opens tells old mid new same first few second works = record {
+  told = works.told ∙ same;
+  others = only_journal (tells old) (tells mid) (tells new) same first second;
+  calls = λ told. (let a = few told in let b = works.calls (subst IsTrue (sym same) told) in omega (arith, a, b));
+}
+
+-- the report on a seal that is not held says why
+pub unsealed : {S : Type 0} (core : Core) (policy : Policy) (facts : List ℕ) (tells : S → StoreState) (old mid new : S) (fault : SealFault) (r : Report) → (tells mid).told ≡ (tells old).told → OthersStay 0 (tells old) (tells mid) → (tells mid).faults ≡ (tells old).faults
+    → SealCause {T = Unit {0}} (tells mid).faults (tells new).faults (Err fault) → (IsTrue (tells mid).told → IsSealFault facts ((tells mid).logs SEAL_LOG).state.now fault) → IsReport (seal_status fault) (seal_text facts fault) r ⊎ ((seal_status fault ≡ 4) × NoRoom r)
+    → Unstarted core policy facts (seen tells old new) r
+unsealed core policy facts tells old mid new Failed r same others steady cause is (inl e) = inr (inr (inl (e, subst (λ (n : ℕ). Rose n (tells new).faults) steady cause.1)))
+unsealed core policy facts tells old mid new NoMemory r same others steady cause is (inl e) = inr (inl (e, cause ∙ steady))
+unsealed core policy facts tells old mid new Damaged r same others steady cause is (inl e) =
+    inr (inr (inr (inr (Damaged, (refl, e, λ told. subst (λ (l : Log). IsSealFault facts l.state.now Damaged) (others told SEAL_LOG seal_is_other) (is (subst IsTrue (sym same) told))), cause ∙ steady))))
+unsealed core policy facts tells old mid new (OtherFacts kept) r same others steady cause is (inl e) =
+    inr (inr (inr (inr (OtherFacts kept, (refl, e, λ told. subst (λ (l : Log). IsSealFault facts l.state.now (OtherFacts kept)) (others told SEAL_LOG seal_is_other) (is (subst IsTrue (sym same) told))), cause ∙ steady))))
+unsealed core policy facts tells old mid new Failed r same others steady cause is (inr e) = absurd (omega (arith, e.0))
+unsealed core policy facts tells old mid new NoMemory r same others steady cause is (inr e) = absurd (omega (arith, e.0))
+unsealed core policy facts tells old mid new Damaged r same others steady cause is (inr e) = inl (e.1, cause ∙ steady)
+unsealed core policy facts tells old mid new (OtherFacts kept) r same others steady cause is (inr e) = inl (e.1, cause ∙ steady)

@@ -1,0 +1,28 @@
+use Rattle.std.proofs.Common.{IsTrue, sym, subst}
+use Rattle.cube_io.specs.States.{Log}
+use Rattle.cube_engine.specs.Kept.{IsExact}
+use Rattle.cube_serving.proofs.Sealing.{journal_is_other, seals_from, unsealed}
+use Rattle.cube_serving.proofs.starting.open_engine.Goals as goal
+
+pub returns-in-Err-clause-err : goal.returns-in-Err-clause-err
+returns-in-Err-clause-err g c = c.in-Err.ensures.err c.args.guarded.facts
+
+pub returns-in-Ok-hold_seal-clause-exact : goal.returns-in-Ok-hold_seal-clause-exact
+returns-in-Ok-hold_seal-clause-exact g c = λ told.
+    let x = c.in-Ok.ensures in
+    subst (λ (l : Log). IsExact c.args.guarded.core c.args.guarded.policy c.in-Ok.opened.value.history l.state) (sym (c.in-Ok-hold_seal.ensures.others (subst IsTrue (sym x.told) told) 0 journal_is_other)) (x.exact told)
+
+pub returns-in-Ok-hold_seal-clause-sealed : goal.returns-in-Ok-hold_seal-clause-sealed
+returns-in-Ok-hold_seal-clause-sealed g c = λ told. c.in-Ok-hold_seal.ensures.sealed (subst IsTrue (sym c.in-Ok.ensures.told) told)
+
+pub returns-in-Err-hold_seal-clause-seals : goal.returns-in-Err-hold_seal-clause-seals
+returns-in-Err-hold_seal-clause-seals g c =
+    let x = c.in-Ok.ensures in
+    seals_from c.args.guarded.facts g.S.Store.state c.args.store.now c.start_engine.new.store c.hold_seal.new.store x.told x.others c.in-Err-hold_seal.ensures.crash
+
+pub returns-in-Err-hold_seal-clause-err : goal.returns-in-Err-hold_seal-clause-err
+returns-in-Err-hold_seal-clause-err g c =
+    let x = c.in-Ok.ensures in
+    let y = c.in-Err-hold_seal.ensures in
+    unsealed c.args.guarded.core c.args.guarded.policy c.args.guarded.facts g.S.Store.state c.args.store.now c.start_engine.new.store c.hold_seal.new.store c.in-Err-hold_seal.fault c.refuse_seal.result
+    x.told x.others x.steady y.cause y.fault c.refuse_seal.ensures

@@ -1,0 +1,16 @@
+use Rattle.std.proofs.Common.{subst}
+use Rattle.cube_words.specs.declared.words.Command.{Command}
+use Rattle.cube_words.specs.Words.{IsRight}
+use Rattle.cube_words.proofs.ordered.orders_with.Goals as goal
+
+pub witness_with-requires : goal.witness_with-requires
+witness_with-requires c = subst (λ (x : Command). IsRight x c.args.words.now) c.in-Witness.is c.requires
+
+pub twin_with-requires : goal.twin_with-requires
+twin_with-requires c = subst (λ (x : Command). IsRight x c.args.words.now) c.in-Twin.is c.requires
+
+pub serve_with-requires : goal.serve_with-requires
+serve_with-requires c = subst (λ (x : Command). IsRight x c.args.words.now) c.in-Serve.is c.requires
+
+pub replay_with-requires : goal.replay_with-requires
+replay_with-requires c = subst (λ (x : Command). IsRight x c.args.words.now) c.in-Replay.is c.requires

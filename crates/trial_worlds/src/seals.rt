@@ -1,0 +1,79 @@
+// Seals of fact files over a store in memory.
+ghost use Rattle.std.specs.Prelude.{IsTrue, IfOk};
+
+use cube_io::{Failing, MemStore, Reach, SEAL_LOG, Store};
+use cube_journal::digest_of;
+use cube_model::Text;
+use cube_seal::{SealFault, hold_seal};
+use std::alloc::Global;
+use std::test::Fail;
+
+/// The seal of the fact file `abc`, whose digest is an example of the standard of SHA-256.
+const SEALED: &[u8] = b"facts ba7816bf8f01cfea414140de5dae2223b00361a396177a9cb410ff61f20015ad\n";
+
+/// The seal of an empty fact file.
+const OTHER: &[u8] = b"facts e3b0c44298fc1c149afbf4c8996fb92427ae41e4649b934ca495991b7852b855\n";
+
+/// A store whose log of the seal has these bytes.
+fn store_of(alloc: Global, bytes: &[u8], failing: Vec<Failing>) -> Result<MemStore, Fail>
+    ensures { IfOk result (λ store. IsTrue (⟦<MemStore as Store>⟧.state store).attached) }
+{
+    let mut store = MemStore::with_room(alloc, Vec::new(alloc), failing, 16, 512)?;
+    match store.attach(&Text::from_bytes(alloc, b"log")?) {
+        Ok(()) => {}
+        Err(_) => return Err(Fail::from("no store")),
+    }
+    match store.append(SEAL_LOG, bytes) {
+        Ok(()) => Ok(store),
+        Err(_) => Err(Fail::from("no bytes")),
+    }
+}
+
+#[test]
+fn seals_are_written_and_compared(rt: HostRuntime) -> Result<(), Fail> {
+    let alloc = rt.alloc();
+    let other = SealFault::OtherFacts {
+        kept: digest_of(b""),
+    };
+    let long = [b'f'; 72];
+    // What the log has before, how the facts are held, and what it has then.
+    let cases: [(&[u8], Result<(), SealFault>, &[u8]); 6] = [
+        (b"", Ok(()), SEALED),
+        (SEALED, Ok(()), SEALED),
+        (b"facts ba7816bf", Ok(()), SEALED),
+        (OTHER, Err(other), OTHER),
+        (
+            b"facts ba7816bf\n",
+            Err(SealFault::Damaged),
+            b"facts ba7816bf\n",
+        ),
+        (&long, Err(SealFault::Damaged), &long),
+    ];
+    for (before, held, after) in &cases {
+        let mut store = store_of(alloc, before, Vec::new(alloc))?;
+        assert_eq!(rt; hold_seal(alloc, &mut store, &digest_of(b"abc")), *held);
+        let bytes = store.read_all(alloc, SEAL_LOG)?;
+        assert_eq!(rt; bytes.as_slice(), *after);
+    }
+    Ok(())
+}
+
+#[test]
+fn a_call_that_fails_is_made_up_for(rt: HostRuntime) -> Result<(), Fail> {
+    let alloc = rt.alloc();
+    let facts = digest_of(b"abc");
+    // The store takes two calls before, and the seal four: a read, a cut, an append and a sync.
+    for call in 2..6 {
+        let reach = Reach::Part(7);
+        let failing = vec![in alloc; Failing { call, reach }]?;
+        let mut store = store_of(alloc, b"facts ba", failing)?;
+        assert_eq!(rt;
+            hold_seal(alloc, &mut store, &facts),
+            Err(SealFault::Failed)
+        );
+        assert_eq!(rt; hold_seal(alloc, &mut store, &facts), Ok(()));
+        let bytes = store.read_all(alloc, SEAL_LOG)?;
+        assert_eq!(rt; bytes.as_slice(), SEALED);
+    }
+    Ok(())
+}

@@ -1,0 +1,66 @@
+// The wire over sockets in memory, whose log has what they tell.
+ghost use Rattle.std.specs.Prelude.{◌≡◌, [], length, IfOk};
+
+use crate::mem_sockets::MemSockets;
+use cube_edge::{MemWatch, SocketWire};
+use cube_io::{Event, Note, Wire};
+use cube_model::Text;
+use std::alloc::Global;
+use std::test::Fail;
+
+type TrialWire = SocketWire<MemSockets, MemWatch>;
+
+// A wire whose client sends two bytes, and to which no more than three bytes are written at once.
+fn make_wire(alloc: Global) -> Result<TrialWire, Fail>
+    ensures { IfOk result (λ wire. (⟦<TrialWire as Wire>⟧.state wire).log ≡ []) }
+{
+    let coming = Text::from_bytes(alloc, b"hi")?;
+    let sockets = MemSockets::new(alloc, coming, 3);
+    let watch = MemWatch::with_room(alloc, 16, 131_072)?;
+    Ok(SocketWire::new(alloc, sockets, watch)?)
+}
+
+// Answers a client as soon as it is there and a byte of it came, and closes it.
+fn answer(wire: &mut TrialWire, buf: &mut [u8]) -> Result<(), Fail>
+    requires log { (⟦<TrialWire as Wire>⟧.state wire.old).log ≡ [] }
+    requires buf { length buf.old ≡ 65536 }
+{
+    let Ok(Event::Opened(c)) = wire.next(buf) else {
+        return Err("no client".into());
+    };
+    let Ok(Event::Piece(_, _)) = wire.next(buf) else {
+        return Err("no byte".into());
+    };
+    let Ok(()) = wire.send(c, b"hello") else {
+        return Err("not sent".into());
+    };
+    wire.close(c);
+    Ok(())
+}
+
+#[test]
+fn a_log_has_what_the_sockets_tell(rt: HostRuntime) -> Result<(), Fail> {
+    let mut wire = make_wire(rt.alloc())?;
+    let mut buf = [0u8; 65_536];
+    answer(&mut wire, &mut buf)?;
+    // What was sent waits for the next look for an event.
+    assert_eq!(rt; wire.sockets().given(), b"".as_slice());
+    wire.settle();
+    assert_eq!(rt; wire.sockets().given(), b"hello".as_slice());
+    let scroll = wire.watch().scroll();
+    let log: &[(Note, &[u8]); 4] = &[
+        (Note::Opened(0), b""),
+        (Note::Came(0), b"h"),
+        (Note::Sent(0), b"hello"),
+        (Note::Shut(0), b""),
+    ];
+    assert_eq!(rt; scroll.len(), 4);
+    for (place, entry) in log.iter().enumerate() {
+        if place < scroll.len() {
+            let (note, bytes) = scroll.entry(place);
+            assert_eq!(rt; note, entry.0);
+            assert_eq!(rt; bytes, entry.1);
+        }
+    }
+    Ok(())
+}
