@@ -2,6 +2,7 @@
 or adds up the facts."""
 
 import collections
+import hashlib
 import os
 
 import asks
@@ -246,7 +247,25 @@ def near_the_bound(cube, measure):
     return any(abs(sums[at]) >= count * cubes.BOUND for count, sums in cube.points().values())
 
 
-# ---- of the journal
+# ---- of the journal and its seal
+
+def other_facts_are_refused(play):
+    """A fact file of which a byte is another, and which may well have the same facts."""
+    facts, journal, seal = (play.read(name) for name in ("facts.csv", "journal", "journal.seal"))
+    demand(seal == b"facts " + hashlib.sha256(facts).hexdigest().encode() + b"\n", f"the seal {seal}")
+    play.write("others.csv", facts + b"\n")
+    result = run(play.words("ask", "journal", facts="others.csv"), play.given)
+    demand(result.status == 4 and not result.out, f"status {result.status} over other facts, and {result.out}")
+    demand((play.read("journal"), play.read("journal.seal")) == (journal, seal), "other facts changed the journal or its seal")
+
+
+def a_cut_seal_is_written_anew(play):
+    whole = play.read("journal.seal")
+    play.write("resealed", play.read("journal"))
+    play.write("resealed.seal", whole[:play.rng.randrange(len(whole))])
+    demand(play.ask("resealed", b"") == b"", "a reply to no line")
+    demand(play.read("resealed.seal") == whole, "a cut seal was written anew as another one")
+
 
 def kept_of(log, header):
     """What stands behind an opening of a log that is not refused."""
@@ -356,7 +375,7 @@ def a_server_sends_what_a_script_gets(play):
     if play.rng.random() < 0.3:
         stream = asks.mutated(play.rng, stream)
     wanted = streams.read_log(replayed(play, streams.script_of(play.rng, stream), "heard")).get(0, b"")
-    with served(play.words("serve", "served", "--address", "127.0.0.1:0")) as address:
+    with served([*play.files(), "--journal", play.path("served")]) as address:
         got, whole = streams.exchange(address, streams.pieces(play.rng, stream))
     demand(got == wanted if whole else wanted.startswith(got), f"{got} over a socket, {wanted} to a script: {stream}")
     demand(play.read("served") == play.read("heard"), f"another journal over a socket: {stream}")
@@ -406,6 +425,8 @@ CHECKS = [
     a_restart_answers_what_was_answered,
     a_cut_journal_recovers_its_front,
     a_damaged_journal_is_refused_or_read,
+    other_facts_are_refused,
+    a_cut_seal_is_written_anew,
     http_says_what_ask_says,
     cuts_of_a_stream_change_nothing,
     a_server_sends_what_a_script_gets,

@@ -4,20 +4,25 @@ import contextlib
 import os
 import re
 import subprocess
+import sys
 import threading
 from dataclasses import dataclass
 
-HERE = os.path.dirname(os.path.abspath(__file__))
-CUBE = os.environ.get("CUBE", os.path.join(HERE, "..", "..", "cube"))
+sys.path.insert(0, os.path.join(os.path.dirname(os.path.abspath(__file__)), ".."))
+
+from servers import CUBE, address_of, start  # noqa: E402
+
 SECONDS = 60
 
-# the text on standard error behind each exit status
+# the notes on a journal that is opened, and the text on standard error behind each exit status
+NOTES = rb"(.+: (new|entries \d+)\n)*"
 ENDINGS = {
     0: rb"",
     2: rb"usage: .*\n",
     3: rb"(dims|facts|policy|cell): .+\n|script: line \d+\n|made: unread\n",
-    4: rb"journal: (line \d+ (damaged|inadmissible)|digest [0-9a-f]{64} is not [0-9a-f]{64}|too long)\n",
-    5: rb"cannot read .+\n|input failed\n",
+    4: rb"journal: (line \d+ (damaged|inadmissible)|too long|seal damaged)\n"
+    rb"|journal: (digest [0-9a-f]{64} is not|facts [0-9a-f]{64} are not) [0-9a-f]{64}\nthe journal was begun .+\n",
+    5: rb"(.+: .+\n)?cannot read .+\n|input failed\n",
     9: rb"(.+: .+\n)*store failed\n",
     10: rb"spent: (room for sends, )?\d+ requests, \d+ (bytes|events)\n",
 }
@@ -53,11 +58,6 @@ class Result:
     err: bytes
 
 
-def build():
-    """Has the program built where it is not, in whatever time that takes."""
-    subprocess.run([CUBE, "--version"], stdin=subprocess.DEVNULL, stdout=subprocess.DEVNULL, check=True)
-
-
 def run(words, given=b""):
     """Runs the program to its end; a run that a signal ends, or that ends in no documented way, is a failure."""
     try:
@@ -67,8 +67,9 @@ def run(words, given=b""):
     status, text = done.returncode, done.stderr
     demand(status >= 0, f"ended by signal {-status}: {words}: {text}")
     demand(status in ENDINGS, f"ended with status {status}: {words}: {text}")
-    demand(re.fullmatch(ENDINGS[status], text, re.DOTALL), f"status {status} with the text {text}: {words}")
-    return Result(status, done.stdout, text)
+    found = re.fullmatch(NOTES + rb"(?P<text>" + ENDINGS[status] + rb")", text, re.DOTALL)
+    demand(found, f"status {status} with the text {text}: {words}")
+    return Result(status, done.stdout, found["text"])
 
 
 def expect(status, words, given=b""):
@@ -80,14 +81,11 @@ def expect(status, words, given=b""):
 @contextlib.contextmanager
 def served(words):
     """A server, for as long as it is asked; its address."""
-    with subprocess.Popen([CUBE, *words], stdin=subprocess.DEVNULL, stderr=subprocess.PIPE) as server:
+    with start(words) as server:
         bound = threading.Timer(SECONDS, server.kill)
         bound.start()
         try:
-            line = server.stderr.readline()
-            demand(line.startswith(b"listening on "), f"no server: {words}: {line}")
-            host, port = line.split(b" ")[2].split(b":")
-            yield host.decode(), int(port)
+            yield address_of(server)
             demand(server.poll() is None, f"the server ended: {words}: {server.returncode}")
         finally:
             bound.cancel()

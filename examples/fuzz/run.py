@@ -18,7 +18,8 @@ import time
 import traceback
 
 from checks import CHECKS, Play
-from program import Failure, build
+from program import Failure
+from servers import build
 
 
 def attempt(found, name, act):

@@ -19,23 +19,17 @@ import tempfile
 import threading
 import time
 
-HERE = os.path.dirname(os.path.abspath(__file__))
-PAY = os.path.join(HERE, "..", "pay")
-CUBE = os.environ.get("CUBE", os.path.join(HERE, "..", "..", "cube"))
+EXAMPLES = os.path.join(os.path.dirname(os.path.abspath(__file__)), "..")
+sys.path.insert(0, EXAMPLES)
+
+from servers import CUBE, Wrong, address_of, build, check, start  # noqa: E402
+
+PAY = os.path.join(EXAMPLES, "pay")
 FILES = ["--dims", f"{PAY}/dims.toml", "--facts", f"{PAY}/facts.csv", "--policy", f"{PAY}/policy.toml"]
 CLIENTS = 16
 JOURNALS = 20
 KILLS = 10
 PATIENCE = 60
-
-
-class Wrong(Exception):
-    """Something was lost, or told that should not be."""
-
-
-def check(holds, text):
-    if not holds:
-        raise Wrong(text)
 
 
 # ---- what is asked
@@ -100,12 +94,12 @@ def read_reply(client, rest):
     return (int(rest[9:12]), rest[end + 4:end + 4 + length].decode()), rest[end + 4 + length:]
 
 
-def talk(port, cube, told, faults, number):
+def talk(address, cube, told, faults, number):
     """Asks one request behind another until the server is gone."""
     chance = random.Random(number)
     query, rest = None, b""
     try:
-        with socket.create_connection(("127.0.0.1", port), PATIENCE) as client:
+        with socket.create_connection(address, PATIENCE) as client:
             client.setsockopt(socket.IPPROTO_TCP, socket.TCP_NODELAY, 1)
             while True:
                 query, expected = (cube.pay(chance), None) if chance.random() < 0.1 else cube.hours(chance)
@@ -125,14 +119,10 @@ def talk(port, cube, told, faults, number):
 
 def serve_and_kill(journal, cube, told, chance):
     """Serves, and is killed at a random moment of the first 50 milliseconds in which it is asked."""
-    words = [CUBE, "serve", *FILES, "--journal", journal, "--address", "127.0.0.1:0"]
     faults = []
-    with subprocess.Popen(words, stderr=subprocess.PIPE, stdin=subprocess.DEVNULL, text=True) as server:
+    with start([*FILES, "--journal", journal]) as server:
         try:
-            note = server.stderr.readline()
-            found = re.match(r"listening on 127\.0\.0\.1:(\d+)$", note)
-            check(found, f"the server says {note}")
-            given = int(found[1]), cube, told, faults
+            given = address_of(server), cube, told, faults
             clients = [threading.Thread(target=talk, args=(*given, chance.random())) for _ in range(CLIENTS)]
             for client in clients:
                 client.start()
@@ -201,6 +191,7 @@ def kill_all(folder):
 
 
 def main():
+    build()
     with tempfile.TemporaryDirectory() as folder:
         try:
             print(kill_all(folder))

@@ -12,16 +12,18 @@ import re
 import resource
 import socket
 import struct
-import subprocess
 import sys
 import tempfile
 import time
 from concurrent.futures import ThreadPoolExecutor
 
-HERE = os.path.dirname(os.path.abspath(__file__))
-PAY = os.path.join(HERE, "..", "pay")
-OPEN = os.path.join(HERE, "..", "two-worlds", "open.toml")
-CUBE = os.environ.get("CUBE", os.path.join(HERE, "..", "..", "cube"))
+EXAMPLES = os.path.join(os.path.dirname(os.path.abspath(__file__)), "..")
+sys.path.insert(0, EXAMPLES)
+
+from servers import Wrong, address_of, build, check, start  # noqa: E402
+
+PAY = os.path.join(EXAMPLES, "pay")
+OPEN = os.path.join(EXAMPLES, "two-worlds", "open.toml")
 CLIENTS = 64
 REQUESTS = 1_000
 PATIENCE = 60
@@ -84,18 +86,13 @@ def write_large(folder):
 class Server:
     """A running `serve` on a free port."""
 
-    def __init__(self, folder, dims, facts, policy, files=None, address="127.0.0.1:0"):
+    def __init__(self, folder, dims, facts, policy, files=None):
         limit = (lambda: resource.setrlimit(resource.RLIMIT_NOFILE, (files, files))) if files else None
-        words = ["--dims", dims, "--facts", facts, "--policy", policy, "--address", address]
-        journal = tempfile.mktemp(dir=folder)
-        self.process = subprocess.Popen([CUBE, "serve", "--journal", journal, *words], stderr=subprocess.PIPE,
-                                        stdin=subprocess.DEVNULL, text=True, preexec_fn=limit)
-        self.note = self.process.stderr.readline()
-        found = re.match(r"listening on 127\.0\.0\.1:(\d+)$", self.note)
-        self.port = int(found[1]) if found else None
+        words = ["--dims", dims, "--facts", facts, "--policy", policy, "--journal", tempfile.mktemp(dir=folder)]
+        self.process = start(words, preexec_fn=limit)
 
     def __enter__(self):
-        check(self.port, f"no port: {self.note}")
+        self.address = address_of(self.process)
         return self
 
     def __exit__(self, kind, *_):
@@ -109,17 +106,8 @@ class Server:
         client.settimeout(PATIENCE)
         if receive_room:
             client.setsockopt(socket.SOL_SOCKET, socket.SO_RCVBUF, receive_room)
-        client.connect(("127.0.0.1", self.port))
+        client.connect(self.address)
         return client
-
-
-class Wrong(Exception):
-    """Clients saw something else than they should."""
-
-
-def check(holds, text):
-    if not holds:
-        raise Wrong(text)
 
 
 def receive(client, expected):
@@ -241,14 +229,6 @@ def slow_client(server, large):
     return f"a client that does not take {LARGE * len(expected):,} bytes lets others be served, and gets all in the end"
 
 
-def port_in_use(folder, server, pay):
-    second = Server(folder, *pay, address=f"127.0.0.1:{server.port}")
-    rest = second.process.communicate()[1]
-    check(second.process.returncode == 8 and rest == "wire failed\n", f"status {second.process.returncode}, {rest}")
-    check(second.note.startswith(f"127.0.0.1:{server.port}: Address already in use"), f"the note is {second.note}")
-    return f"a port in use ends with status 8 and the note {second.note.strip()}"
-
-
 def few_files(folder, pay, asks):
     with Server(folder, *pay, files=16) as server:
         clients = [server.connect() for _ in range(CLIENTS)]
@@ -266,7 +246,6 @@ def all_rows(folder):
     with Server(folder, *pay) as server:
         for row in (many_clients, idle_clients, one_too_many, unread_request, resets):
             yield row(server, asks)
-        yield port_in_use(folder, server, pay)
     yield few_files(folder, pay, asks)
     large = write_large(folder)
     with Server(folder, *(f"{folder}/{name}" for name in ("dims.toml", "facts.csv", "policy.toml"))) as server:
@@ -274,6 +253,7 @@ def all_rows(folder):
 
 
 def main():
+    build()
     with tempfile.TemporaryDirectory() as folder:
         try:
             for row in all_rows(folder):

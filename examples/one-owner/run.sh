@@ -1,6 +1,7 @@
 #!/usr/bin/env bash
 # One owner: what befalls a journal of examples/pay that two programs want, that is moved away, that another program
-# writes to, and what befalls it where the standard streams are closed. Each is done, and seen to tell nothing more.
+# writes to, where the standard streams are closed, and where a value of the facts was corrected. Each is done, and seen
+# to tell nothing more.
 set -eu
 here=$(cd "$(dirname "$0")" && pwd)
 pay=$here/../pay
@@ -83,3 +84,15 @@ echo "$areas" | "$cube" ask "${options[@]}" >&- 2>&- || fail "closed streams"
 cmp -s "$journal" "$work/before" || fail "a closed stream wrote into the journal"
 echo "$areas" | "$cube" ask "${options[@]}" | cmp -s - "$work/open" || fail "the journal does not open again"
 echo "closed standard streams write nothing into the journal"
+
+sed 's/^Jan,Paris,clerk,2159.79,/Jan,Paris,clerk,2160.79,/' "$pay/facts.csv" > "$work/facts.csv"
+! cmp -s "$pay/facts.csv" "$work/facts.csv" || fail "no value was corrected"
+cp "$journal" "$work/before"
+status=0
+echo "$areas" | "$cube" ask --dims "$pay/dims.toml" --facts "$work/facts.csv" --policy "$pay/policy.toml" --journal "$journal" \
+    > "$work/replies" 2> "$work/notes" || status=$?
+[ "$status" -eq 4 ] || fail "corrected facts: another status than 4"
+grep -q '^journal: facts [0-9a-f]* are not [0-9a-f]*$' "$work/notes" || fail "corrected facts: another text"
+[ ! -s "$work/replies" ] || fail "corrected facts were answered"
+cmp -s "$journal" "$work/before" || fail "corrected facts: the journal was changed"
+echo "a journal is not opened over corrected facts"

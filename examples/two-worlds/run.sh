@@ -21,7 +21,7 @@ run() {
     local options
     mapfile -t options < <(files "$1" "$2" "$3")
     shift 3
-    "$cube" "$command" "${options[@]}" "$@"
+    "$cube" "$command" "${options[@]}" "$@" 2> "$work/notes" || { cat "$work/notes" >&2; return 1; }
 }
 
 run ask "$pay/facts.csv" "$pay/policy.toml" journal < "$here/queries" > "$work/replies"
@@ -34,4 +34,4 @@ cmp "$work/replies" "$work/other-replies"
 echo "both cubes give the same replies, byte for byte: $(wc -c < "$work/replies") bytes"
 echo "the cell in the first cube, and in the other:"
 echo "$cell" | run ask "$pay/facts.csv" "$here/open.toml" open-journal | tail -n 1
-echo "$cell" | run ask "$work/facts.csv" "$here/open.toml" open-journal | tail -n 1
+echo "$cell" | run ask "$work/facts.csv" "$here/open.toml" other-open-journal | tail -n 1
