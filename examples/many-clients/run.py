@@ -130,6 +130,20 @@ def ask(client, asked):
     receive(client, asked[1])
 
 
+def is_served(server, asked):
+    """Whether a new connection gets its reply; one that is told that there are too many does not."""
+    request, reply = asked
+    busy = refusal("503 Service Unavailable", "too many connections")
+    client = server.connect()
+    client.sendall(request)
+    first = client.recv(len("HTTP/1.1 503"), socket.MSG_WAITALL)
+    is_busy = first == busy[:len(first)]
+    receive(client, (busy if is_busy else reply)[len(first):])
+    check(is_busy or first == reply[:len(first)], f"another beginning than expected: {first}")
+    client.close()
+    return not is_busy
+
+
 def reset(client):
     client.setsockopt(socket.SOL_SOCKET, socket.SO_LINGER, struct.pack("ii", 1, 0))
     client.close()
@@ -209,10 +223,10 @@ def resets(server, asks):
         client = server.connect()
         client.sendall(asks[0][0] * 50)
         reset(client)
-    client = server.connect()
-    ask(client, asks[0])
-    client.close()
-    return "clients that reset their connections, with and without a reply under way, stop nobody"
+    end = time.monotonic() + PATIENCE
+    while not is_served(server, asks[0]):
+        check(time.monotonic() < end, "connections that were reset keep their places")
+    return "clients that reset their connections, with and without a reply under way, give their places back"
 
 
 def slow_client(server, large):
