@@ -35,6 +35,8 @@ fn a_client_is_heard_and_answered(rt: HostRuntime) -> Result<(), Fail> {
     assert_eq!(rt; wire.next(&mut buf), Ok(Event::Piece(0, 4)));
     assert_eq!(rt; &buf[..4], b"ping".as_slice());
     assert!(rt; wire.send(0, b"pong").is_ok());
+    client.write_all(b"more")?;
+    assert_eq!(rt; wire.next(&mut buf), Ok(Event::Piece(0, 4)));
     let mut got = [0u8; 4];
     client.read_exact(&mut got)?;
     assert_eq!(rt; got.as_slice(), b"pong".as_slice());
@@ -112,12 +114,11 @@ fn a_last_reply_arrives_before_what_was_not_read(rt: HostRuntime) -> Result<(), 
     assert!(rt; wire.next(&mut buf).is_ok());
     assert!(rt; wire.send(0, b"refused").is_ok());
     wire.close(0);
+    wire.settle();
     let mut got = [0u8; 8];
     client.read_exact(&mut got[..7])?;
     assert_eq!(rt; &got[..7], b"refused".as_slice());
     assert_eq!(rt; client.read(&mut got)?, 0);
-    drop(client);
-    wire.settle();
     Ok(())
 }
 
