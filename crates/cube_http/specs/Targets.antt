@@ -26,13 +26,20 @@ is_question b = b == 63
 abbrev pub from_slash : List ℕ → List ℕ
 from_slash text = drop (position_or_len is_slash text) text
 
+-- a host ends in front of a path or a query
+abbrev pub ends_host : ℕ → Bool
+ends_host b = is_slash b || is_question b
+
+abbrev pub behind_host : List ℕ → List ℕ
+behind_host text = drop (position_or_len ends_host text) text
+
 abbrev pub or_root : List ℕ → List ℕ
 or_root [] = 47 ∷ []
 or_root (b ∷ bs) = b ∷ bs
 
 -- the target without a scheme and a host
 abbrev pub own_target : List ℕ → List ℕ
-own_target target = if same_word (take 7 target) (codes "http://") then or_root (from_slash (drop 7 target)) else target
+own_target target = if same_word (take 7 target) (codes "http://") then or_root (behind_host (drop 7 target)) else target
 
 abbrev pub path_of : List ℕ → List ℕ
 path_of target = before_first is_question (own_target target)

@@ -52,6 +52,12 @@ fn find_question(text: &[u8]) -> Option<usize>
     text.iter().position(|byte| *byte == b'?')
 }
 
+fn find_end(host: &[u8]) -> Option<usize>
+    ensures { result ≡ position spec.ends_host host.now }
+{
+    host.iter().position(|byte| *byte == b'/' || *byte == b'?')
+}
+
 // What stands before the first slash, and from there on.
 fn split_slash(text: &[u8]) -> (&[u8], &[u8])
     ensures front { result.0.now ≡ before_first spec.is_slash text.now }
@@ -74,6 +80,16 @@ fn split_question(text: &[u8]) -> (&[u8], &[u8])
     }
 }
 
+// What stands behind a host: from the first slash or question mark on.
+fn behind_host(text: &[u8]) -> &[u8]
+    ensures { result.now ≡ spec.behind_host text.now }
+{
+    match find_end(text) {
+        Some(at) => &text[at..],
+        None => &[],
+    }
+}
+
 fn or_root(target: &[u8]) -> &[u8]
     ensures { result.now ≡ spec.or_root target.now }
 {
@@ -88,7 +104,7 @@ fn own_target(target: &[u8]) -> &[u8]
     ensures { result.now ≡ spec.own_target target.now }
 {
     if target.len() >= 7 && target[..7].eq_ignore_ascii_case(b"http://") {
-        or_root(split_slash(&target[7..]).1)
+        or_root(behind_host(&target[7..]))
     } else {
         target
     }

@@ -13,7 +13,6 @@ mod record;
 mod scroll;
 mod sink;
 mod source;
-mod stop;
 mod store;
 mod wire;
 
@@ -27,6 +26,5 @@ pub use record::{Call, Change, Record, Target};
 pub use scroll::{Note, Scroll};
 pub use sink::{MemSink, Sink};
 pub use source::{MemSource, Source};
-pub use stop::StopStore;
 pub use store::{SEAL_LOG, Store};
 pub use wire::{Event, Wire};
