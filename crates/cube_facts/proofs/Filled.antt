@@ -1,12 +1,13 @@
 -- A fact file, record by record, and the core that it fills.
-use Rattle.std.proofs.Common.{◌≡◌, inl, inr, ℕ, zero, suc, ◌+◌, ◌<◌, ◌≤◌, Bool, true, false, cond, List, [], ◌∷◌, ◌++◌, length, map, filter, flat_map, get_or, Option, Some, None, IfSome, Result, Ok, Err, ℤ, pos, All, refl, sym, ap, ap₂, subst, ◌∙◌, arith, ltb, length-append, sum, unwrap_or, eqb}
-use Rattle.std.specs.Map.{keys_of, values_of, lookup}
+use Rattle.std.proofs.Common.{◌≡◌, inl, inr, ℕ, zero, suc, ◌+◌, ◌*◌, ◌^◌, ◌<◌, ◌≤◌, Bool, true, false, cond, List, [], ◌∷◌, ◌++◌, length, map, filter, flat_map, get_or, Option, Some, None, Result, Ok, Err, ℤ, pos, All, refl, sym, ap, ap₂, subst, ◌∙◌, arith, ltb, length-append, sum, unwrap_or, eqb}
 use Rattle.std.specs.List.{list_all, AllByRecursion}
 use Rattle.std.specs.Str.{bytes_eq}
 use Rattle.std.proofs.lemmas.Bool.{false≢true, lt-ltb, le-ltb, ltb-true, ltb-false, and_parts, and_right, false_from_ne_true}
 use Rattle.std.proofs.lemmas.List.Elements.{All-from_recursion, recursion_from_All}
 use Rattle.std.proofs.lemmas.List.Quantifiers.{position-Some}
 use Rattle.std.proofs.lemmas.List.Sums.{sum_by-cons, length-filter, count_by-le-length}
+use Rattle.std.proofs.Math.Nat.{mul-le-mul}
+use Rattle.std.proofs.lemmas.Nat.{row_fits}
 use Rattle.std.proofs.lemmas.Int.{ints}
 use Rattle.std.proofs.lemmas.List.{append-nil, append_assoc, length-map, map-append, get_or-map}
 use Rattle.std.proofs.lemmas.Simd.{map-map}
@@ -21,15 +22,16 @@ use Rattle.cube_model.specs.declared.limit.LimitKind.TheVariants as limit
 use Rattle.cube_model.specs.declared.shape.Shape.{Shape}
 use Rattle.cube_model.proofs.Members.{tested, same_eq, same_refl, IsIn-filter, filter_has, IsIn-map, IsIn-in_order, IsIn-count_from}
 use Rattle.cube_model.proofs.Orders.{in_order_increasing}
-use Rattle.cube_model.proofs.Parities.{at_place}
 use Rattle.cube_facts.specs.Records.{records_of}
 use Rattle.cube_facts.specs.FactFile.{Fact, field_in, leaf_in, units_in, leaves_of, fact_of, column_faults, own_faults, record_faults, most_points, points_in, facts_of, points_of, facts_at, units_sum, shape_of, cube_of}
-use Rattle.cube_facts.specs.Filling.{Point, has_leaves, totals_of, HasTotals, Gathers, Fills, HasRoom, IsFact, AreFacts}
+use Rattle.cube_core.specs.Keys.{key_count}
+use Rattle.cube_core.proofs.Ranking.{IsWithin}
+use Rattle.cube_facts.specs.Filling.{Gathers, Fits, Orders, IsFact, AreFacts}
 use Rattle.cube_facts.specs.Table.{IsUnits}
 use Rattle.cube_facts.specs.declared.fault.FactsFault.{FactsFault}
 use Rattle.cube_facts.specs.declared.fault.FactsFault.TheVariants as fault
-use Rattle.cube_facts.specs.declared.totals.Totals.{Totals}
-use Rattle.cube_facts.proofs.Adding.{totals_parts}
+use Rattle.cube_facts.specs.declared.totals.Points.{Points}
+use Rattle.cube_facts.proofs.Adding.{put_in_order, sums_of, rows_long, sum_read, count_long}
 use Rattle.cube_facts.proofs.Load.{unless_first}
 
 -- ---- what is left to say
@@ -68,22 +70,22 @@ start_whole s bytes header rows h is none = rw (h, is, none) refl
 -- ---- the loop
 
 -- how the file stands behind some records: what is left to say, and the points so far
-pub record Reads (s : Dims) (bytes : List ℕ) (header : List (List ℕ)) (points : List (Point × Totals)) (count : ℕ) (left : List (List (List ℕ))) : Type 0 where
+pub record Reads (s : Dims) (bytes : List ℕ) (header : List (List ℕ)) (points : Points) (count : ℕ) (left : List (List (List ℕ))) : Type 0 where
   pub earlier : List (List (List ℕ))
   pub counted : count ≡ length earlier
   pub whole : facts_of s bytes ≡ rest_of s header earlier left
   pub facts : AreFacts s (map (fact_of s header) earlier)
-  pub gathers : Gathers (length s.measures) (map (fact_of s header) earlier) points
+  pub gathers : Gathers s (map (fact_of s header) earlier) points
 
-pub reads_start : (s : Dims) (bytes : List ℕ) (header : List (List ℕ)) (points : List (Point × Totals)) (left : List (List (List ℕ)))
-    → begins_with_mark (strip_bom bytes) ≡ false → records_of bytes ≡ header ∷ left → flat_map (column_faults header) (column_names s) ≡ [] → points ≡ []
+pub reads_start : (s : Dims) (bytes : List ℕ) (header : List (List ℕ)) (points : Points) (left : List (List (List ℕ)))
+    → begins_with_mark (strip_bom bytes) ≡ false → records_of bytes ≡ header ∷ left → flat_map (column_faults header) (column_names s) ≡ [] → Gathers s [] points
     → Reads s bytes header points 0 left
 reads_start s bytes header points left mark start none empty = record {
   earlier = [];
   counted = refl;
   whole = start_whole s bytes header left mark start none;
   facts = record { each = tt; few = omega arith; few_points = omega arith };
-  gathers = record { keys = rw empty refl; many = rw empty refl; totals = λ q. rw empty refl };
+  gathers = empty;
 }
 
 -- where the points of some records are few enough
@@ -94,16 +96,16 @@ points_fit s header earlier f count counted none few =
     let test : ltb most_points (length (points_in s header (earlier ++ f ∷ []))) ≡ false = le-ltb most_points (length (points_in s header (earlier ++ f ∷ []))) few_here in
     rw (sym counted, none, test) refl
 
-pub reads_more : (s : Dims) (bytes : List ℕ) (header : List (List ℕ)) (points more : List (Point × Totals)) (count : ℕ) (left behind : List (List (List ℕ))) (f : List (List ℕ)) (fact : Fact)
+pub reads_more : (s : Dims) (bytes : List ℕ) (header : List (List ℕ)) (points more : Points) (count : ℕ) (left behind : List (List (List ℕ))) (f : List (List ℕ)) (fact : Fact)
     → Reads s bytes header points count left → left ≡ f ∷ behind → own_faults s header count f ≡ [] → count < 1000000 → fact ≡ fact_of s header f → IsFact s fact
-    → ((facts : List Fact) → Gathers (length s.measures) facts points → Gathers (length s.measures) (facts ++ fact ∷ []) more)
-    → length more ≤ 65536
+    → ((facts : List Fact) → Gathers s facts points → Gathers s (facts ++ fact ∷ []) more)
+    → length more.leaves ≤ 65536
     → Reads s bytes header more (count + 1) behind
 reads_more s bytes header points more count left behind f fact r next none few is rules step small =
     let facts = map (fact_of s header) r.earlier in
     let grown : map (fact_of s header) (r.earlier ++ f ∷ []) ≡ facts ++ fact ∷ [] = map-append (fact_of s header) r.earlier (f ∷ []) ∙ ap (λ g. facts ++ g ∷ []) (sym is) in
     let gathers = step facts r.gathers in
-    let long : length (points_of (facts ++ fact ∷ [])) ≡ length more = gathers.many in
+    let long : length (points_of (facts ++ fact ∷ [])) ≡ length more.leaves = gathers.many in
     let points_few : length (points_of (facts ++ fact ∷ [])) ≤ 65536 = omega (arith, long, small) in
     let fits : record_faults s header r.earlier f ≡ [] = points_fit s header r.earlier f count r.counted none (rw grown points_few) in
     record {
@@ -122,7 +124,7 @@ reads_more s bytes header points more count left behind f fact r next none few i
     each_more P [] x h k = (k, tt)
     each_more P (y ∷ ys) x h k = (h.0, each_more P ys x h.1 k)
 
-pub reads_fault : (s : Dims) (bytes : List ℕ) (header : List (List ℕ)) (points : List (Point × Totals)) (count : ℕ) (left behind : List (List (List ℕ))) (f : List (List ℕ)) (e : FactsFault)
+pub reads_fault : (s : Dims) (bytes : List ℕ) (header : List (List ℕ)) (points : Points) (count : ℕ) (left behind : List (List (List ℕ))) (f : List (List ℕ)) (e : FactsFault)
     → Reads s bytes header points count left → left ≡ f ∷ behind → first (own_faults s header count f) ≡ Some e → facts_of s bytes ≡ Err e
 reads_fault s bytes header points count left behind f e r next h =
     r.whole ∙ ap (rest_of s header r.earlier) next ∙ rest_fault s header r.earlier behind f e (first_of_more (own_faults s header (length r.earlier) f) _ e (rw r.counted at h))
@@ -131,24 +133,24 @@ reads_fault s bytes header points count left behind f e r next h =
     first_of_more [] gs e h = absurd (cc)
     first_of_more (g ∷ fs) gs e h = h
 
-pub reads_points : (s : Dims) (bytes : List ℕ) (header : List (List ℕ)) (points more : List (Point × Totals)) (count : ℕ) (left behind : List (List (List ℕ))) (f : List (List ℕ)) (fact : Fact)
+pub reads_points : (s : Dims) (bytes : List ℕ) (header : List (List ℕ)) (points more : Points) (count : ℕ) (left behind : List (List (List ℕ))) (f : List (List ℕ)) (fact : Fact)
     → Reads s bytes header points count left → left ≡ f ∷ behind → own_faults s header count f ≡ [] → fact ≡ fact_of s header f
-    → ((facts : List Fact) → Gathers (length s.measures) facts points → Gathers (length s.measures) (facts ++ fact ∷ []) more)
-    → 65536 < length more
+    → ((facts : List Fact) → Gathers s facts points → Gathers s (facts ++ fact ∷ []) more)
+    → 65536 < length more.leaves
     → facts_of s bytes ≡ Err (fault.Limit limit.Points 65536)
 reads_points s bytes header points more count left behind f fact r next none is step large =
     let facts = map (fact_of s header) r.earlier in
     let grown : map (fact_of s header) (r.earlier ++ f ∷ []) ≡ facts ++ fact ∷ [] = map-append (fact_of s header) r.earlier (f ∷ []) ∙ ap (λ g. facts ++ g ∷ []) (sym is) in
     let gathers = step facts r.gathers in
-    let long : length (points_of (facts ++ fact ∷ [])) ≡ length more = gathers.many in
+    let long : length (points_of (facts ++ fact ∷ [])) ≡ length more.leaves = gathers.many in
     let same : map (leaves_of s header) (r.earlier ++ f ∷ []) ≡ map (λ g. g.leaves) (facts ++ fact ∷ []) = sym (map-map (λ (g : Fact). g.leaves) (fact_of s header) (r.earlier ++ f ∷ [])) ∙ ap (map (λ (g : Fact). g.leaves)) grown in
     let many : 65536 < length (points_in s header (r.earlier ++ f ∷ [])) = rw same (omega (arith, long, large)) in
     let test : ltb most_points (length (points_in s header (r.earlier ++ f ∷ []))) ≡ true = lt-ltb most_points (length (points_in s header (r.earlier ++ f ∷ []))) many in
     let here : own_faults s header (length r.earlier) f ≡ [] = rw (sym r.counted) none in
     r.whole ∙ ap (rest_of s header r.earlier) next ∙ rest_fault s header r.earlier behind f (fault.Limit limit.Points 65536) (rw (here, test) refl)
 
-pub reads_end : (s : Dims) (bytes : List ℕ) (header : List (List ℕ)) (points : List (Point × Totals)) (count : ℕ) (left : List (List (List ℕ)))
-    → Reads s bytes header points count left → left ≡ [] → (facts : List Fact) × (facts_of s bytes ≡ Ok facts) × AreFacts s facts × Gathers (length s.measures) facts points
+pub reads_end : (s : Dims) (bytes : List ℕ) (header : List (List ℕ)) (points : Points) (count : ℕ) (left : List (List (List ℕ)))
+    → Reads s bytes header points count left → left ≡ [] → (facts : List Fact) × (facts_of s bytes ≡ Ok facts) × AreFacts s facts × Gathers s facts points
 reads_end s bytes header points count left r none = (map (fact_of s header) r.earlier, r.whole ∙ ap (rest_of s header r.earlier) none ∙ rest_none s header r.earlier, r.facts, r.gathers)
 
 -- ---- facts keep their rules
@@ -214,79 +216,112 @@ at_bounded s facts x m h = sum_bounded s m (facts_at facts x) (each_filter (IsFa
 
 -- ---- the totals of the map
 
-count_long : (a n : ℕ) → length (count_from a n) ≡ n
-count_long a zero = refl
-count_long a (suc n) = ap suc (count_long (suc a) n)
-
-all_mapped : (P : ℤ → Type 0) (h : ℕ → ℤ) (ms : List ℕ) → ((m : ℕ) → P (h m)) → All P (map h ms)
-all_mapped P h ms k i d l =
-    let below : i < length ms = omega (arith, l, length-map ms h) in
-    subst P (sym (get_or-map h ms i 0 d below)) (k (get_or ms i 0))
-
 at_most : (facts : List Fact) (x : List ℕ) → length (facts_at facts x) ≤ length facts
 at_most facts x = omega (arith, length-filter (λ (f : Fact). same x f.leaves) facts, count_by-le-length (λ (f : Fact). same x f.leaves) facts)
 
-gathered_room : (s : Dims) (facts : List Fact) (points : List (Point × Totals)) (k : ℕ) → AreFacts s facts → Gathers (length s.measures) facts points → length facts < 1000000 → k ≡ length s.measures
-    → (x : List ℕ) → IfSome (lookup (has_leaves x) points) (λ t. HasRoom t × (k ≡ length t.sums))
-gathered_room s facts points k are gathers few long x = go (lookup (has_leaves x) points) (gathers.totals x)
-  where
-    go : (o : Option Totals) → o ≡ totals_of (length s.measures) (facts_at facts x) → IfSome o (λ t. HasRoom t × (k ≡ length t.sums))
-    go None e = tt
-    go (Some t) e =
-        let parts = totals_parts (length s.measures) (facts_at facts x) t (sym e) in
-        let most = at_most facts x in (
-          record {
-            few = omega (arith, parts.0, most, few);
-            bounded = subst (All (IsSumOf t.facts)) (sym parts.1) (all_mapped (IsSumOf t.facts) (λ m. units_sum m (facts_at facts x)) (count_from 0 (length s.measures))
-                (λ m. subst (λ n. IsSumOf n (units_sum m (facts_at facts x))) (sym parts.0) (at_bounded s facts x m are.each)));
-          },
-          long ∙ sym (ap length parts.1 ∙ length-map (count_from 0 (length s.measures)) (λ m. units_sum m (facts_at facts x)) ∙ count_long 0 (length s.measures)),
-        )
+read_any : {Y : Type 0} (P : Y → Type 0) (g : List ℕ → Y) (d : Y) (xs : List (List ℕ)) (place : ℕ) → ((x : List ℕ) → P (g x)) → P d → P (get_or (map g xs) place d)
+read_any P g d [] place all none = none
+read_any P g d (x ∷ xs) zero all none = all x
+read_any P g d (x ∷ xs) (suc place) all none = read_any P g d xs place all none
 
-pub reads_room : (s : Dims) (bytes : List ℕ) (header : List (List ℕ)) (points : List (Point × Totals)) (count k : ℕ) (left : List (List (List ℕ))) → Reads s bytes header points count left → count < 1000000 → k ≡ length s.measures
-    → (x : List ℕ) → IfSome (lookup (has_leaves x) points) (λ t. HasRoom t × (k ≡ length t.sums))
-reads_room s bytes header points count k left r few long = gathered_room s (map (fact_of s header) r.earlier) points k r.facts r.gathers (omega (arith, few, r.counted, length-map r.earlier (fact_of s header))) long
+each_sum : (P : ℤ → Type 0) (g : ℕ → ℤ) (ms : List ℕ) → ((m : ℕ) → P (g m)) → AllByRecursion P (map g ms)
+each_sum P g [] all = tt
+each_sum P g (m ∷ ms) all = (all m, each_sum P g ms all)
 
--- ---- from the entries to the shape and the cube
+both : (P : ℤ → Type 0) (xs ys : List ℤ) → AllByRecursion P xs → AllByRecursion P ys → AllByRecursion P (xs ++ ys)
+both P [] ys a b = b
+both P (x ∷ xs) ys a b = (a.0, both P xs ys a.1 b)
+
+each_row : (P : ℤ → Type 0) (g : List ℕ → List ℤ) (xs : List (List ℕ)) → ((x : List ℕ) → AllByRecursion P (g x)) → AllByRecursion P (flat_map g xs)
+each_row P g [] all = tt
+each_row P g (x ∷ xs) all = both P (g x) (flat_map g xs) (all x) (each_row P g xs all)
+
+sum_of_more : (n m : ℕ) (z : ℤ) → IsSumOf n z → n ≤ m → IsSumOf m z
+sum_of_more n m z h l = (omega (arith, ints, h.0, l), omega (arith, ints, h.1, l))
+
+point_within : (ds : List NamedDimension) (xs : List ℕ) → IsPoint (map plain ds) xs → IsWithin (map (λ d. length d.paths) ds) xs
+point_within [] [] h = tt
+point_within [] (x ∷ xs) h = absurd h
+point_within (d ∷ ds) [] h = absurd h
+point_within (d ∷ ds) (x ∷ xs) h = (h.0, point_within ds xs h.1)
+
+most_combinations : ℕ → ℕ
+most_combinations zero = 1
+most_combinations (suc n) = 65536 * most_combinations n
+
+combinations_below : (ds : List NamedDimension) (n : ℕ) → AllByRecursion IsDimension ds → length ds ≤ n → key_count (map (λ d. length d.paths) ds) ≤ most_combinations n
+unfolding most_combinations
+combinations_below [] zero h l = omega arith
+combinations_below [] (suc n) h l = let rest = combinations_below [] n h (omega arith) in omega (arith, rest)
+combinations_below (d ∷ ds) zero h l = absurd (omega (arith, l))
+combinations_below (d ∷ ds) (suc n) h l = mul-le-mul (h.0).few_leaves (combinations_below ds n h.1 (omega (arith, l)))
+
+pub reads_fits : (s : Dims) (bytes : List ℕ) (header : List (List ℕ)) (points : Points) (count : ℕ) (left : List (List (List ℕ))) (fact : Fact) → Reads s bytes header points count left → IsDims s → IsFact s fact → count < 1000000 → Fits points count fact.leaves fact.units
+unfolding most_combinations
+reads_fits s bytes header points count left fact r rules is few =
+    let facts = map (fact_of s header) r.earlier in
+    let long : length facts ≡ count = length-map r.earlier (fact_of s header) ∙ sym r.counted in
+    let g = r.gathers in
+    record {
+      few = few;
+      point = subst (λ ss. IsWithin ss fact.leaves) (sym g.sizes) (point_within s.dimensions fact.leaves is.leaves);
+      combinations = subst (λ ss. key_count ss ≤ 2 ^ 128) (sym g.sizes) (combinations_below s.dimensions 8 rules.each_dimension rules.few_dimensions);
+      facts = λ place. subst (λ (ns : List ℕ). get_or ns place 0 < 1000000) (sym g.facts_are)
+          (read_any (λ n. n < 1000000) (λ x. length (facts_at facts x)) 0 points.leaves place (λ x. (let most = at_most facts x in omega (arith, most, long, few))) (omega arith));
+      sums = subst (All (IsSumOf count)) (sym g.sums)
+          (All-from_recursion (IsSumOf count) (flat_map (sums_of (length s.measures) facts) points.leaves)
+          (each_row (IsSumOf count) (sums_of (length s.measures) facts) points.leaves (λ x. each_sum (IsSumOf count) (λ m. units_sum m (facts_at facts x)) (count_from 0 (length s.measures))
+          (λ m. (let most = at_most facts x in sum_of_more (length (facts_at facts x)) count (units_sum m (facts_at facts x)) (at_bounded s facts x m r.facts.each) (omega (arith, most, long)))))));
+      rows = λ place below. (
+          let counted = ap length g.facts_are ∙ length-map points.leaves (λ x. length (facts_at facts x)) in
+          let all = ap length g.sums ∙ rows_long (length s.measures) facts points.leaves in
+          let fits = row_fits place (length s.measures) (length points.leaves) (length s.measures) (omega (arith, below, counted)) (omega arith) in
+          subst (λ (k : ℕ). place * k + k ≤ length points.sums.items) (sym is.long) (omega (arith, fits, all)));
+      bounded = is.bounded;
+    }
+
+-- ---- from the columns to the shape and the cube
 
 map_alike : {X Y : Type 0} (f g : X → Y) (xs : List X) → ((x : X) → IsIn x xs → f x ≡ g x) → map f xs ≡ map g xs
 map_alike f g [] h = refl
 map_alike f g (x ∷ xs) h = ap₂ (λ y ys. y ∷ ys) (h x (inl refl)) (map_alike f g xs (λ y k. h y (inr k)))
 
-counts_of : (n : ℕ) (facts : List Fact) (es : List (Point × Totals)) → AllByRecursion (HasTotals n facts) es → map (λ t. t.facts) (values_of es) ≡ map (λ x. length (facts_at facts x)) (map (λ k. k.items) (keys_of es))
-counts_of n facts [] h = refl
-counts_of n facts (e ∷ es) h = ap₂ (λ y ys. y ∷ ys) (h.0).0 (counts_of n facts es h.1)
+pub counts_long : (s : Dims) (facts : List Fact) (points : Points) (order : List ℕ) → Gathers s facts points → Orders facts points order → All (λ place. place < length points.facts.items) order
+counts_long s facts points order g o =
+    let long = ap length g.facts_are ∙ length-map points.leaves (λ x. length (facts_at facts x)) in
+    λ i d l. (let below = o.below i d l in omega (arith, below, long))
 
-column_of : (n m : ℕ) (facts : List Fact) (es : List (Point × Totals)) → m < n → AllByRecursion (HasTotals n facts) es → map (λ t. get_or t.sums m (pos 0)) (values_of es) ≡ map (λ x. units_sum m (facts_at facts x)) (map (λ k. k.items) (keys_of es))
-column_of n m facts [] l h = refl
-column_of n m facts (e ∷ es) l h = ap₂ (λ y ys. y ∷ ys)
-    (ap (λ (xs : List ℤ). get_or xs m (pos 0)) (h.0).1 ∙ at_place (λ k. units_sum k (facts_at facts (e.0).items)) n m l)
-    (column_of n m facts es l h.1)
+pub sums_long : (s : Dims) (facts : List Fact) (points : Points) (order : List ℕ) → Gathers s facts points → Orders facts points order
+    → (m : ℕ) → m < points.measures → All (λ place. place * points.measures + m < length points.sums.items) order
+sums_long s facts points order g o m below i d l =
+    let n = points.measures in
+    let all = ap length g.sums ∙ rows_long (length s.measures) facts points.leaves ∙ ap (λ (k : ℕ). length points.leaves * k) (sym g.measures) in
+    let fits = row_fits (get_or order i d) n (length points.leaves) n (o.below i d l) (omega arith) in
+    omega (arith, all, fits, below)
 
-pub sums_long : (s : Dims) (facts : List Fact) (points : List (Point × Totals)) (k : ℕ) → Fills (length s.measures) facts points → k ≡ length s.measures → All (λ t. length t.sums ≡ k) (values_of points)
-sums_long s facts points k fills long = All-from_recursion (λ t. length t.sums ≡ k) (values_of points) (go points (recursion_from_All (HasTotals (length s.measures) facts) points fills.totals))
-  where
-    go : (es : List (Point × Totals)) → AllByRecursion (HasTotals (length s.measures) facts) es → AllByRecursion (λ t. length t.sums ≡ k) (values_of es)
-    go [] h = tt
-    go (e ∷ es) h = (ap length (h.0).1 ∙ length-map (count_from 0 (length s.measures)) (λ m. units_sum m (facts_at facts (e.0).items)) ∙ count_long 0 (length s.measures) ∙ sym long, go es h.1)
+pub shape_filled : (s : Dims) (facts : List Fact) (points : Points) (order : List ℕ) (shape : Shape) → Gathers s facts points → Orders facts points order
+    → shape.points ≡ map (λ place. get_or points.leaves place []) order → shape.facts ≡ map (λ place. get_or points.facts.items place 0) order → shape ≡ shape_of facts
+shape_filled s facts points order shape g o points_are facts_are = ap₂ (λ (p : List (List ℕ)) (c : List ℕ). record { points = p; facts = c })
+    (points_are ∙ o.points)
+    (facts_are ∙ ap (λ (ns : List ℕ). map (λ place. get_or ns place 0) order) g.facts_are ∙ put_in_order (λ x. length (facts_at facts x)) 0 facts points order o)
 
-pub shape_filled : (s : Dims) (facts : List Fact) (points : List (Point × Totals)) (shape : Shape) → Fills (length s.measures) facts points
-    → shape.points ≡ map (λ k. k.items) (keys_of points) → shape.facts ≡ map (λ t. t.facts) (values_of points) → shape ≡ shape_of facts
-shape_filled s facts points shape fills points_are facts_are = ap₂ (λ (p : List (List ℕ)) (c : List ℕ). record { points = p; facts = c })
-    (points_are ∙ fills.keys)
-    (facts_are ∙ counts_of (length s.measures) facts points (recursion_from_All (HasTotals (length s.measures) facts) points fills.totals)
-    ∙ ap (map (λ x. length (facts_at facts x))) fills.keys)
-
-pub cube_filled : (s : Dims) (facts : List Fact) (points : List (Point × Totals)) (k : ℕ) (cube : List (List ℤ)) → Fills (length s.measures) facts points → k ≡ length s.measures
-    → cube ≡ map (λ m. map (λ t. get_or t.sums m (pos 0)) (values_of points)) (count_from 0 k) → cube ≡ cube_of s facts
-cube_filled s facts points k cube fills long is =
-    is ∙ ap (λ n. map (λ m. map (λ t. get_or t.sums m (pos 0)) (values_of points)) (count_from 0 n)) long
-    ∙ map_alike (λ m. map (λ t. get_or t.sums m (pos 0)) (values_of points)) (λ m. map (λ x. units_sum m (facts_at facts x)) (points_of facts)) (count_from 0 (length s.measures))
-    (λ m h. column_of (length s.measures) m facts points (below m (length s.measures) (IsIn-count_from m 0 (length s.measures) h).1) (recursion_from_All (HasTotals (length s.measures) facts) points fills.totals)
-    ∙ ap (map (λ x. units_sum m (facts_at facts x))) fills.keys)
+pub cube_filled : (s : Dims) (facts : List Fact) (points : Points) (order : List ℕ) (cube : List (List ℤ)) → Gathers s facts points → Orders facts points order
+    → cube ≡ map (λ m. map (λ place. get_or points.sums.items (place * points.measures + m) (pos 0)) order) (count_from 0 points.measures) → cube ≡ cube_of s facts
+cube_filled s facts points order cube g o is =
+    is ∙ ap₂ (λ (n : ℕ) (sums : List ℤ). map (λ m. map (λ place. get_or sums (place * n + m) (pos 0)) order) (count_from 0 n)) g.measures g.sums
+    ∙ map_alike (λ m. map (λ place. get_or (flat_map (sums_of (length s.measures) facts) points.leaves) (place * length s.measures + m) (pos 0)) order) (λ m. map (λ x. units_sum m (facts_at facts x)) (points_of facts)) (count_from 0 (length s.measures))
+    (λ m h. column m (below m (length s.measures) (IsIn-count_from m 0 (length s.measures) h).1))
   where
     below : (m n : ℕ) → m < 0 + n → m < n
     below m n l = omega (arith, l)
+
+    read : (m : ℕ) → m < length s.measures → (ps : List ℕ) → AllByRecursion (λ place. place < length points.leaves) ps
+        → map (λ place. get_or (flat_map (sums_of (length s.measures) facts) points.leaves) (place * length s.measures + m) (pos 0)) ps ≡ map (λ x. units_sum m (facts_at facts x)) (map (λ place. get_or points.leaves place []) ps)
+    read m l [] b = refl
+    read m l (p ∷ ps) b = ap₂ (λ y ys. y ∷ ys) (sum_read (length s.measures) facts points.leaves p m b.0 l) (read m l ps b.1)
+
+    column : (m : ℕ) → m < length s.measures → map (λ place. get_or (flat_map (sums_of (length s.measures) facts) points.leaves) (place * length s.measures + m) (pos 0)) order ≡ map (λ x. units_sum m (facts_at facts x)) (points_of facts)
+    column m l = read m l order (recursion_from_All (λ place. place < length points.leaves) order o.below) ∙ ap (map (λ x. units_sum m (facts_at facts x))) o.points
 
 -- ---- the core
 

@@ -5,6 +5,7 @@ pub mod Load
 pub mod Parts
 pub mod Block
 pub mod Turns
+pub mod Known
 pub mod Adding
 pub mod Recorded
 pub mod Filled

@@ -1,5 +1,5 @@
 -- Checks of items one after another.
-use Rattle.std.proofs.Common.{◌≡◌, ◌⊎◌, inl, inr, ℕ, ◌+◌, ◌<◌, List, [], ◌∷◌, ◌++◌, length, get_or, drop, take, map, flat_map, Result, Ok, Err, refl, sym, ap, ap₂, ◌∙◌}
+use Rattle.std.proofs.Common.{◌≡◌, ◌⊎◌, inl, inr, ℕ, ◌+◌, ◌<◌, List, [], ◌∷◌, ◌++◌, length, get_or, drop, take, map, flat_map, Result, Ok, Err, IfErr, refl, sym, ap, ap₂, ◌∙◌}
 use Rattle.std.specs.Result.{IsErrAnd}
 use Rattle.std.proofs.lemmas.List.{drop_more, map_more, map-append}
 use Rattle.cube_model.specs.Answers.{Answers}
@@ -23,6 +23,11 @@ Refused no_memory e said = (e ≡ no_memory) ⊎ (said ≡ Err e)
 pub handed_on : {F Y : Type 0} (no_memory : F) (r : Result Y F) (e : F) (said : Result Y F) → IsErrAnd r (λ f. f ≡ e) → Refused no_memory e said → Answers no_memory r said
 handed_on no_memory (Ok z) e said h k = absurd h
 handed_on no_memory (Err f) e said h k = rw h k
+
+-- where memory ran out, no more is said
+pub no_memory : {F X Y : Type 0} (memory : F) (r : Result X F) (said : Result Y F) → IsErrAnd r (λ f. f ≡ memory) → IfErr r (λ e. (e ≡ memory) ⊎ (said ≡ Err e))
+no_memory memory (Ok x) said h = tt
+no_memory memory (Err e) said h = inl h
 
 -- the first fault, whatever is checked behind it
 pub still_first : {F X Y : Type 0} (no_memory e : F) (fs gs : List F) (x : X) (y : Y) → Refused no_memory e (unless fs x) → Refused no_memory e (unless (fs ++ gs) y)

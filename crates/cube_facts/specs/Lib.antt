@@ -3,5 +3,6 @@ pub mod Words
 pub mod FactFile
 pub mod Flat
 pub mod Table
+pub mod Known
 pub mod Filling
 pub mod Examples

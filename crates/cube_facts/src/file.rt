@@ -1,7 +1,8 @@
 // Fact files: facts in the columns that dimensions and measures name, added up at their points.
-ghost use Rattle.std.specs.Prelude.{◌≡◌, ◌⊎◌, List, length, Ok, Err, IfOk, IfErr};
+ghost use Rattle.std.specs.Prelude.{◌≡◌, ◌⊎◌, List, length, Ok, Err, IfOk, IfErr, OnOk};
 ghost use Rattle.cube_model.specs.Answers.{Answers};
 ghost use Rattle.cube_model.specs.Cores.{IsCore};
+ghost use Rattle.cube_model.specs.Dims.{IsDims};
 ghost use Rattle.cube_facts.specs.FactFile.{Fact, facts_of, filled_of};
 ghost use Rattle.cube_facts.specs.Filling.{AreFacts, Gathers};
 ghost use Rattle.cube_facts.specs.declared.fault.FactsFault.TheVariants as fault;
@@ -9,7 +10,7 @@ ghost use Rattle.cube_facts.specs.declared.fault.FactsFault.TheVariants as fault
 use crate::FactsFault;
 use crate::layout::Layout;
 use crate::records::{has_second_mark, open_records};
-use crate::totals::{Points, add_fact, cube_of, shape_of, sort_points};
+use crate::totals::Points;
 use csv::ByteRecord;
 use cube_model::{Cube, Dims, LimitKind, Shape};
 use std::alloc::Global;
@@ -19,7 +20,8 @@ const MAX_POINTS: usize = 65_536;
 
 // The points of a file, with what their facts add up to.
 fn read_points(alloc: Global, dims: &Dims, bytes: &[u8]) -> Result<Points, FactsFault>
-    ensures ok { IfOk result (λ points. (facts : List Fact) × (facts_of dims.now bytes.now ≡ Ok facts) × AreFacts dims.now facts × Gathers (length dims.now.measures) facts points.entries) }
+    ensures ok { IfOk result (λ points. (facts : List Fact) × (facts_of dims.now bytes.now ≡ Ok facts) × AreFacts dims.now facts × Gathers dims.now facts points) }
+    ensures rules { OnOk result (IsDims dims.now) }
     ensures err { IfErr result (λ e. (e ≡ fault.NoMemory) ⊎ (facts_of dims.now bytes.now ≡ Err e)) }
 {
     if has_second_mark(bytes) {
@@ -36,7 +38,7 @@ fn read_points(alloc: Global, dims: &Dims, bytes: &[u8]) -> Result<Points, Facts
         Ok(layout) => layout,
         Err(fault) => return Err(fault),
     };
-    let mut points = Points::new(alloc);
+    let mut points = Points::new(alloc, dims)?;
     let mut leaves = Vec::new(alloc);
     let mut units = Vec::new(alloc);
     'records: for earlier in 0..u64::MAX {
@@ -49,7 +51,7 @@ fn read_points(alloc: Global, dims: &Dims, bytes: &[u8]) -> Result<Points, Facts
             Ok(()) => {}
             Err(fault) => return Err(fault),
         }
-        add_fact(alloc, &mut points, leaves.as_slice(), units.as_slice())?;
+        points.add(alloc, earlier, leaves.as_slice(), units.as_slice())?;
         if points.len() > MAX_POINTS {
             return Err(FactsFault::Limit {
                 which: LimitKind::Points,
@@ -69,10 +71,9 @@ pub fn read_facts(alloc: Global, dims: &Dims, bytes: &[u8]) -> Result<(Shape, Cu
     ensures said { Answers fault.NoMemory result (filled_of dims.now bytes.now) }
     ensures rules { IfOk result (λ filled. IsCore (record { dims = dims.now; shape = filled.0; cube = filled.1 })) }
 {
-    let measures = dims.measures().len();
-    let mut points = read_points(alloc, dims, bytes)?;
-    sort_points(&mut points)?;
-    let shape = shape_of(alloc, &points)?;
-    let cube = cube_of(alloc, &points, measures)?;
+    let points = read_points(alloc, dims, bytes)?;
+    let order = points.order(alloc)?;
+    let shape = points.shape(alloc, order.as_slice())?;
+    let cube = points.cube(alloc, order.as_slice())?;
     Ok((shape, cube))
 }

@@ -5,6 +5,7 @@ mod fault;
 mod file;
 mod flat;
 mod layout;
+mod places;
 mod records;
 mod totals;
 mod worked;

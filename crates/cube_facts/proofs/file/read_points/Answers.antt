@@ -1,12 +1,14 @@
-use Rattle.std.proofs.Common.{Bor, List, ℕ, ℤ, All, ap₂, ◌≡◌, [], ◌∷◌, ◌++◌, length, ◌∙◌, sym, ap, inl, inr, Some, subst, arith}
+use Rattle.std.proofs.Common.{Bor, List, ℕ, ℤ, All, ap₂, ◌≡◌, [], ◌∷◌, ◌∙◌, sym, ap, inl, inr, Some, subst, arith}
 use Rattle.csv.specs.Records.{fields_of}
 use Rattle.csv.specs.Reading.{strip_bom}
-use Rattle.cube_facts.specs.FactFile.{Fact, fact_of, own_faults}
+use Rattle.cube_facts.specs.FactFile.{Fact, fact_of, facts_of, own_faults}
 use Rattle.cube_facts.specs.Filling.{Gathers}
 use Rattle.cube_facts.specs.Table.{IsUnits}
+use Rattle.cube_facts.specs.declared.fault.FactsFault.TheVariants as fault
+use Rattle.cube_facts.proofs.Turns.{no_memory}
 use Rattle.cube_facts.proofs.Whole.{left-end, left-more, first-end, first-more}
 use Rattle.cube_facts.proofs.Left.{left_from}
-use Rattle.cube_facts.proofs.Filled.{start_marked, start_none, start_columns, reads_start, reads_more, reads_fault, reads_points, reads_end, reads_room, fact_rules}
+use Rattle.cube_facts.proofs.Filled.{start_marked, start_none, start_columns, reads_start, reads_more, reads_fault, reads_points, reads_end, reads_fits, fact_rules}
 use Rattle.cube_facts.proofs.file.read_points.Goals as goal
 
 pub returns-then-has_second_mark-clause-err : goal.returns-then-has_second_mark-clause-err
@@ -42,7 +44,7 @@ records-init c =
       between,
       z,
       at_z,
-      reads_start c.args.dims.now c.args.bytes.now c.in-Ok.layout.header c.new-points.result.entries (left_from c.read_byte_record.new.self.state z) (sym c.has_second_mark.ensures ∙ c.if-has_second_mark.false) (step ∙ ap (λ h. h ∷ left_from c.read_byte_record.new.self.state z) header) once c.new-points.ensures.empty,
+      reads_start c.args.dims.now c.args.bytes.now c.in-Ok.layout.header c.in_ok-points.points (left_from c.read_byte_record.new.self.state z) (sym c.has_second_mark.ensures ∙ c.if-has_second_mark.false) (step ∙ ap (λ h. h ∷ left_from c.read_byte_record.new.self.state z) header) once c.in_ok-points.ensures.none,
     )
 
 pub returns-in-Ok-false-read_byte_record-clause-ok : goal.returns-in-Ok-false-read_byte_record-clause-ok
@@ -50,7 +52,7 @@ returns-in-Ok-false-read_byte_record-clause-ok c =
     let (plain, ready, config, between, y, source, reads) = c.records.invariant in
     let read = rw c.in-Ok-false-read_byte_record.field-0-test at (c.in-Ok-false-read_byte_record.ensures.reads plain ready) in
     let none = left-end (λ (s : Bor (List ℕ)). Some s.now) c.records.reader c.read_byte_record-in-records.new.self (fields_of c.read_byte_record-in-records.new.row) y config source read in
-    reads_end c.args.dims.now c.args.bytes.now c.in-Ok.layout.header c.records.points.entries c.records.earlier (left_from c.records.reader.state y) reads none
+    reads_end c.args.dims.now c.args.bytes.now c.in-Ok.layout.header c.records.points c.records.earlier (left_from c.records.reader.state y) reads none
 
 pub returns-in-Err-read_fact-clause-err : goal.returns-in-Err-read_fact-clause-err
 returns-in-Err-read_fact-clause-err c =
@@ -60,11 +62,11 @@ returns-in-Err-read_fact-clause-err c =
     let (z, at_z, next_between, step) = left-more (λ (s : Bor (List ℕ)). Some s.now) c.records.reader c.read_byte_record-in-records.new.self f y config source between read in
     elim (rw c.in-Ok.ensures.ok.1 at c.in-Err-read_fact.ensures.err) [
       | inl memory ↦ inl memory
-      | inr fault ↦ inr (reads_fault c.args.dims.now c.args.bytes.now c.in-Ok.layout.header c.records.points.entries c.records.earlier (left_from c.records.reader.state y) (left_from c.read_byte_record-in-records.new.self.state z) f c.in-Err-read_fact.fault reads step fault)
+      | inr fault ↦ inr (reads_fault c.args.dims.now c.args.bytes.now c.in-Ok.layout.header c.records.points c.records.earlier (left_from c.records.reader.state y) (left_from c.read_byte_record-in-records.new.self.state z) f c.in-Err-read_fact.fault reads step fault)
     ]
 
-pub add_fact-requires-clause-room : goal.add_fact-requires-clause-room
-add_fact-requires-clause-room c =
+pub add-requires : goal.add-requires
+add-requires c =
     let (plain, ready, config, between, y, source, reads) = c.records.invariant in
     let read = rw c.in-Ok-true-read_byte_record.field-0-test at (c.in-Ok-true-read_byte_record.ensures.reads plain ready) in
     let f = fields_of c.read_byte_record-in-records.new.row in
@@ -76,7 +78,7 @@ add_fact-requires-clause-room c =
     let is : fact ≡ fact_of s header f = ap₂ (λ (l : List ℕ) (u : List ℤ). record { leaves = l; units = u }) c.as_slice.ensures.value c.as_slice-in-records.ensures.value ∙ told.fact ∙ ap (λ d. fact_of d header f) c.in-Ok.ensures.ok.1 in
     let bounded : All IsUnits fact.units = subst (All IsUnits) (sym c.as_slice-in-records.ensures.value) told.bounded in
     let rules = fact_rules s header f fact c.in-Ok.ensures.rules is bounded in
-    reads_room s c.args.bytes.now header c.records.points.entries c.records.earlier (length fact.units) (left_from c.records.reader.state y) reads told.few rules.long
+    record { fits = reads_fits s c.args.bytes.now header c.records.points c.records.earlier (left_from c.records.reader.state y) fact reads c.in-Ok.ensures.rules rules told.few }
 
 pub returns-then-len-gt-MAX_POINTS-clause-err : goal.returns-then-len-gt-MAX_POINTS-clause-err
 returns-then-len-gt-MAX_POINTS-clause-err c =
@@ -92,8 +94,8 @@ returns-then-len-gt-MAX_POINTS-clause-err c =
     let bounded : All IsUnits fact.units = subst (All IsUnits) (sym c.as_slice-in-records.ensures.value) told.bounded in
     let rules = fact_rules s header f fact c.in-Ok.ensures.rules is bounded in
     let own : own_faults s header c.records.earlier f ≡ [] = ap (λ d. own_faults d header c.records.earlier f) (sym c.in-Ok.ensures.ok.1) ∙ told.ok in
-    let grown = λ (facts : List Fact). subst (λ (k : ℕ). Gathers k facts c.records.points.entries → Gathers k (facts ++ fact ∷ []) c.add_fact.new.points.entries) rules.long (c.in_ok-add_fact.ensures facts) in
-    inr (reads_points s c.args.bytes.now header c.records.points.entries c.add_fact.new.points.entries c.records.earlier (left_from c.records.reader.state y) (left_from c.read_byte_record-in-records.new.self.state z) f fact reads step own is grown (omega (arith, c.len.ensures.len, c.if-len-gt-MAX_POINTS.true)))
+    let grown = λ (facts : List Fact) (g : Gathers s facts c.records.points). c.in_ok-add.ensures s facts g rules.long in
+    inr (reads_points s c.args.bytes.now header c.records.points c.add.new.self c.records.earlier (left_from c.records.reader.state y) (left_from c.read_byte_record-in-records.new.self.state z) f fact reads step own is grown (omega (arith, c.len.ensures, c.if-len-gt-MAX_POINTS.true)))
 
 pub records-preserved : goal.records-preserved
 records-preserved c =
@@ -109,12 +111,15 @@ records-preserved c =
     let bounded : All IsUnits fact.units = subst (All IsUnits) (sym c.as_slice-in-records.ensures.value) told.bounded in
     let rules = fact_rules s header f fact c.in-Ok.ensures.rules is bounded in
     let own : own_faults s header c.records.earlier f ≡ [] = ap (λ d. own_faults d header c.records.earlier f) (sym c.in-Ok.ensures.ok.1) ∙ told.ok in
-    let grown = λ (facts : List Fact). subst (λ (k : ℕ). Gathers k facts c.records.points.entries → Gathers k (facts ++ fact ∷ []) c.add_fact.new.points.entries) rules.long (c.in_ok-add_fact.ensures facts) in (
+    let grown = λ (facts : List Fact) (g : Gathers s facts c.records.points). c.in_ok-add.ensures s facts g rules.long in (
       read.3 ∙ plain,
       inl (c.in-Ok-true-read_byte_record.ensures.ready plain),
       read.2 ∙ config,
       next_between,
       z,
       at_z,
-      reads_more s c.args.bytes.now header c.records.points.entries c.add_fact.new.points.entries c.records.earlier (left_from c.records.reader.state y) (left_from c.read_byte_record-in-records.new.self.state z) f fact reads step own told.few is rules grown (omega (arith, c.len.ensures.len, c.if-len-gt-MAX_POINTS.false)),
+      reads_more s c.args.bytes.now header c.records.points c.add.new.self c.records.earlier (left_from c.records.reader.state y) (left_from c.read_byte_record-in-records.new.self.state z) f fact reads step own told.few is rules grown (omega (arith, c.len.ensures, c.if-len-gt-MAX_POINTS.false)),
     )
+
+pub returns-in_err-add-clause-err : goal.returns-in_err-add-clause-err
+returns-in_err-add-clause-err c = no_memory fault.NoMemory c.from_residual-in_err-add.result (facts_of c.args.dims.now c.args.bytes.now) c.from_residual-in_err-add.ensures.1

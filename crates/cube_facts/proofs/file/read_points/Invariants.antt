@@ -9,4 +9,4 @@ use Rattle.cube_facts.proofs.file.read_points.Given as goal
 abbrev pub invariant-records : goal.invariant-records
 invariant-records l = (l.reader.trim ≡ trim.None) × Ready l.reader × (l.reader.config ≡ default_config) × (ends_at_end l.reader.state ≡ false)
     × (y : List ℕ) × (source_of (λ s. Some s.now) l.reader ≡ Some y)
-    × Reads l.dims l.bytes l.layout.header l.points.entries l.earlier (left_from l.reader.state y)
+    × Reads l.dims l.bytes l.layout.header l.points l.earlier (left_from l.reader.state y)
