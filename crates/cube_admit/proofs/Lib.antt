@@ -7,3 +7,4 @@ pub mod Colours
 pub mod Judging
 pub mod Boxes
 mod Taking
+mod Compacting

@@ -1,4 +1,5 @@
 pub mod Boxes
+pub mod Compacting
 pub mod Linking
 pub mod Room
 pub mod Sources

@@ -34,6 +34,7 @@ use cube_source::{JudgeTable, Judged, guarded};
 use std::alloc::Global;
 use std::marker::Model;
 
+mod compact;
 mod take;
 
 /// The most requests that a history holds.

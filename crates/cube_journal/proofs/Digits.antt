@@ -8,8 +8,9 @@ use Rattle.hex.proofs.HexLemmas.{length-encode_with}
 use Rattle.cube_io.proofs.Trails.{each_append}
 use Rattle.cube_journal.specs.Digests.{is_digit, is_digest}
 use Rattle.cube_journal.specs.Lines.{IsLine, IsInLine}
-use Rattle.cube_journal.specs.Recovery.{head_words, first_line}
-use Rattle.cube_journal.specs.declared.first.Version.TheVariants.{One}
+use Rattle.cube_journal.specs.Recovery.{head_words, head_line}
+use Rattle.cube_journal.specs.declared.first.Version.{Version}
+use Rattle.cube_journal.specs.declared.first.Version.TheVariants.{One, Two}
 use Rattle.cube_journal.proofs.LineFacts.{clean_text}
 
 pub both : (a b : Bool) → (a && b) ≡ true → (a ≡ true) × (b ≡ true)
@@ -42,14 +43,24 @@ digits_clean (b ∷ text) all =
     let here = both (is_digit b) (list_all is_digit text) all in
     ((λ is. absurd (let e : is_digit 10 ≡ true = subst (λ (n : ℕ). is_digit n ≡ true) is here.0 in cc)), digits_clean text here.1)
 
-pub first_clean : (digest : List ℕ) → is_digest digest ≡ true → IsInLine (head_words One ++ digest)
-first_clean digest lower = each_append (λ b. b ≢ 10) (head_words One) digest (clean_text (head_words One) refl) (digits_clean digest (both (length digest == 64) (list_all is_digit digest) lower).1)
+-- ---- the first line of a version
 
-pub first_is_line : (digest : List ℕ) → is_digest digest ≡ true → IsLine (first_line digest)
-first_is_line digest lower = record { text = head_words One ++ digest; ended = refl; clean = first_clean digest lower }
+words_clean : (version : Version) → IsInLine (head_words version)
+words_clean One = clean_text (head_words One) refl
+words_clean Two = clean_text (head_words Two) refl
 
-pub first_length : (digest : List ℕ) → is_digest digest ≡ true → length (first_line digest) ≡ 80
-first_length digest lower =
+words_length : (version : Version) → length (head_words version) ≡ 15
+words_length One = refl
+words_length Two = refl
+
+pub head_clean : (version : Version) (digest : List ℕ) → is_digest digest ≡ true → IsInLine (head_words version ++ digest)
+head_clean version digest lower = each_append (λ b. b ≢ 10) (head_words version) digest (words_clean version) (digits_clean digest (both (length digest == 64) (list_all is_digit digest) lower).1)
+
+pub head_length : (version : Version) (digest : List ℕ) → is_digest digest ≡ true → length (head_line version digest) ≡ 80
+head_length version digest lower =
     let long : (length digest == 64) ≡ true = (both (length digest == 64) (list_all is_digit digest) lower).0 in
     let many : length digest ≡ 64 = grind (arith, nat_tests) in
-    omega (arith, many, length-append (head_words One ++ digest) (10 ∷ []), length-append (head_words One) digest)
+    omega (arith, many, words_length version, length-append (head_words version ++ digest) (10 ∷ []), length-append (head_words version) digest)
+
+pub head_is_line : (version : Version) (digest : List ℕ) → is_digest digest ≡ true → IsLine (head_line version digest)
+head_is_line version digest lower = record { text = head_words version ++ digest; ended = refl; clean = head_clean version digest lower }

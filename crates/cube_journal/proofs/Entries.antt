@@ -32,7 +32,7 @@ sound_check : (t : Bool) (f : JournalFault) → t ≡ true → check (not t) f �
 sound_check true f e = refl
 sound_check false f e = absurd (cc)
 
-any_more : (q : List ℕ → Bool) (xs : List (List ℕ)) (x : List ℕ) → list_any q (xs ++ x ∷ []) ≡ (list_any q xs || q x)
+pub any_more : (q : List ℕ → Bool) (xs : List (List ℕ)) (x : List ℕ) → list_any q (xs ++ x ∷ []) ≡ (list_any q xs || q x)
 any_more q [] x = by (q x)
   where
     by : (t : Bool) → (t || false) ≡ (false || t)

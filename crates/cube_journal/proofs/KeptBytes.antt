@@ -1,6 +1,5 @@
 -- What is kept of a log recovers what the log did.
-use Rattle.std.proofs.Common.{◌≡◌, ◌≢◌, ℕ, ◌==◌, Bool, true, false, cond, List, [], ◌∷◌, ◌++◌, flat_map, refl, sym, ◌∙◌, ap, arith, append_assoc, Ok, Err, nat_eq, if◌then◌else◌}
-use Rattle.std.specs.List.{starts_with}
+use Rattle.std.proofs.Common.{◌≡◌, ◌≢◌, ℕ, ◌==◌, Bool, true, false, cond, List, [], ◌∷◌, ◌++◌, flat_map, refl, sym, ◌∙◌, ap, arith, Ok}
 use Rattle.std.proofs.lemmas.Bool.Decides.{nat_tests}
 use Rattle.std.proofs.lemmas.List.{append-nil}
 use Rattle.cube_model.specs.Cubes.{Each}
@@ -10,10 +9,10 @@ use Rattle.cube_model.specs.declared.policy.Policy.{Policy}
 use Rattle.cube_journal.specs.Digests.{is_digest}
 use Rattle.cube_journal.specs.Laws.{KeptIs, KeptRecovers}
 use Rattle.cube_journal.specs.Lines.{onto, ended_lines, IsInLine}
-use Rattle.cube_journal.specs.Recovery.{head_words, first_line, recovered, kept_from, kept_of}
+use Rattle.cube_journal.specs.Recovery.{head_words, first_line, recovered, kept_from}
 use Rattle.cube_journal.specs.declared.first.Version.TheVariants.{One}
-use Rattle.cube_journal.proofs.Digits.{first_clean}
-use Rattle.cube_journal.proofs.LineFacts.{is_no_feed, lines_split, whole_line, ended_push}
+use Rattle.cube_journal.proofs.Digits.{head_clean}
+use Rattle.cube_journal.proofs.LineFacts.{lines_split, whole_line, ended_push}
 use Rattle.cube_journal.proofs.Recovering.{begins, begun_recovers, front_recovers, same_lines}
 
 no_feed : (b : ℕ) → (b == 10) ≡ false → b ≢ 10
@@ -33,7 +32,7 @@ clean_lines (b ∷ bs) = go (b == 10) refl (clean_lines bs)
     go false e more = clean_onto b (ended_lines bs) (no_feed b e) more
 
 -- lines with their line feeds, one behind another, are these lines
-lines_again : (ls : List (List ℕ)) → Each IsInLine ls → ended_lines (flat_map (λ text. text ++ 10 ∷ []) ls) ≡ ls
+pub lines_again : (ls : List (List ℕ)) → Each IsInLine ls → ended_lines (flat_map (λ text. text ++ 10 ∷ []) ls) ≡ ls
 lines_again [] e = refl
 lines_again (l ∷ ls) e =
     lines_split (l ++ 10 ∷ []) (flat_map (λ text. text ++ 10 ∷ []) ls) (ended_push l)
@@ -41,7 +40,7 @@ lines_again (l ∷ ls) e =
     ∙ ap (λ (xs : List (List ℕ)). l ∷ xs) (lines_again ls e.1)
 
 first_lines : (digest : List ℕ) → is_digest digest ≡ true → ended_lines (first_line digest) ≡ (head_words One ++ digest) ∷ []
-first_lines digest lower = whole_line (head_words One ++ digest) (first_clean digest lower)
+first_lines digest lower = whole_line (head_words One ++ digest) (head_clean One digest lower)
 
 kept_by : (digest : List ℕ) (s : Dims) (p : Policy) (n : ℕ) (bytes : List ℕ) (es : List Entry) (ls : List (List ℕ)) → is_digest digest ≡ true → recovered digest s p n bytes ≡ Ok es → ended_lines bytes ≡ ls → Each IsInLine ls → KeptIs digest s p n (kept_from (first_line digest) ls) es
 kept_by digest s p n bytes es [] lower is none clean = record {

@@ -22,14 +22,14 @@ use Rattle.cube_journal.proofs.Digits.{both}
 use Rattle.cube_journal.proofs.LineFacts.{clean_text}
 
 -- no line feed, and at most so many bytes
-record Short (n : ℕ) (text : List ℕ) : Type 0 where
-  clean : IsInLine text
-  few : length text ≤ n
+pub record Short (n : ℕ) (text : List ℕ) : Type 0 where
+  pub clean : IsInLine text
+  pub few : length text ≤ n
 
-joins : (a b : ℕ) (x y : List ℕ) → Short a x → Short b y → Short (a + b) (x ++ y)
+pub joins : (a b : ℕ) (x y : List ℕ) → Short a x → Short b y → Short (a + b) (x ++ y)
 joins a b x y f g = record { clean = each_append (λ b. b ≢ 10) x y f.clean g.clean; few = omega (arith, f.few, g.few, length-append x y) }
 
-wider : (a b : ℕ) (x : List ℕ) → a ≤ b → Short a x → Short b x
+pub wider : (a b : ℕ) (x : List ℕ) → a ≤ b → Short a x → Short b x
 wider a b x le f = record { clean = f.clean; few = omega (arith, le, f.few) }
 
 -- ---- names
@@ -52,7 +52,7 @@ all_spelled : (x : List ℕ) → IsInLine x → Short (2 * length x) (flat_map s
 all_spelled [] clean = record { clean = tt; few = omega arith }
 all_spelled (b ∷ x) clean = wider (2 + 2 * length x) (2 * length (b ∷ x)) (flat_map spelled (b ∷ x)) (omega arith) (joins 2 (2 * length x) (spelled b) (flat_map spelled x) (spelled_short (is_marked b) b clean.0) (all_spelled x clean.1))
 
-one_short : (b : ℕ) → b ≢ 10 → Short 1 (b ∷ [])
+pub one_short : (b : ℕ) → b ≢ 10 → Short 1 (b ∷ [])
 one_short b ne = record { clean = (ne, tt); few = omega arith }
 
 quoted_short : (x : List ℕ) → IsInLine x → length x ≤ 128 → Short 258 (quoted x)

@@ -1,4 +1,5 @@
 mod Digits
+pub mod Digested
 mod Entries
 mod Fields
 pub mod KeptBytes
@@ -9,4 +10,5 @@ pub mod Longer
 mod OpeningSteps
 mod Publics
 mod Recovering
+pub mod SecondBack
 mod Steps

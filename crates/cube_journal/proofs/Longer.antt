@@ -1,8 +1,7 @@
 -- A log with the line of one more request, and what the entries of a log are.
 use Rattle.std.proofs.Common.{◌≡◌, ◌⊎◌, inl, inr, ℕ, ◌+◌, Bool, true, false, ◌&&◌, ◌||◌, not, cond, List, [], ◌∷◌, ◌++◌, length, drop, codes, nat_eq, Option, Some, None, is_some, option_to_list, refl, sym, ◌∙◌, ap, subst, append_assoc, Result, Ok, Err, get_or}
-use Rattle.std.specs.List.{list_any, starts_with}
+use Rattle.std.specs.List.{starts_with}
 use Rattle.std.specs.Str.{bytes_eq}
-use Rattle.std.proofs.lemmas.Bool.{and_parts, false≢true}
 use Rattle.std.proofs.lemmas.Grind.{flat_map-append}
 use Rattle.std.proofs.lemmas.List.{append-nil}
 use Rattle.std.proofs.lemmas.Slice.Eq.{bytes_eq-Decides}
@@ -24,7 +23,7 @@ use Rattle.cube_query.specs.declared.fault.RequestFault.{RequestFault}
 use Rattle.cube_query.proofs.Back.{reads_back}
 use Rattle.cube_query.proofs.Valid.{read_is_valid}
 use Rattle.cube_journal.specs.Lines.{IsPrefix, IsInLine, IsEnded, ended_lines}
-use Rattle.cube_journal.specs.Recovery.{first_line, entry_of, asked_if, is_controlled, is_request_line, is_sound, is_second, may_hold, damage, entries_in, lines_in, with_version, version_of, recovered_from, recovered, source_of, link_of, linked_if, numbers_of, fields}
+use Rattle.cube_journal.specs.Recovery.{first_line, entry_of, asked_if, is_controlled, is_request_line, may_hold, damage, entries_in, lines_in, with_version, version_of, recovered_from, recovered, source_of, link_of, linked_if, numbers_of, fields}
 use Rattle.cube_journal.specs.Laws.{LogsGrow, EntriesAreSound}
 use Rattle.cube_journal.specs.RequestLines.{request_line}
 use Rattle.cube_journal.specs.Sound.{IsSound}

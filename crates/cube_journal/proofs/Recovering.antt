@@ -11,9 +11,9 @@ use Rattle.cube_journal.specs.Lines.{IsPrefix, ended_lines}
 use Rattle.cube_journal.specs.Keeping.{Restores}
 use Rattle.cube_journal.specs.Recovery.{head_words, first_line, version_of, with_version, lines_in, recovered_from, recovered}
 use Rattle.cube_journal.specs.declared.fault.JournalFault.TheVariants.{Damaged, OtherCube}
-use Rattle.cube_journal.specs.declared.first.Version.TheVariants.{One}
+use Rattle.cube_journal.specs.declared.first.Version.TheVariants.{One, Two}
 use Rattle.cube_journal.proofs.LineFacts.{torn_lines}
-use Rattle.cube_journal.proofs.Digits.{first_clean}
+use Rattle.cube_journal.proofs.Digits.{head_clean}
 use Rattle.cube_journal.proofs.OpeningSteps.{starts_true}
 
 begins_by : (t : Bool) (h : List Entry) → (if t then Ok [] else Err (Damaged 1)) ≡ Ok h → t ≡ true
@@ -28,6 +28,9 @@ begins digest s p n x h is none = begins_by (starts_with nat_eq (first_line dige
 reads_one : (digest : List ℕ) → is_digest digest ≡ true → version_of (head_words One ++ digest) ≡ Some One
 reads_one digest lower = rw lower refl
 
+pub reads_two : (digest : List ℕ) → is_digest digest ≡ true → version_of (head_words Two ++ digest) ≡ Some Two
+reads_two digest lower = rw lower refl
+
 -- the beginning of a first line is an empty journal
 pub front_recovers : (digest : List ℕ) (s : Dims) (p : Policy) (n : ℕ) (b : List ℕ) → is_digest digest ≡ true → IsPrefix b (first_line digest) → recovered digest s p n b ≡ Ok []
 unfolding recovered
@@ -36,7 +39,7 @@ front_recovers digest s p n b lower prefix =
     (λ none. ap (recovered_from digest s p n b) none ∙ ap (λ (t : Bool). if t then Ok [] else Err (Damaged 1)) (starts_true (first_line digest) b prefix.0 prefix.1))
     (λ one. ap (recovered_from digest s p n b) one ∙ ap (with_version digest s p n (head_words One ++ digest) []) (reads_one digest lower)
     ∙ ap (λ (t : Bool). if t then lines_in s p n One [] else Err (OtherCube digest digest)) ((bytes_eq-Decides digest digest).1 refl))
-    (torn_lines (head_words One ++ digest) b prefix.0 (first_clean digest lower) prefix.1)
+    (torn_lines (head_words One ++ digest) b prefix.0 (head_clean One digest lower) prefix.1)
 
 -- with some lines that end, the lines alone say what is recovered
 lines_recover : (digest : List ℕ) (s : Dims) (p : Policy) (n : ℕ) (b x : List ℕ) (ls : List (List ℕ)) → (ls ≡ [] → ⊥) → recovered_from digest s p n b ls ≡ recovered_from digest s p n x ls

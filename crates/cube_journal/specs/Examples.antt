@@ -4,6 +4,7 @@ use Rattle.std.specs.List.{flat_map}
 use Rattle.std.specs.Fmt.{decimal}
 use Rattle.cube_model.specs.declared.entry.Entry.{Entry}
 use Rattle.cube_model.specs.declared.entry.Entry.TheVariants.{Asked, Source, Linked}
+use Rattle.cube_model.specs.declared.link.Link.TheVariants.{Pair, Single}
 use Rattle.cube_model.specs.declared.policy.Method.TheVariants.{Lattice, Parity}
 use Rattle.cube_model.specs.declared.policy.Policy.{Policy}
 use Rattle.cube_model.specs.declared.shape.Shape.{Shape}
@@ -37,3 +38,7 @@ said (Err journal.NoMemory) = codes "no memory"
 -- what these bytes recover of the pay cube, in words
 abbrev pub recovers : List ℕ → List ℕ
 recovers bytes = said (recovered digits pay_dims pay_policy 5 bytes)
+
+-- a source of pay, and two links of hours
+abbrev pub compact_history : List Entry
+compact_history = Source 0 (2 ∷ 0 ∷ []) ∷ Linked 1 (Pair 0 2) ∷ Linked 1 (Single 4) ∷ []

@@ -6,5 +6,6 @@ pub mod Opening
 pub mod PublicText
 pub mod Recovery
 pub mod RequestLines
+pub mod SecondText
 pub mod Sound
 pub mod Laws

@@ -35,9 +35,13 @@ abbrev pub head_words : Version → List ℕ
 head_words One = codes "cube-journal 1 "
 head_words Two = codes "cube-journal 2 "
 
+-- the line that begins a journal of a version
+abbrev pub head_line : Version → List ℕ → List ℕ
+head_line version digest = head_words version ++ digest ++ 10 ∷ []
+
 -- the line that begins a new journal
 abbrev pub first_line : List ℕ → List ℕ
-first_line digest = head_words One ++ digest ++ 10 ∷ []
+first_line digest = head_line One digest
 
 -- the line, without its line feed, begins a journal of this version
 abbrev pub is_first : Version → List ℕ → Bool

@@ -2,7 +2,7 @@
 ghost use Rattle.std.specs.Prelude.{◌≡◌, length, drop, true, false, None, Some, IfOk, OnOk, IfSome, IfNone};
 ghost use Rattle.cube_journal.specs.Digests.{is_digest};
 ghost use Rattle.cube_journal.specs.Lines.{IsLine};
-ghost use Rattle.cube_journal.specs.Recovery.{head_words, first_line, is_first, version_of};
+ghost use Rattle.cube_journal.specs.Recovery.{head_words, head_line, first_line, is_first, version_of};
 
 use crate::Digest;
 use cube_model::{NoMemory, Text};
@@ -27,6 +27,20 @@ fn head_words(version: Version) -> &'static [u8]
     }
 }
 
+/// The line that begins a journal of a version, with its line feed.
+pub fn head_line(alloc: Global, version: Version, digest: &Digest) -> Result<Text, NoMemory>
+    ensures text { IfOk result (λ line. line ≡ head_line version digest.now) }
+    ensures line { IfOk result (λ line. IsLine line) }
+    ensures digits { OnOk result (is_digest digest.now ≡ true) }
+    ensures long { IfOk result (λ line. length line ≡ 80) }
+{
+    let digits = digest.digits();
+    let mut line = Text::from_bytes(alloc, head_words(version))?;
+    line.extend(digits)?;
+    line.push(b'\n')?;
+    Ok(line)
+}
+
 /// The line that begins a new journal, with its line feed.
 pub fn first_line(alloc: Global, digest: &Digest) -> Result<Text, NoMemory>
     ensures text { IfOk result (λ line. line ≡ first_line digest.now) }
@@ -34,11 +48,7 @@ pub fn first_line(alloc: Global, digest: &Digest) -> Result<Text, NoMemory>
     ensures digits { OnOk result (is_digest digest.now ≡ true) }
     ensures long { IfOk result (λ line. length line ≡ 80) }
 {
-    let digits = digest.digits();
-    let mut line = Text::from_bytes(alloc, head_words(Version::One))?;
-    line.extend(digits)?;
-    line.push(b'\n')?;
-    Ok(line)
+    head_line(alloc, Version::One, digest)
 }
 
 /// What stands behind the words of a first line.

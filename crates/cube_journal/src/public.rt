@@ -29,15 +29,16 @@ fn push_names(text: &mut Text, names: &[Text]) -> Result<(), NoMemory>
 }
 
 /// Puts a number behind a blank.
-fn push_number(text: &mut Text, number: u64) -> Result<(), NoMemory>
+pub(crate) fn push_number(text: &mut Text, number: u64) -> Result<(), NoMemory>
     ensures { OnOk result (text.new ≡ text.old ++ number_fields (number ∷ [])) }
 {
     text.push(b' ')?;
     text.push_number(number)
 }
 
+/// Puts numbers, each behind a blank.
 #[tactic(auto, using(crate::proofs::Publics::flat_more))]
-fn push_numbers(text: &mut Text, numbers: &[u32]) -> Result<(), NoMemory>
+pub(crate) fn push_numbers(text: &mut Text, numbers: &[u32]) -> Result<(), NoMemory>
     ensures { OnOk result (text.new ≡ text.old ++ number_fields numbers.now) }
 {
     for (i, number) in numbers.iter().enumerate() {

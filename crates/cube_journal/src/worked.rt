@@ -2,7 +2,8 @@
 ghost use Rattle.std.specs.Prelude.{◌≡◌, ◌++◌, codes};
 ghost use Rattle.cube_dims.specs.Examples.{pay_dims};
 ghost use Rattle.cube_journal.specs.PublicText.{public_text_of};
-ghost use Rattle.cube_journal.specs.Examples.{pay_policy, pay_shape, digits, recovers};
+ghost use Rattle.cube_journal.specs.Examples.{pay_policy, pay_shape, digits, recovers, compact_history};
+ghost use Rattle.cube_journal.specs.SecondText.{journal2_text};
 
 /// What is public of the pay cube, and journals of it: whole, torn, begun, and damaged ones.
 pub fn worked_journals()
@@ -17,4 +18,6 @@ pub fn worked_journals()
     ensures late { recovers (codes "cube-journal 2 " ++ digits ++ codes "\nq slice pay by time.month\ns 0 2 0\n") ≡ codes "damaged 3" }
     ensures same_place { recovers (codes "cube-journal 2 " ++ digits ++ codes "\nk 1 2 2\n") ≡ codes "damaged 2" }
     ensures leading_zero { recovers (codes "cube-journal 2 " ++ digits ++ codes "\ns 0 02 0\n") ≡ codes "damaged 2" }
+    ensures compact { journal2_text digits compact_history ≡ codes "cube-journal 2 " ++ digits ++ codes "\ns 0 2 0\nk 1 0 2\nk 1 4\n" }
+    ensures compact_back { recovers (journal2_text digits compact_history) ≡ codes "source 0\nlink 1\nlink 1\n" }
 {}

@@ -53,3 +53,11 @@ returns-clause-same_place c = refl
 pub returns-clause-leading_zero : goal.returns-clause-leading_zero
 unfolding digits is_utf8 chars lib.Utf8.encode public_text_of recovered entry_of request_of request_text query_of queries is_begun syntax_at resolved is_bare
 returns-clause-leading_zero c = refl
+
+pub returns-clause-compact : goal.returns-clause-compact
+unfolding digits is_utf8 chars lib.Utf8.encode public_text_of recovered entry_of request_of request_text query_of queries is_begun syntax_at resolved is_bare
+returns-clause-compact c = refl
+
+pub returns-clause-compact_back : goal.returns-clause-compact_back
+unfolding digits is_utf8 chars lib.Utf8.encode public_text_of recovered entry_of request_of request_text query_of queries is_begun syntax_at resolved is_bare
+returns-clause-compact_back c = refl

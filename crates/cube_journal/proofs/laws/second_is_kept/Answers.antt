@@ -1,0 +1,5 @@
+use Rattle.cube_journal.proofs.SecondBack as second
+use Rattle.cube_journal.proofs.laws.second_is_kept.Goals as goal
+
+pub returns : goal.returns
+returns c = second.second_is_kept
