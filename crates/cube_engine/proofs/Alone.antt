@@ -63,6 +63,9 @@ longer xs x e = absurd (let l = ap length e in let m = length-append xs (x ∷ [
 pub enters : (s : Dims) (w : World) (h : List Entry) (a : Ask) (r : Request) → (manner s).next (alone w h) a Given ≡ alone w (h ++ Asked r ∷ []) → (manner s).next (alone w h) a Given ≢ alone w h
 enters s w h a r e f = longer h (Asked r) (ap first_history (sym e ∙ f))
 
+pub entered : (h k : List Entry) (r : Request) → k ≡ h ++ Asked r ∷ [] → k ≢ h
+entered h k r e f = longer h (Asked r) (sym e ∙ f)
+
 -- ---- a turn
 
 turned : (m : Manner) (a : Ask) (rooms rooms' : List Room) (outcomes outcomes' : List Outcome) (reply : Reply) (o : Outcome) (faults faults' : ℕ) → SettleCause o (m.next rooms a Given ≢ rooms) faults faults' → outcomes' ≡ outcomes ++ o ∷ []

@@ -1,4 +1,6 @@
 pub mod Alone
+pub mod Alike
+pub mod KeepsAll
 pub mod Named
 pub mod Worlds
 mod Preparing

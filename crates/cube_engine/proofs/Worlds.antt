@@ -49,14 +49,14 @@ Reads s g = (text : List ℕ) (r : Request) → request_of s text ≡ Ok r → i
 pub texts_read : (c : Core) (p : Policy) → IsCore c → IsPolicy c.dims p → Reads c.dims (shown c p)
 texts_read c p core policy text r read = valid_under c p r policy (read_is_valid c.dims text r core.dims read)
 
-first_of : (x y : Told) (xs ys : List Told) → x ∷ xs ≡ y ∷ ys → x ≡ y
+pub first_of : (x y : Told) (xs ys : List Told) → x ∷ xs ≡ y ∷ ys → x ≡ y
 first_of x y xs ys e = cc
 
 -- the reply to a valid request under the rules is what is said to it
-told_of : (w : World) (h : List Entry) (r : Request) → is_valid w.shown r ≡ true → replied (question.Query r) w h ≡ told.ToQuery (told_by w r (verdict w.shown h r))
+pub told_of : (w : World) (h : List Entry) (r : Request) → is_valid w.shown r ≡ true → replied (question.Query r) w h ≡ told.ToQuery (told_by w r (verdict w.shown h r))
 told_of w h r valid = rw valid refl
 
-query_same : (x y : QueryReply) → told.ToQuery x ≡ told.ToQuery y → x ≡ y
+pub query_same : (x y : QueryReply) → told.ToQuery x ≡ told.ToQuery y → x ≡ y
 query_same x y e = cc
 
 -- one request
@@ -136,7 +136,7 @@ given_stays s g h (Query text) adm = read_stays g h (request_of s text) adm
 given_stays s g h (Witness text) adm = adm
 given_stays s g h Shape adm = adm
 
-question_stays : (s : Dims) (g : Public) (h : List Entry) (q : Question) (o : Outcome) → IsAdmissible g h → IsAdmissible g (next_by (by_words s) o q g h)
+pub question_stays : (s : Dims) (g : Public) (h : List Entry) (q : Question) (o : Outcome) → IsAdmissible g h → IsAdmissible g (next_by (by_words s) o q g h)
 question_stays s g h q Given adm = given_stays s g h q adm
 question_stays s g h q JournalFault adm = adm
 question_stays s g h q NoMemory adm = adm

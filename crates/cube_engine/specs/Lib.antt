@@ -1,4 +1,5 @@
 pub mod Changes
+pub mod Compacting
 pub mod Books
 pub mod Constant
 pub mod Engines

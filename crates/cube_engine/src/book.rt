@@ -10,6 +10,7 @@ ghost use Rattle.cube_io.specs.Told.{Works, OthersStay};
 ghost use Rattle.cube_journal.specs.Keeping.{IsInRecovery};
 ghost use Rattle.cube_engine.specs.Books.{IsWaiting, entry_waiting, with_waiting};
 ghost use Rattle.cube_engine.specs.Changes.{Refuses, changes_for, text_of, twin_for};
+ghost use Rattle.cube_engine.specs.Compacting.{compacted_text};
 ghost use Rattle.cube_engine.specs.Kept.{history_of, IsKept, IsExact, IsWithin};
 ghost use Rattle.cube_engine.specs.Opening.{StartCause, IsStartFault};
 ghost use Rattle.cube_engine.specs.Prepared.{QuestionComes};
@@ -25,7 +26,7 @@ use cube_admit::State;
 use cube_core::{Core, Steps};
 use cube_io::{Failed, Store};
 use cube_journal::{Journal, Line};
-use cube_model::{Policy, Question, Text};
+use cube_model::{NoMemory, Policy, Question, Text};
 use std::alloc::Global;
 use std::marker::Model;
 use std::sync::ledger::Ledger;
@@ -124,6 +125,14 @@ impl Book {
         ensures err { IfErr result (λ why. Refuses why (twin_for self.now.core self.now.policy self.now.history text.now)) }
     {
         self.holding.twin_text(alloc, text)
+    }
+
+    /// The text of a journal that holds what the history holds, by no request.
+    pub fn compacted_text(&self, alloc: Global) -> Result<Text, NoMemory>
+        requires { self.now.waiting ≡ None }
+        ensures { IfOk result (λ text. text ≡ compacted_text self.now.core self.now.policy self.now.history) }
+    {
+        self.holding.compacted_text(alloc)
     }
 
     // What a query comes to.

@@ -13,6 +13,7 @@ ghost use Rattle.cube_io.specs.Told.{Works, OthersStay};
 ghost use Rattle.cube_journal.specs.Keeping.{IsInRecovery};
 ghost use Rattle.cube_engine.specs.Books.{book_rooms, with_waiting, StaysExact};
 ghost use Rattle.cube_engine.specs.Changes.{Refuses, changes_for, text_of, twin_for};
+ghost use Rattle.cube_engine.specs.Compacting.{compacted_text};
 ghost use Rattle.cube_engine.specs.Engines.{book_of, rooms_of};
 ghost use Rattle.cube_engine.specs.Kept.{history_of, IsKept, IsExact, IsWithin};
 ghost use Rattle.cube_engine.specs.Opening.{StartCause, IsStartFault};
@@ -27,7 +28,7 @@ use crate::{Book, EngineFault, NoChanges};
 use cube_admit::State;
 use cube_core::{Core, Steps};
 use cube_io::Store;
-use cube_model::{Ask, Fixed, Kind, Outcome, Outcomes, Policy, Reply, Text};
+use cube_model::{Ask, Fixed, Kind, NoMemory, Outcome, Outcomes, Policy, Reply, Text};
 use std::alloc::Global;
 use std::marker::Model;
 use std::sync::ledger::{Blank, Ledger};
@@ -201,6 +202,14 @@ impl Engine {
         ensures err { IfErr result (λ why. Refuses why (twin_for self.now.core self.now.policy self.now.history text.now)) }
     {
         self.book.twin_text(alloc, text)
+    }
+
+    /// The text of a journal that holds what the history holds, by no request: that journal gives the replies that this one gives, until
+    /// one says that the history is full.
+    pub fn compacted_text(&self, alloc: Global) -> Result<Text, NoMemory>
+        ensures { IfOk result (λ text. text ≡ compacted_text self.now.core self.now.policy self.now.history) }
+    {
+        self.book.compacted_text(alloc)
     }
 
     /// What became of the asks so far, in turn.

@@ -31,8 +31,8 @@ impl From<NoMemory> for EngineFault {
     }
 }
 
-// The digest of what is public of a cube.
-fn digest_for(alloc: Global, core: &Core, policy: &Policy) -> Result<Digest, NoMemory>
+/// The digest of what is public of a cube.
+pub(crate) fn digest_for(alloc: Global, core: &Core, policy: &Policy) -> Result<Digest, NoMemory>
     requires { IsPolicy core.now.dims policy.now }
     ensures { IfOk result (λ digest. digest ≡ digest_for core.now policy.now) }
 {

@@ -7,7 +7,7 @@ use std::marker::Model;
 
 /// The outcomes of the asks so far, and room for a number of others, which take no memory.
 #[derive(Drop)]
-pub(crate) struct Turns {
+pub struct Turns {
     outcomes: Vec<Outcome>,
     left: u64,
 }
@@ -26,7 +26,7 @@ impl Model for Turns {
 
 impl Turns {
     /// No outcome yet, and room for so many.
-    pub(crate) fn new(alloc: Global, room: u64) -> Result<Turns, NoMemory>
+    pub fn new(alloc: Global, room: u64) -> Result<Turns, NoMemory>
         ensures { IfOk result (λ turns. turns ≡ record { outcomes = []; left = room }) }
     {
         Ok(Turns {
@@ -36,7 +36,7 @@ impl Turns {
     }
 
     /// Adds what became of one more ask.
-    pub(crate) fn record(&mut self, outcome: Outcome)
+    pub fn record(&mut self, outcome: Outcome)
         requires { 1 ≤ self.old.left }
         ensures outcomes { self.new.outcomes ≡ self.old.outcomes ++ outcome ∷ [] }
         ensures left { self.new.left + 1 ≡ self.old.left }
@@ -48,21 +48,21 @@ impl Turns {
     }
 
     /// What became of the asks, in turn.
-    pub(crate) fn outcomes(&self) -> &[Outcome]
+    pub fn outcomes(&self) -> &[Outcome]
         ensures { result.now ≡ self.now.outcomes }
     {
         self.outcomes.as_slice()
     }
 
     /// How many more there is room for.
-    pub(crate) fn left(&self) -> u64
+    pub fn left(&self) -> u64
         ensures { result ≡ self.now.left }
     {
         self.left
     }
 
     /// What became of the asks, for good.
-    pub(crate) fn finish(self) -> Outcomes
+    pub fn finish(self) -> Outcomes
         ensures { result ≡ self.outcomes }
     {
         Items::from_vec(self.outcomes)
