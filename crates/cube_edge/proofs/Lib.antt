@@ -1,4 +1,5 @@
 mod Appending
 pub mod Outgoing
 mod Paths
+mod Replacing
 mod Tying

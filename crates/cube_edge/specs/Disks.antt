@@ -1,9 +1,9 @@
 -- What a disk tells of its files, what its calls leave as it was, and which of its files are the logs of a store.
-use Rattle.std.specs.Prelude.{◌≡◌, ◌≢◌, ℕ, ◌^◌, ◌==◌, Bool, true, false, IsTrue, List, [], ◌++◌, None, if◌then◌else◌, nat_lt, codes, decimal}
+use Rattle.std.specs.Prelude.{◌≡◌, ◌≢◌, ◌⊎◌, ℕ, ◌^◌, ◌==◌, Bool, true, false, IsTrue, List, [], ◌++◌, None, if◌then◌else◌, nat_lt, codes, decimal}
 use Rattle.std.specs.declared.option.Option.{Option}
 use Rattle.cube_io.specs.Seen.{StoreState}
 use Rattle.cube_io.specs.declared.store.TheConstants.{SEAL_LOG}
-use Rattle.cube_io.specs.States.{Log, IsWhole, settled}
+use Rattle.cube_io.specs.States.{State, Log, IsWhole, settled}
 use Rattle.cube_io.specs.Whole.{whole_settled}
 
 -- Of a disk: whether it tells what it holds, the one name whose files it then tells, the names that it was asked for, the log in the file
@@ -28,6 +28,21 @@ pub record WorksAt (path : List ℕ) (old new : DiskState) : Type 0 where
   pub name : new.name ≡ old.name
   pub names : new.names ≡ old.names
   pub others : IsTrue old.told → (other : List ℕ) → other ≢ path → new.logs other ≡ old.logs other
+
+-- a call that changes no file but those of two paths, and asks for no name
+pub record WorksAtTwo (one two : List ℕ) (old new : DiskState) : Type 0 where
+  pub told : new.told ≡ old.told
+  pub name : new.name ≡ old.name
+  pub names : new.names ≡ old.names
+  pub others : IsTrue old.told → (other : List ℕ) → other ≢ one → other ≢ two → new.logs other ≡ old.logs other
+
+-- a state while one file takes the place of another: what stood there, or what comes there
+abbrev pub IsEither : State → State → State → Type 0
+IsEither there comes s = (s ≡ there) ⊎ (s ≡ comes)
+
+-- as it was, or just these bytes, all of them on the disk
+abbrev pub IsOldOrNew : List ℕ → State → State → Type 0
+IsOldOrNew bytes old s = (s ≡ old) ⊎ (s ≡ settled bytes)
 
 -- the path of a log: the name of log 0; that name and `.seal` of the log of the seal; and of each other log that name, a point and the
 -- number

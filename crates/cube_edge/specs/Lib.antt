@@ -1,5 +1,6 @@
 pub mod Disks
 pub mod Flows
 pub mod Links
+pub mod Outs
 pub mod Sockets
 pub mod Watches

@@ -1,9 +1,9 @@
 // Files by their names, as a store of logs needs them.
 ghost use Rattle.std.specs.Prelude.{◌≡◌, ◌↔◌, ◌≤◌, ◌<◌, ◌+◌, ◌^◌, ℕ, List, Option, Some, drop, length, IsTrue, IfOk, OnOk, OnErr, IsErrOf};
 ghost use Rattle.cube_io.specs.declared.faults.ReadFault.TheVariants as fault;
-ghost use Rattle.cube_io.specs.States.{IsWhole, Appended, Cut, Synced, shortened, settled};
+ghost use Rattle.cube_io.specs.States.{IsWhole, Appended, Cut, Synced, Gained, shortened, settled};
 ghost use Rattle.cube_io.specs.Told.{AsksFor};
-ghost use Rattle.cube_edge.specs.Disks.{DiskState, Rests, WorksAt};
+ghost use Rattle.cube_edge.specs.Disks.{DiskState, Rests, WorksAt, WorksAtTwo, IsEither};
 
 use cube_io::{Failed, ReadFault};
 use cube_model::Text;
@@ -135,6 +135,18 @@ pub trait Disk {
         ensures passes { IsTrue (state self.old).told → Synced ((state self.old).logs path.now) ((state self.new).logs path.now) }
         ensures done { IsTrue (state self.old).told → OnOk result (((state self.new).logs path.now).state ≡ settled ((state self.old).logs path.now).state.now) }
         ensures failed { IsTrue (state self.old).told → OnErr result (((state self.new).logs path.now).state ≡ ((state self.old).logs path.now).state) };
+
+    /// Gives a file, which was just seen behind the path `from`, the path `to`, in the place of what stood there, and puts the
+    /// names on the disk. Each moment's crash leaves the old file or this one there; so it does behind a call that failed,
+    /// whichever of them a read gives then. Nothing is said of what stands behind `from` afterwards.
+    fn replace(&mut self, file: Self::File, from: &str, to: &str) -> Result<(), Trouble>
+        requires seen { IsTrue (state self.old).told → (state self.old).seen ≡ Some (place file) }
+        requires file { IsTrue (state self.old).told → place file ≡ from.now }
+        ensures works { WorksAtTwo from.now to.now (state self.old) (state self.new) }
+        ensures passes { IsTrue (state self.old).told → Gained (IsEither ((state self.old).logs to.now).state ((state self.old).logs from.now).state)
+            ((state self.old).logs to.now) ((state self.new).logs to.now) }
+        ensures done { IsTrue (state self.old).told → OnOk result (((state self.new).logs to.now).state ≡ ((state self.old).logs from.now).state) }
+        ensures failed { IsTrue (state self.old).told → OnErr result (IsEither ((state self.old).logs to.now).state ((state self.old).logs from.now).state ((state self.new).logs to.now).state) };
 
     /// What is safe, followed by some tail, is what a read gives.
     ghost whole: { (disk : Self) (path : List ℕ) → IsTrue (state disk).told → IsWhole ((state disk).logs path).state };

@@ -6,11 +6,13 @@
 #![tactic(auto)]
 
 mod disk;
+mod either_sink;
 mod folder;
 mod hub;
 mod link;
 mod machine;
 mod mem_watch;
+mod out_file;
 mod sink;
 mod sockets;
 mod source;
@@ -22,9 +24,11 @@ mod watch;
 mod wire;
 
 pub use disk::{Disk, Extent, Trouble};
+pub use either_sink::EitherSink;
 pub use folder::FileFolder;
 pub use machine::MachineDisk;
 pub use mem_watch::MemWatch;
+pub use out_file::{OutFile, replace_whole};
 pub use sink::WriterSink;
 pub use sockets::{Gone, Sockets};
 pub use source::ReaderSource;

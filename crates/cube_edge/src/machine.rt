@@ -83,6 +83,15 @@ fn look<R: Files>(rt: &R, file: &File, path: &str, left: Extent) -> Result<(), T
     }
 }
 
+/// Whether a regular file stands behind a path, or nothing.
+fn is_free<R: Files>(rt: &R, path: &str) -> io::Result<bool> {
+    match fs::metadata(rt, path) {
+        Ok(there) => Ok(there.is_file()),
+        Err(error) if error.kind() == ErrorKind::NotFound => Ok(true),
+        Err(error) => Err(error),
+    }
+}
+
 /// All bytes of a file.
 fn read_log<F: Read + Seek>(file: &mut F, alloc: Global) -> Result<Text, ReadFault>
     ensures { IfOk result (λ text. length text ≤ 2 ^ 28) }
@@ -146,5 +155,13 @@ impl<R: Files<File = File> + AllocGlobal> Disk for MachineDisk<'_, R> {
     fn sync(&mut self, file: &File, path: &str, left: Extent) -> Result<(), Trouble> {
         file.sync_all()?;
         look(self.rt, file, path, left)
+    }
+
+    fn replace(&mut self, _file: File, from: &str, to: &str) -> Result<(), Trouble> {
+        if !is_free(self.rt, to)? {
+            return Err(Trouble::NoFile);
+        }
+        fs::rename(self.rt, from, to)?;
+        Ok(sync_folder(self.rt, to)?)
     }
 }

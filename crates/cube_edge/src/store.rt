@@ -21,9 +21,9 @@ pub const MAX_PATH: usize = 4_096;
 
 /// The file of a log: locked, so that no other program that asks for the lock has it, and as this program left it.
 #[derive(Drop)]
-struct LogFile<D: Disk> {
-    file: D::File,
-    left: Extent,
+pub(crate) struct LogFile<D: Disk> {
+    pub(crate) file: D::File,
+    pub(crate) left: Extent,
 }
 
 /// Writes all of a piece at the end of a file, or a front of it where that fails.
@@ -45,7 +45,7 @@ fn write_whole<D: Disk>(disk: &mut D, file: &mut D::File, piece: &[u8]) -> Resul
 }
 
 /// Opens the file of a path, makes it where it isn't there, and locks it before anything is read. Its name is on the disk then.
-fn open_log<D: Disk>(disk: &mut D, path: &str) -> Result<LogFile<D>, Trouble>
+pub(crate) fn open_log<D: Disk>(disk: &mut D, path: &str) -> Result<LogFile<D>, Trouble>
     ensures rests { Rests (D.state disk.old) (D.state disk.new) }
 {
     let opened = disk.open(path)?;
@@ -59,7 +59,7 @@ fn open_log<D: Disk>(disk: &mut D, path: &str) -> Result<LogFile<D>, Trouble>
 
 impl<D: Disk> LogFile<D> {
     /// Puts a piece at the end.
-    fn append(&mut self, disk: &mut D, path: &str, piece: &[u8]) -> Result<(), Trouble>
+    pub(crate) fn append(&mut self, disk: &mut D, path: &str, piece: &[u8]) -> Result<(), Trouble>
         ensures works { WorksAt path.now (D.state disk.old) (D.state disk.new) }
         ensures grows { IsTrue (D.state disk.old).told → (unsaid : List ℕ) × OnOk result (unsaid ≡ [])
             × Appended piece.now unsaid ((D.state disk.old).logs path.now) ((D.state disk.new).logs path.now) }
@@ -75,7 +75,7 @@ impl<D: Disk> LogFile<D> {
     }
 
     /// Cuts the file to a length that it has.
-    fn cut(&mut self, disk: &mut D, path: &str, len: u64) -> Result<(), Trouble>
+    pub(crate) fn cut(&mut self, disk: &mut D, path: &str, len: u64) -> Result<(), Trouble>
         requires { IsTrue (D.state disk.old).told → len ≤ length ((D.state disk.old).logs path.now).state.now }
         ensures works { WorksAt path.now (D.state disk.old) (D.state disk.new) }
         ensures passes { IsTrue (D.state disk.old).told → Cut len ((D.state disk.old).logs path.now) ((D.state disk.new).logs path.now) }
@@ -106,7 +106,7 @@ fn put_ending(path: &mut String, log: u32) -> Result<(), AllocError>
 }
 
 /// Says in the notes why the file of a path is not worked on.
-fn note<N: Write>(notes: &mut N, path: &str, trouble: &Trouble) -> Failed {
+pub(crate) fn note<N: Write>(notes: &mut N, path: &str, trouble: &Trouble) -> Failed {
     let _ = writeln!(notes, "{path}: {trouble}");
     Failed
 }
@@ -316,7 +316,7 @@ impl<D: Disk + Drop, N: Write + Drop> FileStore<D, N> {
 }
 
 /// Counts a fault where a call failed.
-fn counted(faults: &mut u64, done: Result<(), Failed>) -> Result<(), Failed>
+pub(crate) fn counted(faults: &mut u64, done: Result<(), Failed>) -> Result<(), Failed>
     ensures same { result ≡ done }
     ensures cause { HasCause faults.old faults.new result }
 {

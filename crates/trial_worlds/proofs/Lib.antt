@@ -1,2 +1,2 @@
 mod Clients
-mod OneDisk
+mod Steps

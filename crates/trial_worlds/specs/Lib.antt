@@ -1,2 +1,3 @@
+pub mod Deeds
 pub mod OneClient
-pub mod OneFile
+pub mod Pairs

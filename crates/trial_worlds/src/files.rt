@@ -3,7 +3,7 @@ ghost use Rattle.std.specs.Prelude.{IsTrue, IfOk};
 
 use crate::mem_disk::MemDisk;
 use cube_edge::FileStore;
-use cube_io::{MemStore, Store};
+use cube_io::Store;
 use cube_model::Text;
 use std::alloc::Global;
 use std::test::Fail;
@@ -14,13 +14,13 @@ fn make_store<'a>(
     alloc: Global,
     failing: u64,
     notes: &'a mut [u8],
-) -> Result<FileStore<MemDisk<MemStore>, &'a mut [u8]>, Fail>
-    ensures { IfOk result (λ store. IsTrue (⟦<FileStore<MemDisk<MemStore>, &'a mut [u8]> as Store>⟧.state store).attached) }
+) -> Result<FileStore<MemDisk, &'a mut [u8]>, Fail>
+    ensures { IfOk result (λ store. IsTrue (⟦<FileStore<MemDisk, &'a mut [u8]> as Store>⟧.state store).attached) }
 {
     let name = Text::from_bytes(alloc, b"log")?;
-    let log = MemStore::with_room(alloc, Vec::new(alloc), Vec::new(alloc), 64, 64)?;
+    let beside = Text::from_bytes(alloc, b"beside")?;
     let failing = vec![in alloc; failing]?;
-    let disk = MemDisk::new(alloc, log, Text::from_bytes(alloc, b"log")?, 3, failing)?;
+    let disk = MemDisk::new(alloc, Text::from_bytes(alloc, b"log")?, beside, 3, failing);
     let mut store = FileStore::new(alloc, disk, notes)?;
     store.attach(&name)?;
     Ok(store)

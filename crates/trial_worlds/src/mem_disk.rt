@@ -1,22 +1,16 @@
-// A disk in memory with one file, whose calls fail where they are told to.
-ghost use Rattle.std.specs.Prelude.{◌≡◌, ◌≤◌, ◌++◌, drop, length, IsTrue, IfOk};
-ghost use Rattle.std.specs.Str.{bytes_eq};
-ghost use Rattle.cube_io.specs.Told.{Works, SameLogs};
-ghost use Rattle.trial_worlds.specs.OneFile.{one_file, file_whole};
+// A disk in memory with two files, whose calls fail where they are told to.
+ghost use Rattle.std.specs.Prelude.{◌≡◌, ◌≤◌, ◌++◌, [], Some, None, true, drop, length, IfSome, if◌then◌else◌};
+ghost use Rattle.trial_worlds.specs.Pairs.{disk_over, files_whole};
 
+use crate::file_pair::{FilePair, no_room};
+use crate::mem_log::{Deed, MemLog};
 use cube_edge::{Disk, Extent, Trouble};
-use cube_io::{Failed, ReadFault, Store};
-use cube_model::Text;
+use cube_io::{Failed, ReadFault};
+use cube_model::{Text, Texts};
 use std::alloc::Global;
-use std::io;
-use std::io::ErrorKind;
 
-/// A store that was attached.
-#[derive(Drop)]
-struct Attached<S: Store + Drop> {
-    store: S,
-    ghost ready: { IsTrue (S.state store).attached },
-}
+/// The most bytes of a file that are read.
+const MAX_READ: usize = 268_435_456;
 
 /// The file that was opened by a path.
 #[derive(Drop)]
@@ -24,64 +18,66 @@ pub struct MemFile {
     path: Text,
 }
 
-/// A disk with one file, which is log 0 of a store and has the name by which that was attached. It tells what the store
-/// tells. A write takes no more than so many bytes, and the calls with these numbers, counted from 0, fail.
+/// The path that was seen last, if any was.
 #[derive(Drop)]
-pub struct MemDisk<S: Store + Drop> {
+pub struct Seen {
+    any: bool,
+    path: Text,
+}
+
+/// A disk with two files, of which one may take the place of the other. Both begin with nothing. It tells all, and takes the
+/// name of the first. A write takes no more than so many bytes, and the calls with these numbers, counted from 0, fail. A
+/// replacing counts as two calls: one that fails before the file has taken its place, and one behind that.
+#[derive(Drop)]
+pub struct MemDisk {
     alloc: Global,
-    log: Attached<S>,
-    name: Text,
-    seen: bool,
+    files: FilePair,
+    names: Texts,
+    seen: Seen,
     most: usize,
     failing: Vec<u64>,
     calls: u64,
 }
 
-impl<S: Store + Drop> MemDisk<S> {
-    pub fn new(
-        alloc: Global,
-        mut store: S,
-        name: Text,
-        most: usize,
-        failing: Vec<u64>,
-    ) -> Result<Self, Failed>
-        ensures { IfOk result (λ disk. (⟦<MemDisk<S> as Disk>⟧.state disk).told ≡ (S.state store).told) }
+impl MemDisk {
+    pub fn new(alloc: Global, name: Text, beside: Text, most: usize, failing: Vec<u64>) -> Self
+        ensures { (⟦<MemDisk as Disk>⟧.state result).told ≡ true }
     {
-        match store.attach(&name) {
-            Ok(()) => Ok(MemDisk {
-                alloc,
-                log: Attached { store },
+        MemDisk {
+            alloc,
+            files: FilePair {
                 name,
-                seen: false,
-                most,
-                failing,
-                calls: 0,
-            }),
-            Err(failed) => Err(failed),
+                file: MemLog::new(alloc),
+                beside,
+                other: MemLog::new(alloc),
+            },
+            names: Texts::new(alloc),
+            seen: Seen {
+                any: false,
+                path: Text::new(alloc),
+            },
+            most,
+            failing,
+            calls: 0,
         }
     }
-}
 
-// Counts a call, and says whether it is to fail.
-fn fails(failing: &[u64], calls: &mut u64) -> bool {
-    let call = *calls;
-    *calls = call.saturating_add(1);
-    failing.contains(&call)
-}
+    /// What a read of a path gives, if it is one of the two.
+    pub fn bytes_at(&self, path: &[u8]) -> Option<&[u8]>
+        ensures { IfSome result (λ bytes. bytes.now ≡ ((⟦<MemDisk as Disk>⟧.state self.now).logs path.now).state.now) }
+    {
+        self.files.bytes_at(path)
+    }
 
-// The system has no room.
-fn no_room() -> Trouble {
-    Trouble::Refused(io::Error::from(ErrorKind::StorageFull))
-}
-
-// How many bytes the log has.
-fn count<S: Store + Drop>(log: &mut Attached<S>, alloc: Global) -> Result<u64, Trouble>
-    ensures works { Works (S.state log.old.store) (S.state log.new.store) 1 }
-    ensures logs { SameLogs (S.state log.old.store) (S.state log.new.store) }
-{
-    match log.store.read_all(alloc, 0) {
-        Ok(text) => Ok(text.len() as u64),
-        Err(_) => Err(no_room()),
+    // Counts a call, and says whether it is to fail.
+    fn fails(&mut self) -> bool
+        ensures files { self.new.files ≡ self.old.files }
+        ensures names { self.new.names ≡ self.old.names }
+        ensures seen { self.new.seen ≡ self.old.seen }
+    {
+        let call = self.calls;
+        self.calls = call.saturating_add(1);
+        self.failing.contains(&call)
     }
 }
 
@@ -96,26 +92,32 @@ pub(crate) fn front(piece: &[u8], most: usize) -> &[u8]
     }
 }
 
-impl<S: Store + Drop> Disk for MemDisk<S> {
+impl Disk for MemDisk {
     type Opened = MemFile;
 
     type File = MemFile;
 
-    ghost state = { λ s. one_file (S.state s.log.store) s.name s.seen };
+    ghost state = { λ s. disk_over s.files s.names (if s.seen.any then Some s.seen.path else None) };
 
     ghost place = { λ file. file.path };
 
-    ghost whole = { λ s p told. file_whole ((S.state s.log.store).logs 0) (S.whole s.log.store 0 told) (bytes_eq p s.name) };
+    ghost whole = { λ s p told. files_whole s.files p };
 
     fn attach(&mut self, name: &str) -> Result<(), Failed> {
-        if fails(&self.failing, &mut self.calls) || name.as_bytes() != self.name.as_slice() {
+        if self.fails() || name.as_bytes() != self.files.name.as_slice() {
             return Err(Failed);
         }
-        self.log.store.attach(&self.name)
+        let Ok(name) = Text::from_bytes(self.alloc, name.as_bytes()) else {
+            return Err(Failed);
+        };
+        match self.names.push(name) {
+            Ok(()) => Ok(()),
+            Err(_) => Err(Failed),
+        }
     }
 
     fn open(&mut self, path: &str) -> Result<MemFile, Trouble> {
-        if fails(&self.failing, &mut self.calls) {
+        if self.fails() {
             return Err(no_room());
         }
         match Text::from_bytes(self.alloc, path.as_bytes()) {
@@ -125,69 +127,101 @@ impl<S: Store + Drop> Disk for MemDisk<S> {
     }
 
     fn lock(&mut self, file: MemFile, _path: &str) -> Result<MemFile, Trouble> {
-        if fails(&self.failing, &mut self.calls) {
+        if self.fails() {
             return Err(Trouble::InUse);
         }
         Ok(file)
     }
 
-    fn length(&mut self, _file: &MemFile) -> Result<u64, Trouble> {
-        if fails(&self.failing, &mut self.calls) {
+    fn length(&mut self, file: &MemFile) -> Result<u64, Trouble> {
+        if self.fails() {
             return Err(no_room());
         }
-        count(&mut self.log, self.alloc)
+        match self.files.bytes_at(file.path.as_slice()) {
+            Some(bytes) => Ok(bytes.len() as u64),
+            None => Err(Trouble::NoFile),
+        }
     }
 
     fn look(&mut self, file: &MemFile, path: &str, left: Extent) -> Result<(), Trouble> {
-        let moved = fails(&self.failing, &mut self.calls);
-        if moved
-            || file.path.as_slice() != path.as_bytes()
-            || self.name.as_slice() != path.as_bytes()
-        {
+        if self.fails() || file.path.as_slice() != path.as_bytes() {
             return Err(Trouble::Moved);
         }
-        if !left.allows(count(&mut self.log, self.alloc)?) {
+        let length = match self.files.bytes_at(path.as_bytes()) {
+            Some(bytes) => bytes.len() as u64,
+            None => return Err(Trouble::Moved),
+        };
+        if !left.allows(length) {
             return Err(Trouble::Changed);
         }
-        self.seen = true;
-        Ok(())
+        match Text::from_bytes(self.alloc, path.as_bytes()) {
+            Ok(path) => {
+                self.seen = Seen { any: true, path };
+                Ok(())
+            }
+            Err(_) => Err(no_room()),
+        }
     }
 
-    fn read(&mut self, _file: &mut MemFile, alloc: Global) -> Result<Text, ReadFault> {
-        if fails(&self.failing, &mut self.calls) {
+    fn read(&mut self, file: &mut MemFile, alloc: Global) -> Result<Text, ReadFault> {
+        if self.fails() {
             return Err(ReadFault::Failed);
         }
-        self.log.store.read_all(alloc, 0)
+        match self.files.bytes_at(file.path.as_slice()) {
+            Some(bytes) => {
+                if bytes.len() > MAX_READ {
+                    return Err(ReadFault::TooLong);
+                }
+                match Text::from_bytes(alloc, bytes) {
+                    Ok(text) => Ok(text),
+                    Err(_) => Err(ReadFault::NoMemory),
+                }
+            }
+            None => Err(ReadFault::Failed),
+        }
     }
 
-    fn write(&mut self, _file: &mut MemFile, piece: &[u8]) -> Result<usize, Trouble> {
-        if fails(&self.failing, &mut self.calls) {
+    fn write(&mut self, file: &mut MemFile, piece: &[u8]) -> Result<usize, Trouble> {
+        if self.fails() {
             return Err(no_room());
         }
         let front = front(piece, self.most);
-        match self.log.store.append(0, front) {
+        let Ok(text) = Text::from_bytes(self.alloc, front) else {
+            return Err(no_room());
+        };
+        match self
+            .files
+            .perform(self.alloc, file.path.as_slice(), Deed::Put(text))
+        {
             Ok(()) => Ok(front.len()),
-            Err(_) => Err(no_room()),
+            Err(trouble) => Err(trouble),
         }
     }
 
-    fn cut(&mut self, _file: &MemFile, len: u64) -> Result<(), Trouble> {
-        if fails(&self.failing, &mut self.calls) {
+    fn cut(&mut self, file: &MemFile, len: u64) -> Result<(), Trouble> {
+        if self.fails() {
             return Err(no_room());
         }
-        match self.log.store.cut(0, len) {
-            Ok(()) => Ok(()),
-            Err(_) => Err(no_room()),
-        }
+        self.files
+            .perform(self.alloc, file.path.as_slice(), Deed::Cut(len))
     }
 
     fn sync(&mut self, _file: &MemFile, path: &str, _left: Extent) -> Result<(), Trouble> {
-        if fails(&self.failing, &mut self.calls) || self.name.as_slice() != path.as_bytes() {
+        if self.fails() {
             return Err(no_room());
         }
-        match self.log.store.sync(0) {
-            Ok(()) => Ok(()),
-            Err(_) => Err(no_room()),
+        self.files.perform(self.alloc, path.as_bytes(), Deed::Sync)
+    }
+
+    fn replace(&mut self, _file: MemFile, from: &str, to: &str) -> Result<(), Trouble> {
+        if self.fails() {
+            return Err(no_room());
         }
+        self.files
+            .replace(self.alloc, from.as_bytes(), to.as_bytes())?;
+        if self.fails() {
+            return Err(no_room());
+        }
+        Ok(())
     }
 }

@@ -1,5 +1,5 @@
-// A store whose calls fail half way, one whose room is used up, and one that stops.
-use cube_io::{Failing, MemStore, NullStore, Reach, StopStore, Store};
+// A store whose calls fail half way, and one whose room is used up.
+use cube_io::{Failing, MemStore, Reach, Store};
 use cube_model::Text;
 use std::test::Fail;
 
@@ -40,18 +40,5 @@ fn room_is_used_up(rt: HostRuntime) -> Result<(), Fail> {
     assert!(rt; store.append(0, b"c").is_err());
     let kept = store.read_all(alloc, 0).expect(&rt, "a log");
     assert_eq!(rt; kept.as_slice(), b"ab".as_slice());
-    Ok(())
-}
-
-#[test]
-fn a_store_stops(rt: HostRuntime) -> Result<(), Fail> {
-    let mut store = StopStore::new(NullStore::new(), 2);
-    let name = Text::from_bytes(rt.alloc(), b"log")?;
-    store.attach(&name).expect(&rt, "attached");
-    assert!(rt; store.append(0, b"a").is_ok());
-    assert!(rt; store.append(0, b"").is_ok());
-    assert!(rt; store.append(0, b"b").is_err());
-    assert!(rt; store.append(0, b"").is_ok());
-    assert!(rt; store.sync(0).is_err());
     Ok(())
 }

@@ -1,22 +1,21 @@
-use Rattle.std.proofs.Common.{◌++◌, drop, length}
-use Rattle.trial_worlds.proofs.OneDisk.{works_file, seen_name, nothing_appended, file_appended, front_appended}
+use Rattle.std.proofs.Common.{◌≡◌, List, ℕ, drop, length, refl, ◌∙◌, ap, rules}
+use Rattle.trial_worlds.specs.declared.file_pair.FilePair.{FilePair}
+use Rattle.trial_worlds.specs.declared.mem_log.Deed.TheVariants as deed
+use Rattle.trial_worlds.specs.Deeds.{stepped}
+use Rattle.trial_worlds.specs.Pairs.{log_at}
+use Rattle.trial_worlds.proofs.Steps.{none_appended, front_appended, put_step}
 use Rattle.trial_worlds.proofs.mem_disk.MemDiskDisk.write.Goals as goal
 
-pub returns-in-Ok-clause-works : goal.returns-in-Ok-clause-works
-returns-in-Ok-clause-works g c = works_file (g.S.Store.state c.args.self.now.log.store) (g.S.Store.state c.append.new.self) c.args.self.now.name c.args._file.now.path c.args.self.now.seen c.args.self.now.seen (λ told. seen_name c.args.self.now.seen c.args.self.now.name c.args._file.now.path (c.requires told)) c.append.ensures.works
-
-pub returns-in-Err-clause-works : goal.returns-in-Err-clause-works
-returns-in-Err-clause-works g c = works_file (g.S.Store.state c.args.self.now.log.store) (g.S.Store.state c.append.new.self) c.args.self.now.name c.args._file.now.path c.args.self.now.seen c.args.self.now.seen (λ told. seen_name c.args.self.now.seen c.args.self.now.name c.args._file.now.path (c.requires told)) c.append.ensures.works
-
 pub returns-then-fails-clause-grows : goal.returns-then-fails-clause-grows
-returns-then-fails-clause-grows g c = λ told. (c.args.piece.now, tt, nothing_appended c.args.piece.now _)
+returns-then-fails-clause-grows c = λ told. (c.args.piece.now, tt, none_appended c.args.piece.now (log_at c.args.self.now.files c.args.file.now.path) (log_at c.fails.new.self.files c.args.file.now.path) (ap (λ (files : FilePair). log_at files c.args.file.now.path) c.fails.ensures.files))
 
-pub returns-in-Err-clause-grows : goal.returns-in-Err-clause-grows
-returns-in-Err-clause-grows g c = λ told.
-    let more = c.append.ensures.grows told in
-    let rest = drop (length c.front-front.result.now) c.args.piece.now in (
-      more.0 ++ rest,
-      tt,
-      file_appended (g.S.Store.state c.args.self.now.log.store) (g.S.Store.state c.append.new.self) c.args.self.now.name c.args._file.now.path c.args.piece.now (more.0 ++ rest) c.args.self.now.seen c.args.self.now.seen (seen_name c.args.self.now.seen c.args.self.now.name c.args._file.now.path (c.requires told))
-          (front_appended c.args.piece.now c.front-front.result.now rest more.0 ((g.S.Store.state c.args.self.now.log.store).logs 0) ((g.S.Store.state c.append.new.self).logs 0) c.front-front.ensures.rest more.2),
-    )
+pub returns-in-Ok-perform-clause-grows : goal.returns-in-Ok-perform-clause-grows
+returns-in-Ok-perform-clause-grows c = λ told.
+    let path = c.args.file.now.path in
+    let front = c.front-front.result.now in
+    let rest = drop (length front) c.args.piece.now in
+    let text : c.in-Ok.text ≡ front = search rules in
+    let step : log_at c.perform.new.self path ≡ stepped (log_at c.fails.new.self.files path) (deed.Put c.in-Ok.text) = search rules in
+    let is : log_at c.perform.new.self path ≡ stepped (log_at c.args.self.now.files path) (deed.Put front) =
+    step ∙ ap (λ (files : FilePair). stepped (log_at files path) (deed.Put c.in-Ok.text)) c.fails.ensures.files ∙ ap (λ (t : List ℕ). stepped (log_at c.args.self.now.files path) (deed.Put t)) text in
+    (rest, refl, front_appended c.args.piece.now front rest (log_at c.args.self.now.files path) (log_at c.perform.new.self path) c.front-front.ensures.rest (put_step front (log_at c.args.self.now.files path) (log_at c.perform.new.self path) is))
