@@ -1,0 +1,6 @@
+pub mod Names
+pub mod GroupsFile
+pub mod NamedBooks
+pub mod Rules
+pub mod Words
+pub mod Examples
