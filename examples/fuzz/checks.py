@@ -272,6 +272,25 @@ def kept_of(log, header):
     return log[:log.rfind(b"\n") + 1] or header
 
 
+def the_compacted_journal_says_the_same(play):
+    """Written down as what it holds, the journal gets the same replies to whatever is asked next."""
+    text = expect(0, play.words("compact", "journal"))
+    for name, data in (("old", play.read("journal")), ("compacted", text)):
+        play.write(name, data)
+    demand(text.startswith(b"cube-journal 2 "), f"no journal: {text}")
+    demand(expect(0, play.words("compact", "compacted")) == text, "compacted once more it is another text")
+    lines = asks.make_lines(play.rng, play.cube)
+    cells = [asks.protected_cell(play.rng, play.cube) for _ in range(10)]
+    given = b"".join(line.text + b"\n" for line in lines)
+    given += b"".join(b"witness " + asks.query_text(play.cube, cell).encode() + b"\n" for cell in cells if cell)
+    demand(play.ask("old", given) == play.ask("compacted", given), "other replies over the compacted journal")
+    play.write("compacted", text)
+    result = run(play.words("compact", "old", "--out", play.path("compacted")))
+    demand(result.status == 0 and not result.out, "--out wrote something else")
+    demand(play.read("compacted") == expect(0, play.words("compact", "old")), "--out put another text")
+    play.seen["journals compacted"] += 1
+
+
 def header_of(play):
     return HEAD + play.digest_line().split(b" ")[1] + b"\n"
 
@@ -425,6 +444,7 @@ CHECKS = [
     a_restart_answers_what_was_answered,
     a_cut_journal_recovers_its_front,
     a_damaged_journal_is_refused_or_read,
+    the_compacted_journal_says_the_same,
     other_facts_are_refused,
     a_cut_seal_is_written_anew,
     http_says_what_ask_says,

@@ -1,4 +1,5 @@
 pub mod Worlds
+mod Compacts
 pub mod Lives
 pub mod Ordered
 mod Statuses

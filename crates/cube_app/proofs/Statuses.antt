@@ -1,5 +1,5 @@
 -- The statuses of a run, and those of one in which no count of faults rose.
-use Rattle.std.proofs.Common.{◌≡◌, ◌⊎◌, inl, inr, ℕ, Bool, true, false, List}
+use Rattle.std.proofs.Common.{◌≡◌, ◌⊎◌, inl, inr, ℕ, Bool, true, false, List, []}
 use Rattle.std.specs.declared.result.Result.{Result}
 use Rattle.std.specs.declared.result.Result.TheVariants.{Ok, Err}
 use Rattle.cube_model.specs.declared.policy.Policy.{Policy}
@@ -20,8 +20,10 @@ use Rattle.cube_talk.specs.declared.talk.Ending.{Ending}
 use Rattle.cube_talk.specs.declared.talk.Ending.TheVariants.{Ended, InputFailed, OutputFailed, NoMemory, Spent}
 use Rattle.cube_words.specs.declared.ordered.Making.{Making}
 use Rattle.cube_words.specs.declared.ordered.Orders.{Orders}
-use Rattle.cube_words.specs.declared.ordered.Orders.TheVariants.{Help, Version, Sum, Check, Ask, Witness, Twin, Serve, Replay, Demo}
-use Rattle.cube_app.specs.Cells.{Tells, CellEnds, cell_text}
+use Rattle.cube_words.specs.declared.ordered.Orders.TheVariants.{Help, Version, Sum, Check, Ask, Witness, Twin, Compact, Serve, Replay, Demo}
+use Rattle.cube_app.specs.Cells.{Tells, TellEnds, told_text}
+use Rattle.cube_app.specs.declared.cells.Telling.{Telling}
+use Rattle.cube_app.specs.declared.cells.Telling.TheVariants as telling
 use Rattle.cube_app.specs.Making.{DemoRun}
 use Rattle.cube_app.specs.Runs.{Outside, Does, Obeyed, IsCalm, CalmStatus}
 use Rattle.cube_app.specs.Summary.{check_text, Summarizes, CheckEnds}
@@ -145,9 +147,9 @@ replays cube script stated files store out r (inr (inr (inr e))) = written e.0.w
     written (inl w) = played r.status (has_torn e.0.wire.log) e.0.end w.0
     written (inr w) = unput w.0
 
-cell : {F S O : Type 0} (is_twin : Bool) (cube : CubeFiles) (name : List ℕ) (files : Seen FolderState F) (store : Seen StoreState S) (out : Seen SinkState O) (r : Report) → CellEnds is_twin cube name files store out r → Known r.status
-cell is_twin cube name files store out r (inl e) = closed cube (names_of cube) files store r e.0
-cell is_twin cube name files store out r (inr e) = tells (cell_text is_twin e.0.core e.0.policy e.0.history name) out r e.0.tells
+told : {F S O : Type 0} (what : Telling) (cube : CubeFiles) (name : List ℕ) (files : Seen FolderState F) (store : Seen StoreState S) (out : Seen SinkState O) (r : Report) → TellEnds what cube name files store out r → Known r.status
+told what cube name files store out r (inl e) = closed cube (names_of cube) files store r e.0
+told what cube name files store out r (inr e) = tells (told_text what e.0.core e.0.policy e.0.history name) out r e.0.tells
 
 made : {O : Type 0} (making : Making) (out : Seen SinkState O) (r : Report) → DemoRun making out r → Known r.status
 made making out r (inl e) = done e.0.0
@@ -163,8 +165,9 @@ known Version objects r d = prints version_text objects.out r d
 known (Sum facts) objects r d = sums facts objects.files objects.input objects.out r d.answers
 known (Check cube) objects r d = checks cube objects.files objects.out r d.answers
 known (Ask cube name stated) objects r d = asks cube stated objects.files objects.store objects.input objects.out r d.answers
-known (Witness cube name text) objects r d = cell false cube text objects.files objects.store objects.out r d.answers
-known (Twin cube name text) objects r d = cell true cube text objects.files objects.store objects.out r d.answers
+known (Witness cube name text) objects r d = told telling.Changes cube text objects.files objects.store objects.out r d.answers
+known (Twin cube name text) objects r d = told telling.Twin cube text objects.files objects.store objects.out r d.answers
+known (Compact cube name out) objects r d = told telling.Compacted cube [] objects.files objects.store objects.out r d.answers
 known (Serve cube name address stated idle) objects r d = serves cube stated objects.files objects.store objects.wire r d.answers
 known (Replay cube name script stated) objects r d = replays cube script stated objects.files objects.store objects.out r d.answers
 known (Demo making) objects r d = made making objects.out r d

@@ -6,9 +6,10 @@ use Rattle.cube_opening.specs.Reports.{IsReport, NoRoom, Prints}
 use Rattle.cube_opening.specs.declared.report.Report.{Report}
 use Rattle.cube_serving.specs.Starting.{OnlyJournal}
 use Rattle.cube_words.specs.declared.ordered.Orders.{Orders}
-use Rattle.cube_words.specs.declared.ordered.Orders.TheVariants.{Help, Version, Sum, Check, Ask, Witness, Twin, Serve, Replay, Demo}
+use Rattle.cube_words.specs.declared.ordered.Orders.TheVariants.{Help, Version, Sum, Check, Ask, Witness, Twin, Compact, Serve, Replay, Demo}
 use Rattle.cube_words.specs.declared.words.Usage.{Usage}
-use Rattle.cube_app.specs.Cells.{CellRun}
+use Rattle.cube_app.specs.Cells.{TellRun}
+use Rattle.cube_app.specs.declared.cells.Telling.TheVariants as telling
 use Rattle.cube_app.specs.Making.{DemoRun}
 use Rattle.cube_app.specs.Serves.{ServeRun, ReplayRun}
 use Rattle.cube_app.specs.Summary.{CheckRun}
@@ -26,15 +27,16 @@ pub record Outside (F S I O W : Type 0) : Type 0 where
 -- ---- what each command does
 
 -- What is done where this is ordered: texts about the program are printed, the lines of the input are answered by sums or as asks, the files
--- are summed up, a cell is told, connections are served, a script is played, or a made cube is shown.
+-- are summed up, a cell or the compacted history is told, connections are served, a script is played, or a made cube is shown.
 abbrev pub Does : {F S I O W : Type 0} → Orders → Outside F S I O W → Report → Type 0
 Does Help objects r = Prints help_text objects.out r
 Does Version objects r = Prints version_text objects.out r
 Does (Sum facts) objects r = SumRun facts objects.files objects.input objects.out r
 Does (Check cube) objects r = CheckRun cube objects.files objects.out r
 Does (Ask cube journal stated) objects r = AskRun cube journal stated objects.files objects.store objects.input objects.out r
-Does (Witness cube journal cell) objects r = CellRun false cube journal cell objects.files objects.store objects.out r
-Does (Twin cube journal cell) objects r = CellRun true cube journal cell objects.files objects.store objects.out r
+Does (Witness cube journal cell) objects r = TellRun telling.Changes cube journal cell objects.files objects.store objects.out r
+Does (Twin cube journal cell) objects r = TellRun telling.Twin cube journal cell objects.files objects.store objects.out r
+Does (Compact cube journal out) objects r = TellRun telling.Compacted cube journal [] objects.files objects.store objects.out r
 Does (Serve cube journal address stated idle) objects r = ServeRun cube journal address stated objects.files objects.store objects.wire r
 Does (Replay cube journal script stated) objects r = ReplayRun cube journal script stated objects.files objects.store objects.out r
 Does (Demo making) objects r = DemoRun making objects.out r
@@ -48,6 +50,7 @@ Leaves (Check cube) objects r = Unused objects.store × Unused objects.input × 
 Leaves (Ask cube journal stated) objects r = Unused objects.wire
 Leaves (Witness cube journal cell) objects r = Unused objects.input × Unused objects.wire × (r.outcomes ≡ [])
 Leaves (Twin cube journal cell) objects r = Unused objects.input × Unused objects.wire × (r.outcomes ≡ [])
+Leaves (Compact cube journal out) objects r = Unused objects.input × Unused objects.wire × (r.outcomes ≡ [])
 Leaves (Serve cube journal address stated idle) objects r = Unused objects.input × Unused objects.out
 Leaves (Replay cube journal script stated) objects r = Unused objects.input × Unused objects.wire
 Leaves (Demo making) objects r = Unused objects.files × Unused objects.store × Unused objects.input × Unused objects.wire × (r.outcomes ≡ [])

@@ -1,11 +1,12 @@
-// `witness` and `twin`: what hides a cell, as changes or as a fact file.
+// What is told of an open cube: the changes that hide a cell or the fact file that they make, or the history written down as what it
+// holds.
 ghost use Rattle.std.specs.Prelude.{◌≡◌, ◌≢◌, ◌⊎◌, ◌≤◌, ◌+◌, ◌++◌, ℕ, List, Result, [], IsTrue, IfOk, IfErr, IsOk, Ok, codes};
 ghost use Rattle.cube_io.specs.Causes.{Rose};
 ghost use Rattle.cube_io.specs.Seen.{seen};
 ghost use Rattle.cube_engine.specs.Changes.{Refuses};
 ghost use Rattle.cube_opening.specs.Opening.{IsSteady};
 ghost use Rattle.cube_opening.specs.Reports.{IsReport, NoRoom};
-ghost use Rattle.cube_app.specs.Cells.{Tells, CellEnds, CellCompletes, cell_text};
+ghost use Rattle.cube_app.specs.Cells.{Tells, TellEnds, TellCompletes, told_text};
 ghost use Rattle.cube_serving.specs.Starting.{AsksStore, OnlyJournal};
 
 use crate::run::print;
@@ -15,6 +16,17 @@ use cube_model::{NoMemory, Text};
 use cube_opening::{CubeFiles, Report, Room, no_room, open_guarded, with_text};
 use cube_serving::open_engine;
 use std::alloc::Global;
+
+/// What is told of an open cube.
+#[derive(Clone, Copy, Debug, PartialEq, Eq)]
+pub enum Telling {
+    /// The changes that hide a cell.
+    Changes,
+    /// The fact file of the cube with these changes.
+    Twin,
+    /// The history written down as what it holds, as a journal. The cell plays no part.
+    Compacted,
+}
 
 fn refused_text(alloc: Global, line: &Text) -> Result<Text, NoMemory>
     ensures { IfOk result (λ text. text ≡ codes "cell: " ++ line.now) }
@@ -34,7 +46,7 @@ fn refuse_cell(alloc: Global, line: &Text) -> Report
     }
 }
 
-// Puts what is told of a cell.
+// Puts what is told.
 fn put_told<O: Sink>(
     alloc: Global,
     room: Room,
@@ -56,23 +68,26 @@ fn put_told<O: Sink>(
     }
 }
 
-// What an engine tells of a cell at its end: the fact file of the twin, or the changes.
-fn told_of(alloc: Global, engine: Engine, is_twin: bool, cell: &Text) -> Result<Text, NoChanges>
-    ensures ok { IfOk result (λ text. cell_text is_twin engine.core engine.policy engine.history cell.now ≡ Ok text) }
-    ensures err { IfErr result (λ why. Refuses why (cell_text is_twin engine.core engine.policy engine.history cell.now)) }
+// What an engine tells at its end.
+fn told_of(alloc: Global, engine: Engine, telling: Telling, cell: &Text) -> Result<Text, NoChanges>
+    ensures ok { IfOk result (λ text. told_text telling engine.core engine.policy engine.history cell.now ≡ Ok text) }
+    ensures err { IfErr result (λ why. Refuses why (told_text telling engine.core engine.policy engine.history cell.now)) }
 {
-    if is_twin {
-        engine.twin_text(alloc, cell.as_slice())
-    } else {
-        engine.changes_text(alloc, cell.as_slice())
+    match telling {
+        Telling::Changes => engine.changes_text(alloc, cell.as_slice()),
+        Telling::Twin => engine.twin_text(alloc, cell.as_slice()),
+        Telling::Compacted => match engine.compacted_text(alloc) {
+            Ok(text) => Ok(text),
+            Err(_) => Err(NoChanges::NoMemory),
+        },
     }
 }
 
-/// Puts the changes that hide a cell, or the fact file of the twin, by the history that the journal holds.
+/// Puts what is to be told, by the history that the journal holds.
 pub fn tell<F: Folder, S: Store, O: Sink>(
     alloc: Global,
     room: Room,
-    is_twin: bool,
+    telling: Telling,
     cube: &CubeFiles,
     journal: &Text,
     cell: &Text,
@@ -81,7 +96,7 @@ pub fn tell<F: Folder, S: Store, O: Sink>(
     out: &mut O,
 ) -> Report
     requires { room ≡ [] }
-    ensures answers { CellEnds is_twin cube.now cell.now (seen F.state files.old files.new) (seen S.state store.old store.new) (seen O.state out.old out.new) result }
+    ensures answers { TellEnds telling cube.now cell.now (seen F.state files.old files.new) (seen S.state store.old store.new) (seen O.state out.old out.new) result }
     ensures names { (store.new ≡ store.old) ⊎ AsksStore journal.now (seen S.state store.old store.new) result }
     ensures unkept { result.status ≡ 9 → Rose (S.state store.old).faults (S.state store.new).faults }
     ensures calls { IsTrue (S.state store.old).told → (S.state store.new).calls ≤ (S.state store.old).calls + 11 }
@@ -90,7 +105,7 @@ pub fn tell<F: Folder, S: Store, O: Sink>(
     ensures output { result.status ≡ 6 → Rose (O.state out.old).faults (O.state out.new).faults }
     ensures steady { result.status ≢ 5 → IsSteady (seen F.state files.old files.new) }
     ensures output_steady { result.status ≢ 6 → (O.state out.new).faults ≡ (O.state out.old).faults }
-    ensures complete { CellCompletes is_twin cube.now cell.now (seen F.state files.old files.new) (seen S.state store.old store.new) (seen O.state out.old out.new) result }
+    ensures complete { TellCompletes telling cube.now cell.now (seen F.state files.old files.new) (seen S.state store.old store.new) (seen O.state out.old out.new) result }
     ensures words { result.status ≢ 2 }
     ensures wire { result.status ≢ 8 }
     ensures outcomes { result.outcomes ≡ [] }
@@ -104,6 +119,6 @@ pub fn tell<F: Folder, S: Store, O: Sink>(
         Ok(started) => started,
         Err(report) => return report,
     };
-    let told = told_of(alloc, started.value, is_twin, cell);
+    let told = told_of(alloc, started.value, telling, cell);
     put_told(alloc, started.room, told, out)
 }

@@ -8,12 +8,18 @@ mod summary;
 #[cfg(test)]
 mod tests;
 
+ghost use Rattle.std.specs.Prelude.{◌≡◌, IfOk};
+ghost use Rattle.cube_words.specs.Words.{orders_of as orders_in};
+ghost use Rattle.cube_app.specs.Ends.{out_in};
+
 use cube_edge::{
-    FileFolder, FileStore, MachineDisk, NoWatch, ReaderSource, SocketWire, TcpSockets, WriterSink,
-    hold_streams,
+    EitherSink, FileFolder, FileStore, MachineDisk, NoWatch, OutFile, ReaderSource, SocketWire,
+    TcpSockets, WriterSink, hold_streams,
 };
-use cube_model::{Items, Text, Texts};
+use cube_model::{Items, NoMemory, Text, Texts};
+use cube_words::orders_of;
 use run::run;
+use std::alloc::Global;
 use std::env::{Env, FillError};
 use std::io;
 use std::io::Write;
@@ -39,6 +45,19 @@ fn words_of(rt: &HostRuntime) -> Option<Texts> {
     None
 }
 
+// The file that the words name for the output.
+fn out_named(alloc: Global, words: &[Text]) -> Result<Option<Text>, NoMemory>
+    ensures { IfOk result (λ path. path ≡ out_in (orders_in words.now)) }
+{
+    let Ok(orders) = orders_of(alloc, words)? else {
+        return Ok(None);
+    };
+    match orders.out() {
+        None => Ok(None),
+        Some(path) => Ok(Some(path.copied(alloc)?)),
+    }
+}
+
 // What a person may want to know behind the text of a report.
 fn explained(text: &[u8]) -> &'static str {
     if text.starts_with(b"journal: digest ") {
@@ -62,7 +81,18 @@ fn main(rt: HostRuntime) -> ExitCode {
         return ExitCode::from(7);
     };
     let mut input = ReaderSource::new(rt.reader());
-    let mut out = WriterSink::new(io::writer(&rt));
+    let Ok(named) = out_named(rt.alloc(), words.as_slice()) else {
+        return ExitCode::from(7);
+    };
+    let mut out = match named {
+        None => EitherSink::First(WriterSink::new(io::writer(&rt))),
+        Some(path) => {
+            match OutFile::new(rt.alloc(), MachineDisk::new(&rt), rt.stderr(), &path) {
+                Ok(file) => EitherSink::Second(file),
+                Err(_) => return ExitCode::from(7),
+            }
+        }
+    };
     let Ok(sockets) = TcpSockets::new(rt.alloc(), &rt, rt.stderr()) else {
         return ExitCode::from(7);
     };

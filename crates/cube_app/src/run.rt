@@ -12,7 +12,7 @@ ghost use Rattle.cube_app.specs.Talks.{SumEnds, SumCompletes, AskEnds, AskComple
 ghost use Rattle.cube_app.specs.TwinFiles.{TwinFilesMakeTwins, TwinTalksAreTheSame, TwinLogsAreTheSame};
 ghost use Rattle.cube_app.specs.Texts.{usage_text as usage_words, status_of as status_in, ending_text};
 
-use crate::cells::tell;
+use crate::cells::{Telling, tell};
 use crate::making::show;
 use crate::summary::check_text;
 use cube_engine::Engine;
@@ -27,7 +27,7 @@ use cube_words::{Orders, Usage, orders_of};
 use std::alloc::Global;
 
 const HELP: &[u8] =
-    b"cube sum --facts FILE\n    answers each line of the input by a sum over the file\ncube check --dims FILE --facts FILE --policy FILE\n    says what the files hold\ncube ask --dims FILE --facts FILE --policy FILE --journal FILE [--requests N]\n    answers each line of the input as a query, or as `shape` or `witness CELL`\ncube witness --dims FILE --facts FILE --policy FILE --journal FILE --cell CELL\n    prints the changes that hide a cell\ncube twin --dims FILE --facts FILE --policy FILE --journal FILE --cell CELL\n    prints the fact file of the cube with these changes\ncube serve --dims FILE --facts FILE --policy FILE --journal FILE --address ADDRESS [--requests N] [--idle SECONDS]\n    answers asks over HTTP, until it is stopped; closes a connection that is still for so long\ncube replay --dims FILE --facts FILE --policy FILE --journal FILE --script FILE [--requests N]\n    plays a script of connections and writes what was sent\ncube demo --number N --size S\n    makes a cube of 20,000 S facts and says how 200 S queries on it are judged\ncube --help\n    prints this text\ncube --version\n    prints the version\n--requests N: answers at most N asks, refused ones too, and ends behind them with status 10\n    1 to 16777216; without it 1000000, under serve 16777216. What was answered is in the journal\n--idle SECONDS: 0 to 86400, where 0 is for ever; without it 60\n";
+    b"cube sum --facts FILE\n    answers each line of the input by a sum over the file\ncube check --dims FILE --facts FILE --policy FILE\n    says what the files hold\ncube ask --dims FILE --facts FILE --policy FILE --journal FILE [--requests N]\n    answers each line of the input as a query, or as `shape` or `witness CELL`\ncube witness --dims FILE --facts FILE --policy FILE --journal FILE --cell CELL\n    prints the changes that hide a cell\ncube twin --dims FILE --facts FILE --policy FILE --journal FILE --cell CELL\n    prints the fact file of the cube with these changes\ncube compact --dims FILE --facts FILE --policy FILE --journal FILE [--out FILE]\n    prints the journal written down as what it holds, or puts it into a file, whole\ncube serve --dims FILE --facts FILE --policy FILE --journal FILE --address ADDRESS [--requests N] [--idle SECONDS]\n    answers asks over HTTP, until it is stopped; closes a connection that is still for so long\ncube replay --dims FILE --facts FILE --policy FILE --journal FILE --script FILE [--requests N]\n    plays a script of connections and writes what was sent\ncube demo --number N --size S\n    makes a cube of 20,000 S facts and says how 200 S queries on it are judged\ncube --help\n    prints this text\ncube --version\n    prints the version\n--requests N: answers at most N asks, refused ones too, and ends behind them with status 10\n    1 to 16777216; without it 1000000, under serve 16777216. What was answered is in the journal\n--idle SECONDS: 0 to 86400, where 0 is for ever; without it 60\n";
 
 const VERSION: &[u8] = b"cube 0.1.0\n";
 
@@ -272,13 +272,49 @@ fn obey<F: Folder, S: Store, I: Source, O: Sink, W: Wire>(
             journal,
             cell,
         } => tell(
-            alloc, room, false, &cube, &journal, &cell, files, store, out,
+            alloc,
+            room,
+            Telling::Changes,
+            &cube,
+            &journal,
+            &cell,
+            files,
+            store,
+            out,
         ),
         Orders::Twin {
             files: cube,
             journal,
             cell,
-        } => tell(alloc, room, true, &cube, &journal, &cell, files, store, out),
+        } => tell(
+            alloc,
+            room,
+            Telling::Twin,
+            &cube,
+            &journal,
+            &cell,
+            files,
+            store,
+            out,
+        ),
+        Orders::Compact {
+            files: cube,
+            journal,
+            out: _out,
+        } => {
+            let no_cell = Text::new(alloc);
+            tell(
+                alloc,
+                room,
+                Telling::Compacted,
+                &cube,
+                &journal,
+                &no_cell,
+                files,
+                store,
+                out,
+            )
+        }
         Orders::Serve {
             files: cube,
             journal,

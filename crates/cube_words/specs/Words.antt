@@ -12,7 +12,7 @@ use Rattle.cube_words.specs.declared.ordered.Orders.{Orders}
 use Rattle.cube_words.specs.declared.ordered.Orders.TheVariants as orders
 use Rattle.cube_words.specs.declared.words.TheConstants.{MAX_REQUESTS, USUAL_REQUESTS, MAX_IDLE, USUAL_IDLE, MAX_DIGITS, OVER, MAX_SIZE}
 use Rattle.cube_words.specs.declared.words.Setting.{Setting}
-use Rattle.cube_words.specs.declared.words.Setting.TheVariants.{Dims, Facts, Policy, Journal, Cell, Address, Script, Requests, Idle, Number, Size}
+use Rattle.cube_words.specs.declared.words.Setting.TheVariants.{Dims, Facts, Policy, Journal, Cell, Out, Address, Script, Requests, Idle, Number, Size}
 use Rattle.cube_words.specs.declared.words.Usage.{Usage}
 use Rattle.cube_words.specs.declared.words.Usage.TheVariants.{NoCommand, Wrong, Missing}
 
@@ -24,6 +24,7 @@ command_word command.Check = codes "check"
 command_word command.Ask = codes "ask"
 command_word command.Witness = codes "witness"
 command_word command.Twin = codes "twin"
+command_word command.Compact = codes "compact"
 command_word command.Serve = codes "serve"
 command_word command.Replay = codes "replay"
 command_word command.Demo = codes "demo"
@@ -34,6 +35,7 @@ option_word Facts = codes "--facts"
 option_word Policy = codes "--policy"
 option_word Journal = codes "--journal"
 option_word Cell = codes "--cell"
+option_word Out = codes "--out"
 option_word Address = codes "--address"
 option_word Script = codes "--script"
 option_word Requests = codes "--requests"
@@ -42,7 +44,7 @@ option_word Number = codes "--number"
 option_word Size = codes "--size"
 
 abbrev pub commands : List Command
-commands = command.Help ∷ command.Version ∷ command.Sum ∷ command.Check ∷ command.Ask ∷ command.Witness ∷ command.Twin ∷ command.Serve ∷ command.Replay ∷ command.Demo ∷ []
+commands = command.Help ∷ command.Version ∷ command.Sum ∷ command.Check ∷ command.Ask ∷ command.Witness ∷ command.Twin ∷ command.Compact ∷ command.Serve ∷ command.Replay ∷ command.Demo ∷ []
 
 -- the options that a command needs, in the order in which a missing one is named
 abbrev pub needed : Command → List Setting
@@ -53,6 +55,7 @@ needed command.Check = Dims ∷ Facts ∷ Policy ∷ []
 needed command.Ask = Dims ∷ Facts ∷ Policy ∷ Journal ∷ []
 needed command.Witness = Dims ∷ Facts ∷ Policy ∷ Journal ∷ Cell ∷ []
 needed command.Twin = Dims ∷ Facts ∷ Policy ∷ Journal ∷ Cell ∷ []
+needed command.Compact = Dims ∷ Facts ∷ Policy ∷ Journal ∷ []
 needed command.Serve = Dims ∷ Facts ∷ Policy ∷ Journal ∷ Address ∷ []
 needed command.Replay = Dims ∷ Facts ∷ Policy ∷ Journal ∷ Script ∷ []
 needed command.Demo = Number ∷ Size ∷ []
@@ -66,6 +69,7 @@ allowed command.Check = Dims ∷ Facts ∷ Policy ∷ []
 allowed command.Ask = Dims ∷ Facts ∷ Policy ∷ Journal ∷ Requests ∷ []
 allowed command.Witness = Dims ∷ Facts ∷ Policy ∷ Journal ∷ Cell ∷ []
 allowed command.Twin = Dims ∷ Facts ∷ Policy ∷ Journal ∷ Cell ∷ []
+allowed command.Compact = Dims ∷ Facts ∷ Policy ∷ Journal ∷ Out ∷ []
 allowed command.Serve = Dims ∷ Facts ∷ Policy ∷ Journal ∷ Address ∷ Requests ∷ Idle ∷ []
 allowed command.Replay = Dims ∷ Facts ∷ Policy ∷ Journal ∷ Script ∷ Requests ∷ []
 allowed command.Demo = Number ∷ Size ∷ []
@@ -169,6 +173,7 @@ orders_with command.Check words = orders.Check (files_of words)
 orders_with command.Ask words = orders.Ask (files_of words) (value_of Journal words) (stated USUAL_REQUESTS words)
 orders_with command.Witness words = orders.Witness (files_of words) (value_of Journal words) (value_of Cell words)
 orders_with command.Twin words = orders.Twin (files_of words) (value_of Journal words) (value_of Cell words)
+orders_with command.Compact words = orders.Compact (files_of words) (value_of Journal words) (value_behind (option_word Out) words)
 orders_with command.Serve words = orders.Serve (files_of words) (value_of Journal words) (value_of Address words) (stated MAX_REQUESTS words) (idle words)
 orders_with command.Replay words = orders.Replay (files_of words) (value_of Journal words) (value_of Script words) (stated USUAL_REQUESTS words)
 orders_with command.Demo words = orders.Demo (making_of words)
@@ -192,6 +197,11 @@ orders_of [] = Err NoCommand
 orders_of (word ∷ words) = with_command words (command_of word)
 
 -- ---- what is known of orders
+
+-- the file that the output is put into, where one is given
+abbrev pub out_of : Orders → Option (List ℕ)
+out_of (orders.Compact files journal out) = out
+out_of other = None
 
 -- none of the words behind the command is wrong, and none is missing
 abbrev pub IsRight : Command → List (List ℕ) → Type 0

@@ -5,7 +5,7 @@ ghost use Rattle.cube_model.specs.Cubes.{IsIn};
 ghost use Rattle.cube_words.specs.declared.words.Command.TheVariants as command;
 ghost use Rattle.cube_words.specs.declared.words.Setting.TheVariants as setting;
 ghost use Rattle.cube_words.specs.declared.words.TheConstants.{MAX_SIZE};
-ghost use Rattle.cube_words.specs.Words.{option_word, needed as needed_by, value_behind as value_in, value_of, files_of as files_in, stated as stated_in, idle as idle_in_words, making_of as making_in, orders_with as orders_behind, IsRight, IsMade, Fits};
+ghost use Rattle.cube_words.specs.Words.{option_word, needed as needed_by, value_behind as value_in, value_of, files_of as files_in, stated as stated_in, idle as idle_in_words, making_of as making_in, orders_with as orders_behind, out_of, IsRight, IsMade, Fits};
 
 use crate::words::{
     Command, MAX_REQUESTS, Setting, USUAL_IDLE, USUAL_REQUESTS, idle_in, number_in, requests_in,
@@ -57,6 +57,12 @@ pub enum Orders {
         journal: Text,
         cell: Text,
     },
+    /// Write the journal down as what its history holds, into a file where one is named.
+    Compact {
+        files: CubeFiles,
+        journal: Text,
+        out: Option<Text>,
+    },
     /// Answer asks over the network, at most as many as are stated. A connection may be still for so many seconds.
     Serve {
         files: CubeFiles,
@@ -76,6 +82,18 @@ pub enum Orders {
     Demo {
         making: Making,
     },
+}
+
+impl Orders {
+    /// The name of the file that the output is put into, where one is given.
+    pub fn out(&self) -> Option<&Text>
+        ensures { option_copied result ≡ out_of self.now }
+    {
+        match self {
+            Orders::Compact { out, .. } => out.as_ref(),
+            _ => None,
+        }
+    }
 }
 
 fn value_given(words: &[Text], setting: Setting) -> Option<&Text>
@@ -230,6 +248,29 @@ fn twin_with(alloc: Global, words: &[Text]) -> Result<Orders, NoMemory>
     })
 }
 
+// The value of an option that the command may have.
+fn given_text(alloc: Global, words: &[Text], setting: Setting) -> Result<Option<Text>, NoMemory>
+    ensures { IfOk result (λ text. text ≡ value_in (option_word setting) words.now) }
+{
+    match value_given(words, setting) {
+        None => Ok(None),
+        Some(value) => Ok(Some(Text::from_bytes(alloc, value.as_slice())?)),
+    }
+}
+
+fn compact_with(alloc: Global, words: &[Text]) -> Result<Orders, NoMemory>
+    requires { IsRight command.Compact words.now }
+    ensures orders { IfOk result (λ orders. orders ≡ orders_behind command.Compact words.now) }
+    ensures fits { IfOk result Fits }
+{
+    let command = Command::Compact;
+    Ok(Orders::Compact {
+        files: files_of(alloc, words, command)?,
+        journal: needed_text(alloc, words, command, Setting::Journal)?,
+        out: given_text(alloc, words, Setting::Out)?,
+    })
+}
+
 fn serve_with(alloc: Global, words: &[Text]) -> Result<Orders, NoMemory>
     requires { IsRight command.Serve words.now }
     ensures orders { IfOk result (λ orders. orders ≡ orders_behind command.Serve words.now) }
@@ -277,6 +318,7 @@ pub fn orders_with(alloc: Global, command: Command, words: &[Text]) -> Result<Or
         Command::Ask => ask_with(alloc, words),
         Command::Witness => witness_with(alloc, words),
         Command::Twin => twin_with(alloc, words),
+        Command::Compact => compact_with(alloc, words),
         Command::Serve => serve_with(alloc, words),
         Command::Replay => replay_with(alloc, words),
         Command::Demo => Ok(Orders::Demo {

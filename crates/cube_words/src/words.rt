@@ -28,6 +28,8 @@ pub enum Command {
     Witness,
     /// Write the fact file of the cube with these changes.
     Twin,
+    /// Write the journal down as what its history holds.
+    Compact,
     /// Answer asks over the network.
     Serve,
     /// Play a script of connections.
@@ -49,6 +51,8 @@ pub enum Setting {
     Journal,
     /// The cell of a measure.
     Cell,
+    /// The file that the output is put into.
+    Out,
     /// The address that is listened on.
     Address,
     /// The script that is played.
@@ -74,7 +78,7 @@ pub enum Usage {
     Missing(Setting),
 }
 
-const COMMANDS: [Command; 10] = [
+const COMMANDS: [Command; 11] = [
     Command::Help,
     Command::Version,
     Command::Sum,
@@ -82,6 +86,7 @@ const COMMANDS: [Command; 10] = [
     Command::Ask,
     Command::Witness,
     Command::Twin,
+    Command::Compact,
     Command::Serve,
     Command::Replay,
     Command::Demo,
@@ -120,6 +125,7 @@ impl Command {
             Command::Ask => b"ask",
             Command::Witness => b"witness",
             Command::Twin => b"twin",
+            Command::Compact => b"compact",
             Command::Serve => b"serve",
             Command::Replay => b"replay",
             Command::Demo => b"demo",
@@ -134,7 +140,7 @@ impl Command {
             Command::Version => &[],
             Command::Sum => &[Setting::Facts],
             Command::Check => &[Setting::Dims, Setting::Facts, Setting::Policy],
-            Command::Ask => &[
+            Command::Ask | Command::Compact => &[
                 Setting::Dims,
                 Setting::Facts,
                 Setting::Policy,
@@ -187,6 +193,13 @@ impl Command {
                 Setting::Journal,
                 Setting::Cell,
             ],
+            Command::Compact => &[
+                Setting::Dims,
+                Setting::Facts,
+                Setting::Policy,
+                Setting::Journal,
+                Setting::Out,
+            ],
             Command::Serve => &[
                 Setting::Dims,
                 Setting::Facts,
@@ -220,6 +233,7 @@ impl Setting {
             Setting::Policy => b"--policy",
             Setting::Journal => b"--journal",
             Setting::Cell => b"--cell",
+            Setting::Out => b"--out",
             Setting::Address => b"--address",
             Setting::Script => b"--script",
             Setting::Requests => b"--requests",
@@ -230,21 +244,19 @@ impl Setting {
     }
 }
 
-// The first of some commands that has the word.
-fn find_command(commands: &[Command], word: &[u8]) -> Option<Command>
-    ensures { result ≡ find (λ c. bytes_eq word.now (command_word c)) commands.now }
+fn has_word(command: Command, word: &[u8]) -> bool
+    ensures { result ≡ bytes_eq word.now (command_word command) }
 {
-    match commands {
-        [] => None,
-        [command, ..] if word == command.word() => Some(*command),
-        [_, more @ ..] => find_command(more, word),
-    }
+    word == command.word()
 }
 
 fn command_of(word: &[u8]) -> Option<Command>
     ensures { result ≡ command_in word.now }
 {
-    find_command(&COMMANDS, word)
+    COMMANDS
+        .iter()
+        .copied()
+        .find(|command| has_word(*command, word))
 }
 
 fn is_option(command: Command, word: &[u8]) -> bool

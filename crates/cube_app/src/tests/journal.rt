@@ -1,11 +1,9 @@
-// `ask` over stores in memory and files: what a log gains, what it gives back, and calls that fail.
+// `ask` and `compact` over stores in memory: what a log gains, what it gives back, what it holds, and calls that fail.
 use super::ask::{asked_over, lines};
-use super::{Got, LOG};
-use cube_edge::{FileStore, MachineDisk};
-use cube_io::{Failing, MemStore, Reach, StopStore, Store};
+use super::{DIMS, FILE, Got, LOG, POLICY, ran_over};
+use cube_io::{Failing, MemStore, Reach, Store};
 use cube_model::Text;
 use std::alloc::Global;
-use std::fs;
 use std::process::Abort;
 use std::test::Fail;
 
@@ -14,6 +12,8 @@ const HEAD: &[u8] =
     b"cube-journal 1 4c8df3102cef829a9ffabc98216affca3b5385b1103591ab4371bfd90b02a4df\n";
 
 const MONTHS: &[u8] = b"slice pay by time.month\n";
+
+const MONTHS_LINE: &[u8] = b"q slice pay by time.month\n";
 
 const MONTHS_KEPT: &[u8] = b"200 29\ntime.month,pay\nJan,80\nFeb,70\n";
 
@@ -185,32 +185,45 @@ fn any_call_may_fail(rt: HostRuntime) -> Result<(), Fail> {
     Ok(())
 }
 
-// What the months get over files that stop behind so many calls.
-fn stopped(rt: &HostRuntime, calls: u64) -> Result<Got, Fail> {
-    let alloc = rt.alloc();
-    let files = FileStore::new(alloc, MachineDisk::new(rt), rt.stderr())?;
-    asked_over(alloc, &lines(MONTHS), &mut StopStore::new(files, calls))
-}
-
-// What the areas get over the files that this leaves.
-fn reopened(rt: &HostRuntime) -> Result<Got, Fail> {
-    let alloc = rt.alloc();
-    let mut files = FileStore::new(alloc, MachineDisk::new(rt), rt.stderr())?;
-    let got = asked_over(alloc, &lines(b"slice pay by region.area\n"), &mut files)?;
-    fs::remove_file(rt, "log")?;
-    fs::remove_file(rt, "log.seal")?;
-    Ok(got)
+// What is written of a log as what it holds, and what is in the log then.
+fn compacted_of(alloc: Global, log: &[u8]) -> Result<(Got, Text), Fail> {
+    let mut store = store_of(alloc, log, Vec::new(alloc))?;
+    let words: [&[u8]; 9] = [
+        b"compact",
+        b"--dims",
+        DIMS,
+        b"--facts",
+        FILE,
+        b"--policy",
+        POLICY,
+        b"--journal",
+        LOG,
+    ];
+    let got = ran_over(alloc, &words, &lines(b""), &mut store)?;
+    let kept = log_of(alloc, &mut store)?;
+    Ok((got, kept))
 }
 
 #[test]
-fn files_that_stop_hold_what_was_answered(rt: HostRuntime) -> Result<(), Fail> {
-    for calls in 0..13u64 {
-        let got = stopped(&rt, calls)?;
-        let later = reopened(&rt)?;
-        let is_kept = later.written.as_slice() == AREAS_REFUSED;
-        assert_eq!(rt; later.status, 0);
-        assert!(rt; is_kept || later.written.as_slice() == AREAS_GIVEN);
-        assert!(rt; is_kept || got.written.as_slice() != MONTHS_KEPT);
+fn a_journal_is_written_down_as_what_it_holds(rt: HostRuntime) -> Result<(), Fail> {
+    let alloc = rt.alloc();
+    let cases: [(&[u8], &[u8]); 3] = [
+        (b"", b""),
+        (MONTHS_LINE, b"s 0 2 0\n"),
+        (
+            b"q range hours region.city=Lyon..Nice, time.month=Jan..Jan\nq slice pay by time.month\n",
+            b"s 0 2 0\nk 1 0 2\n",
+        ),
+    ];
+    for (entries, held) in cases {
+        let log = joined(alloc, &[HEAD, entries])?;
+        let (got, kept) = compacted_of(alloc, log.as_slice())?;
+        let written = joined(alloc, &[b"cube-journal 2 ", &HEAD[15..], held])?;
+        assert_eq!(rt; got.status, 0);
+        assert_eq!(rt; got.written.as_slice(), written.as_slice());
+        assert_eq!(rt; kept.as_slice(), log.as_slice());
+        let (again, _) = compacted_of(alloc, written.as_slice())?;
+        assert_eq!(rt; again.written.as_slice(), written.as_slice());
     }
     Ok(())
 }

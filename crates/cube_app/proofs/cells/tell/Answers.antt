@@ -4,7 +4,8 @@ use Rattle.cube_io.specs.Seen.{seen}
 use Rattle.cube_opening.proofs.Accepted.{all_accepted}
 use Rattle.cube_serving.proofs.Started.{opened}
 use Rattle.cube_serving.proofs.Unopened.{not_nine}
-use Rattle.cube_app.specs.Cells.{Tells, cell_text}
+use Rattle.cube_app.specs.Cells.{Tells, KeepsIf, told_text}
+use Rattle.cube_app.proofs.Compacts.{keeps_if}
 use Rattle.cube_app.proofs.Unasked.{unasked}
 use Rattle.cube_app.proofs.cells.tell.Goals as goal
 
@@ -15,7 +16,7 @@ returns-clause-answers g c =
     let policy = guarded.policy in
     let y = c.in-Ok-open_engine.ensures in
     let engine = c.in-Ok-open_engine.started.value in
-    let text = λ (e : Engine). cell_text c.args.is_twin e.core e.policy e.history c.args.cell.now in
+    let text = λ (e : Engine). told_text c.args.telling e.core e.policy e.history c.args.cell.now in
     let out = seen g.O.Sink.state c.args.out.now c.put_told.new.out in
     let tells = c.put_told.ensures.tells (text engine) c.told_of-told.ensures.ok c.told_of-told.ensures.err in
     inr (
@@ -26,6 +27,7 @@ returns-clause-answers g c =
         history = engine.history;
         opened = opened c.args.cube.now (g.F.Folder.state c.args.files.now) g.S.Store.state c.args.store.now c.open_engine.new.store core policy guarded.facts engine 1 c.in-Ok.ensures.ok.1 c.in-Ok.ensures.digest y.engine y.rules y.history y.agreed y.sealed y.seals;
         tells = subst (λ (e : Engine). Tells (text e) out c.put_told.result) y.engine tells;
+        keeps = subst (λ (e : Engine). KeepsIf c.args.telling e.core e.policy e.history) y.engine (keeps_if c.args.telling engine y.rules);
         passed = y.crash;
         exact = y.exact;
       },

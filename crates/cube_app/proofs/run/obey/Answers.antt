@@ -1,4 +1,7 @@
-use Rattle.std.proofs.Common.{refl, ap, inl}
+use Rattle.std.proofs.Common.{refl, ap, inl, ℕ, List, subst}
+use Rattle.cube_io.specs.Seen.{seen}
+use Rattle.cube_app.specs.Cells.{TellRun}
+use Rattle.cube_app.specs.declared.cells.Telling.TheVariants as telling
 use Rattle.cube_words.specs.declared.ordered.Orders.TheVariants as orders
 use Rattle.cube_app.proofs.Ordered.{obeyed_as}
 use Rattle.cube_app.proofs.run.obey.Goals as goal
@@ -122,6 +125,26 @@ returns-in-Twin g c =
     let x = c.tell-in-Twin.ensures in
     obeyed_as c.args.orders (orders.Twin c.in-Twin.cube c.in-Twin.journal c.in-Twin.cell) c.in-Twin.is (record {
       does = record { answers = x.answers; named = x.names; few_calls = x.calls; complete = x.complete };
+      leaves = (refl, refl, x.outcomes);
+      causes = record {
+        unreadable = λ is. inl (x.unreadable is, refl);
+        output = x.output;
+        unheard = λ is. absurd (x.wire is);
+        unkept = λ is. (x.unkept is, x.outcomes);
+        steady = λ no. (x.steady no, refl);
+        output_steady = x.output_steady;
+        wire_steady = λ no. refl;
+      };
+      ordered = x.words;
+      others = x.others;
+    })
+
+pub returns-in-Compact : goal.returns-in-Compact
+returns-in-Compact g c =
+    let x = c.tell-in-Compact.ensures in
+    obeyed_as c.args.orders (orders.Compact c.in-Compact.cube c.in-Compact.journal c.in-Compact._out) c.in-Compact.is (record {
+      does = subst (λ (cell : List ℕ). TellRun telling.Compacted c.in-Compact.cube c.in-Compact.journal cell (seen g.F.Folder.state c.args.files.now c.tell-in-Compact.new.files) (seen g.S.Store.state c.args.store.now c.tell-in-Compact.new.store) (seen g.O.Sink.state c.args.out.now c.tell-in-Compact.new.out) c.tell-in-Compact.result)
+          c.new-no_cell.ensures (record { answers = x.answers; named = x.names; few_calls = x.calls; complete = x.complete });
       leaves = (refl, refl, x.outcomes);
       causes = record {
         unreadable = λ is. inl (x.unreadable is, refl);

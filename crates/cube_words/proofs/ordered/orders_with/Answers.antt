@@ -14,3 +14,6 @@ serve_with-requires c = subst (λ (x : Command). IsRight x c.args.words.now) c.i
 
 pub replay_with-requires : goal.replay_with-requires
 replay_with-requires c = subst (λ (x : Command). IsRight x c.args.words.now) c.in-Replay.is c.requires
+
+pub compact_with-requires : goal.compact_with-requires
+compact_with-requires c = subst (λ (x : Command). IsRight x c.args.words.now) c.in-Compact.is c.requires

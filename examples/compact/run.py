@@ -1,0 +1,177 @@
+#!/usr/bin/env python3
+"""Compact: a journal written down as what it holds, and what is asked over it then.
+
+Each row says what was compacted and what came of it; the first in which something else came ends the script with
+status 1. Needs Python 3 alone. The program is the environment's CUBE.
+"""
+
+import pathlib
+import subprocess
+import sys
+import tempfile
+import time
+
+sys.path.insert(0, str(pathlib.Path(__file__).resolve().parent.parent))
+
+from servers import CUBE, Wrong, build, check  # noqa: E402
+from small import PAY  # noqa: E402
+
+PATIENCE = 120
+MOST = 16_384
+LEAVES = 20_000
+
+GRID = {
+    "dims": """[[dimension]]
+name = "row"
+levels = ["r"]
+paths = [["r0"], ["r1"]]
+[[dimension]]
+name = "col"
+levels = ["c"]
+paths = [["c0"], ["c1"], ["c2"]]
+[[measure]]
+name = "v"
+""",
+    "facts": "r,c,v\nr0,c1,7\nr1,c0,8\nr1,c2,9\n",
+    "policy": "[[measure]]\nname = \"v\"\nmethod = \"parity\"\n",
+}
+
+LINE = {
+    "dims": "[[dimension]]\nname = \"d\"\nlevels = [\"l\"]\npaths = [%s]\n[[measure]]\nname = \"v\"\n"
+    % ", ".join(f'["l{leaf}"]' for leaf in range(LEAVES)),
+    "facts": "l,v\n" + "".join(f"l{leaf},1\n" for leaf in range(LEAVES)),
+    "policy": GRID["policy"],
+}
+
+MONTHS = "slice pay by time.month"
+AREAS = "slice pay by region.area"
+REFUSED = "403 102\nsource: the cuboid (region.area, time.month) does not cut the cell (region.city=Lyon, time.month=Feb)\n"
+
+
+class Cube:
+    """The files of a cube in a folder, and journals beside them."""
+
+    def __init__(self, folder, name, files):
+        self.folder = folder / name
+        self.folder.mkdir()
+        for kind, text in files.items():
+            (self.folder / kind).write_text(text)
+        self.digest = self.run("check").splitlines()[-1].removeprefix("digest ")
+
+    def path(self, name):
+        return self.folder / name
+
+    def ends(self, command, *words, given=""):
+        """Runs a command to its end: its status, what it wrote, and its notes and text."""
+        files = [word for kind in ("dims", "facts", "policy") for word in (f"--{kind}", self.path(kind))]
+        done = subprocess.run([CUBE, command, *files, *words], input=given.encode(), capture_output=True, timeout=PATIENCE)
+        return done.returncode, done.stdout.decode(), done.stderr.decode()
+
+    def run(self, command, *words, given=""):
+        status, written, said = self.ends(command, *words, given=given)
+        check(status == 0, f"{command} {words}: status {status}, {said}")
+        return written
+
+    def ask(self, journal, *lines):
+        return self.run("ask", "--journal", self.path(journal), given="".join(f"{line}\n" for line in lines))
+
+    def compact(self, journal):
+        return self.run("compact", "--journal", self.path(journal))
+
+    def text(self, *lines):
+        """The text of a journal of the second version with these lines behind the first."""
+        return "".join(f"{line}\n" for line in (f"cube-journal 2 {self.digest}", *lines))
+
+
+def a_source(folder):
+    cube = Cube(folder, "source", PAY)
+    cube.ask("old", MONTHS)
+    cell = ["--cell", "cell pay region.city=Lyon, time.month=Feb"]
+    changes = cube.run("witness", "--journal", cube.path("old"), *cell)
+    before = cube.path("old").read_bytes()
+    text = cube.compact("old")
+    check(text == cube.text("s 0 2 0"), f"another text: {text}")
+    check(cube.path("old").read_bytes() == before, "compact changed the journal")
+    cube.path("new").write_text(text)
+    check(cube.compact("new") == text, "compacted once more it is another text")
+    check(cube.run("witness", "--journal", cube.path("new"), *cell) == changes, "other changes")
+    check(cube.ask("new", AREAS) == REFUSED, "pay by area is not refused as before")
+    check(cube.ask("new", MONTHS) == "200 29\ntime.month,pay\nJan,80\nFeb,70\n", "pay by month is not answered")
+    check(cube.path("new").read_text() == text, "a known request added a line")
+    return "pay by month is one source; pay by area is refused behind it, the changes are the same"
+
+
+def links(folder):
+    cube = Cube(folder, "links", GRID)
+    first, second, third = "range v col.c=c0..c1", "cell v row.r=r1", "range v col.c=c1..c2"
+    replies = cube.ask("old", first, second, third)
+    text = cube.compact("old")
+    check(text == cube.text("k 0 0 1", "k 0 1 2"), f"another text: {text}")
+    cube.path("new").write_text(text)
+    check(cube.ask("new", first, second, third) == replies, "other replies")
+    check(cube.path("new").read_text() == text, "a known request added a line")
+    for line, why in (("k 0 0 2", "inadmissible"), ("k 0 1 1", "damaged"), ("k 0 0 9", "damaged"), ("s 0 0 0", "damaged")):
+        cube.path("bad").write_text(cube.text("k 0 0 1", "k 0 1 2", line))
+        cube.path("bad.seal").unlink(missing_ok=True)
+        for command in ("ask", "compact"):
+            status, written, said = cube.ends(command, "--journal", cube.path("bad"))
+            check((status, written) == (4, "") and said.endswith(f"journal: line 4 {why}\n"), f"{line}: {status} {said}")
+    return "two sums are two links; a link more that does not fit is named by its line, under compact as under ask"
+
+
+def nothing(folder):
+    cube = Cube(folder, "nothing", PAY)
+    check(cube.compact("new") == cube.text(), "an empty history is not a first line alone")
+    check(cube.path("new").read_text() == f"cube-journal 1 {cube.digest}\n", "the new journal is not begun")
+    other = Cube(folder, "other", GRID)
+    status, written, said = other.ends("compact", "--journal", cube.path("new"))
+    check((status, written) == (4, "") and f"journal: digest {cube.digest} is not {other.digest}\n" in said, said)
+    return "an empty history is a first line alone; the journal of another cube is refused"
+
+
+def in_place(folder):
+    cube = Cube(folder, "in_place", PAY)
+    cube.ask("pay", MONTHS, "cell hours region.city=Lyon")
+    cube.path("pay.new").write_text("what an earlier run left, longer than all that is written there now\n" * 9)
+    text = cube.compact("pay")
+    check(cube.run("compact", "--journal", cube.path("pay"), "--out", cube.path("pay")) == "", "something was printed")
+    check(cube.path("pay").read_text() == text, "the journal is not the compacted one")
+    check(not cube.path("pay.new").exists(), "the file beside is still there")
+    check(cube.ask("pay", AREAS) == REFUSED, "pay by area is not refused as before")
+    cube.run("compact", "--journal", cube.path("pay"), "--out", cube.path("else"))
+    check(cube.path("else").read_text() == text, "another file got another text")
+    status, _, said = cube.ends("compact", "--journal", cube.path("pay"), "--out", cube.path("none/else"))
+    check(status == 6 and said.endswith("output failed\n") and "No such file" in said, f"no folder: {status} {said}")
+    status, _, said = cube.ends("compact", "--journal", cube.path("pay"), "--out", cube.folder)
+    check(status == 6 and "no regular file" in said, f"a folder: {status} {said}")
+    check(cube.path("pay").read_text() == text, "a failed run changed the journal")
+    return "--out puts the journal in its own place, whole, or into another file; where it cannot, nothing is changed"
+
+
+def a_full_history(folder):
+    cube = Cube(folder, "full", LINE)
+    cube.path("old").write_text(f"cube-journal 1 {cube.digest}\n" + "".join(f"q range v d.l=l{i}..l{i + 1}\n" for i in range(MOST)))
+    more = f"range v d.l=l{MOST}..l{MOST + 1}"
+    check(cube.ask("old", more) == f"403 39\nfull: the history holds {MOST} requests\n", "the history is not full")
+    began = time.monotonic()
+    cube.run("compact", "--journal", cube.path("old"), "--out", cube.path("new"))
+    took = time.monotonic() - began
+    check(cube.path("new").read_text() == cube.text(*(f"k 0 {i} {i + 1}" for i in range(MOST))), "another basis")
+    check(cube.ask("new", more, f"range v d.l=l0..l3") == "200 4\nv\n2\n200 4\nv\n4\n", "the full request is not answered")
+    check(took < 10, f"{took:.1f} s")
+    return f"{MOST} ranges over {LEAVES} leaves compact in {took:.1f} s, and one more is answered then"
+
+
+def main():
+    build()
+    with tempfile.TemporaryDirectory() as name:
+        try:
+            for act in (a_source, links, nothing, in_place, a_full_history):
+                print(act(pathlib.Path(name)), flush=True)
+        except (Wrong, OSError, subprocess.TimeoutExpired) as wrong:
+            print(f"run.py: {wrong}", file=sys.stderr)
+            sys.exit(1)
+
+
+if __name__ == "__main__":
+    main()
