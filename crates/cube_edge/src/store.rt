@@ -111,6 +111,23 @@ pub(crate) fn note<N: Write>(notes: &mut N, path: &str, trouble: &Trouble) -> Fa
     Failed
 }
 
+/// Why the file of a log is not open.
+#[derive(Drop)]
+enum Unopened {
+    /// It is refused.
+    Failed,
+    /// There was no memory for it.
+    NoMemory,
+}
+
+/// What the trouble with a file comes to.
+fn unopened_by(trouble: &Trouble) -> Unopened {
+    match trouble {
+        Trouble::Refused(error) if error.kind() == ErrorKind::OutOfMemory => Unopened::NoMemory,
+        _ => Unopened::Failed,
+    }
+}
+
 /// Says in the notes how many entries stand in a log that was read, on the lines behind its first; of a seal that it is new.
 fn note_entries<N: Write>(notes: &mut N, path: &str, log: u32, bytes: &[u8]) {
     let mut lines = 0u64;
@@ -176,21 +193,26 @@ impl<D: Disk + Drop, N: Write + Drop> LogFiles<D, N> {
     }
 
     /// Opens the file of a log, where it isn't open.
-    fn open(&mut self, log: u32) -> Result<(), Failed>
+    fn open(&mut self, log: u32) -> Result<(), Unopened>
         ensures rests { Rests (D.state self.old.disk) (D.state self.new.disk) }
         ensures name { self.new.name ≡ self.old.name }
         ensures path { OnOk result (string_bytes self.new.path ≡ path_of (string_bytes self.old.name) log) }
     {
-        self.find(log)?;
+        if self.find(log).is_err() {
+            return Err(Unopened::Failed);
+        }
         if self.files.contains_key(&log) {
             return Ok(());
         }
         match open_log(&mut self.disk, self.path.as_str()) {
             Ok(file) => match self.files.insert(log, file) {
                 Ok(_) => Ok(()),
-                Err(_) => Err(Failed),
+                Err(_) => Err(Unopened::NoMemory),
             },
-            Err(trouble) => Err(note(&mut self.notes, self.path.as_str(), &trouble)),
+            Err(trouble) => {
+                note(&mut self.notes, self.path.as_str(), &trouble);
+                Err(unopened_by(&trouble))
+            }
         }
     }
 
@@ -201,8 +223,10 @@ impl<D: Disk + Drop, N: Write + Drop> LogFiles<D, N> {
         ensures fits { IfOk result (λ text. length text ≤ 2 ^ 28) }
         ensures long { IsTrue (D.state self.old.disk).told → IsErrOf result fault.TooLong → 2 ^ 28 < length ((D.state self.old.disk).logs (path_of (string_bytes self.old.name) log)).state.now }
     {
-        if self.open(log).is_err() {
-            return Err(ReadFault::Failed);
+        match self.open(log) {
+            Ok(()) => {}
+            Err(Unopened::Failed) => return Err(ReadFault::Failed),
+            Err(Unopened::NoMemory) => return Err(ReadFault::NoMemory),
         }
         let Some(file) = self.files.get_mut(&log) else {
             return Err(ReadFault::Failed);
@@ -229,7 +253,9 @@ impl<D: Disk + Drop, N: Write + Drop> LogFiles<D, N> {
         ensures grows { IsTrue (D.state self.old.disk).told → (unsaid : List ℕ) × OnOk result (unsaid ≡ [])
             × Appended piece.now unsaid ((D.state self.old.disk).logs (path_of (string_bytes self.old.name) log)) ((D.state self.new.disk).logs (path_of (string_bytes self.old.name) log)) }
     {
-        self.open(log)?;
+        if self.open(log).is_err() {
+            return Err(Failed);
+        }
         let Some(file) = self.files.get_mut(&log) else {
             return Err(Failed);
         };
@@ -246,7 +272,9 @@ impl<D: Disk + Drop, N: Write + Drop> LogFiles<D, N> {
         ensures passes { IsTrue (D.state self.old.disk).told → Cut len ((D.state self.old.disk).logs (path_of (string_bytes self.old.name) log)) ((D.state self.new.disk).logs (path_of (string_bytes self.old.name) log)) }
         ensures done { IsTrue (D.state self.old.disk).told → OnOk result (((D.state self.new.disk).logs (path_of (string_bytes self.old.name) log)).state ≡ shortened ((D.state self.old.disk).logs (path_of (string_bytes self.old.name) log)).state len) }
     {
-        self.open(log)?;
+        if self.open(log).is_err() {
+            return Err(Failed);
+        }
         let Some(file) = self.files.get_mut(&log) else {
             return Err(Failed);
         };
@@ -264,7 +292,9 @@ impl<D: Disk + Drop, N: Write + Drop> LogFiles<D, N> {
         ensures done { IsTrue (D.state self.old.disk).told → OnOk result (((D.state self.new.disk).logs (path_of (string_bytes self.old.name) log)).state ≡ settled ((D.state self.old.disk).logs (path_of (string_bytes self.old.name) log)).state.now) }
         ensures failed { IsTrue (D.state self.old.disk).told → OnErr result (((D.state self.new.disk).logs (path_of (string_bytes self.old.name) log)).state ≡ ((D.state self.old.disk).logs (path_of (string_bytes self.old.name) log)).state) }
     {
-        self.open(log)?;
+        if self.open(log).is_err() {
+            return Err(Failed);
+        }
         let Some(file) = self.files.get(&log) else {
             return Err(Failed);
         };
