@@ -1,7 +1,6 @@
 // Engines over small cubes under a policy, asked through their desk.
 use crate::makers::{Cube, make_engine, null_store};
-use cube_engine::Engine;
-use cube_io::{Desk, NullStore, Store};
+use cube_io::{Desk, Store};
 use cube_model::{Ask, NoMemory, Question, Reply, Text};
 use std::alloc::Global;
 use std::process::Abort;
@@ -45,18 +44,18 @@ pub(crate) fn ask_of(alloc: Global, kind: Asking, text: &[u8]) -> Result<Ask, No
 }
 
 /// The status and the body that the reply to an ask has to have.
-fn check_made(
+fn check_made<S: Store, D: Desk<S>>(
     rt: &impl Abort,
     alloc: Global,
-    engine: &mut Engine,
-    store: &mut NullStore,
+    desk: &mut D,
+    store: &mut S,
     ask: &Ask,
     wanted: (u16, &[u8]),
 ) -> Result<(), Fail>
-    requires { ⟦<Engine as Desk<NullStore>>⟧.fits engine.old store.old }
-    ensures { ⟦<Engine as Desk<NullStore>>⟧.fits engine.new store.new }
+    requires { D.fits desk.old store.old }
+    ensures { D.fits desk.new store.new }
 {
-    match put(alloc, engine, store, ask)? {
+    match put(alloc, desk, store, ask)? {
         Reply::Made { status, body, .. } => {
             assert_eq!(rt; status, wanted.0);
             assert_eq!(rt; body.as_slice(), wanted.1);
@@ -67,7 +66,7 @@ fn check_made(
 }
 
 /// One case: what is asked, its text, the status of its reply, and the body.
-type Case = (Asking, &'static [u8], u16, &'static [u8]);
+pub(crate) type Case = (Asking, &'static [u8], u16, &'static [u8]);
 
 const CASES: &[Case] = &[
     (Asking::Query, b"cell pay", 200, b"pay\n150\n"),
@@ -142,19 +141,20 @@ const CASES: &[Case] = &[
     (Asking::Group(b""), b"cell count", 200, b"count\n5\n"),
 ];
 
-fn check_cases(
+/// A desk answers these cases, one behind the other.
+pub(crate) fn check_cases<S: Store, D: Desk<S>>(
     rt: &impl Abort,
     alloc: Global,
-    engine: &mut Engine,
-    store: &mut NullStore,
+    desk: &mut D,
+    store: &mut S,
     cases: &[Case],
 ) -> Result<(), Fail>
-    requires { ⟦<Engine as Desk<NullStore>>⟧.fits engine.old store.old }
-    ensures { ⟦<Engine as Desk<NullStore>>⟧.fits engine.new store.new }
+    requires { D.fits desk.old store.old }
+    ensures { D.fits desk.new store.new }
 {
     'cases: for (kind, text, status, body) in cases {
         let ask = ask_of(alloc, *kind, text)?;
-        check_made(rt, alloc, engine, store, &ask, (*status, *body))?;
+        check_made(rt, alloc, desk, store, &ask, (*status, *body))?;
     }
     Ok(())
 }

@@ -90,7 +90,7 @@ fn front(bytes: &[u8], most: usize) -> &[u8] {
 }
 
 /// What stands behind the first bytes.
-fn behind(bytes: &[u8], first: usize) -> &[u8] {
+pub(crate) fn behind(bytes: &[u8], first: usize) -> &[u8] {
     if first < bytes.len() {
         &bytes[first..]
     } else {
@@ -236,7 +236,7 @@ fn recovered(alloc: Global, image: &[u8]) -> Result<Option<Text>, Fail> {
 }
 
 /// The length of the first line of a log.
-const HEAD_LEN: usize = 80;
+pub(crate) const HEAD_LEN: usize = 80;
 
 /// Whether these lines are what was answered, alone or with one more request.
 fn is_allowed(alloc: Global, lines: &[u8], kept: &[u8]) -> Result<bool, Fail> {

@@ -1,5 +1,5 @@
-//! Trials of cubes that are asked: engines over logs and stores that fail, what is recovered from logs, and the demonstration of a made
-//! cube.
+//! Trials of cubes that are asked: engines over logs and stores that fail, groups over one store, what is recovered from logs, and the
+//! demonstration of a made cube.
 //!
 //! There is nothing here but tests, each of something that no clause of the crates below says, and what they share.
 #![tactic(auto)]
@@ -8,6 +8,8 @@
 mod demos;
 #[cfg(test)]
 mod engines;
+#[cfg(test)]
+mod groups;
 #[cfg(test)]
 mod images;
 #[cfg(test)]

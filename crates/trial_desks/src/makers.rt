@@ -62,11 +62,20 @@ fn cities(measure: u32, area: Option<u32>) -> Guard
 fn pay_under(alloc: Global, guards: &[Guard]) -> Result<(Core, Policy), NoMemory>
     requires few { length guards.now ≤ 64 }
     requires guards { Each (IsGuard method.Lattice method.Parity) guards.now }
-    ensures { IfOk result (λ made. IsPolicy made.0.dims made.1) }
+    ensures core { IfOk result (λ made. made.0 ≡ pay_cube) }
+    ensures policy { IfOk result (λ made. IsPolicy made.0.dims made.1) }
 {
     let core = make_pay(alloc)?;
     let rules = policy(alloc, Method::Lattice, Method::Parity, guards)?;
     Ok((core, rules))
+}
+
+/// The pay cube of `Cube::Pay`, under its policy.
+pub(crate) fn make_guarded_pay(alloc: Global) -> Result<(Core, Policy), NoMemory>
+    ensures core { IfOk result (λ made. made.0 ≡ pay_cube) }
+    ensures policy { IfOk result (λ made. IsPolicy made.0.dims made.1) }
+{
+    pay_under(alloc, &[cities(0, None)])
 }
 
 fn some_under(alloc: Global) -> Result<(Core, Policy), NoMemory>
@@ -89,7 +98,7 @@ pub(crate) fn make(alloc: Global, cube: Cube) -> Result<(Core, Policy), NoMemory
     ensures { IfOk result (λ made. IsPolicy made.0.dims made.1) }
 {
     match cube {
-        Cube::Pay => pay_under(alloc, &[cities(0, None)]),
+        Cube::Pay => make_guarded_pay(alloc),
         Cube::South => pay_under(alloc, &[cities(0, None), cities(1, Some(0))]),
         Cube::SomeFields => some_under(alloc),
         Cube::AllFields => all_under(alloc),

@@ -1,5 +1,4 @@
-use Rattle.std.proofs.Common.{IsTrue}
 use Rattle.trial_desks.proofs.engines.check_cases.Given as goal
 
 abbrev pub invariant-cases : goal.invariant-cases
-invariant-cases g l = IsTrue l.store.attached
+invariant-cases g l = g.D.Desk.fits l.desk l.store
