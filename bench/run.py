@@ -119,13 +119,17 @@ def run_server(words, folder):
     """Until it listens."""
     start = time.perf_counter()
     child = subprocess.Popen(words, cwd=folder, stdin=subprocess.DEVNULL, stdout=subprocess.DEVNULL, stderr=subprocess.PIPE)
-    line = child.stderr.readline()
+    said = []
+    for line in child.stderr:
+        said.append(line)
+        if line.startswith(b"listening"):
+            break
     seconds = time.perf_counter() - start
     child.send_signal(signal.SIGTERM)
     child.stderr.read()
     _, _, used = os.wait4(child.pid, 0)
-    if not line.startswith(b"listening"):
-        sys.exit(f"{' '.join(words)}: {line.decode(errors='replace')}")
+    if not (said and said[-1].startswith(b"listening")):
+        sys.exit(f"{' '.join(words)}: {b''.join(said).decode(errors='replace')}")
     return seconds, used.ru_maxrss / 1024
 
 
@@ -136,8 +140,9 @@ def files(program, command, *more):
 def with_journal(program, folder, command, *more):
     """A run from an empty journal."""
     def start(stdin=b""):
-        if os.path.exists(f"{folder}/journal"):
-            os.remove(f"{folder}/journal")
+        for name in ("journal", "journal.seal"):
+            if os.path.exists(f"{folder}/{name}"):
+                os.remove(f"{folder}/{name}")
         words = files(program, command, "--journal", "journal", *more)
         return run_server(words, folder) if command == "serve" else run(words, folder, stdin)
     return start
