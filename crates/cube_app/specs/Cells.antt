@@ -38,7 +38,7 @@ KeepsIf Twin core policy h = ⊤
 KeepsIf Compacted core policy h = KeepsAll core policy h
 
 -- The text was told by an open cube and its history, which stays: every crash leaves it, and at each moment the log is as at entry, or
--- every crash leaves what recovers the same. Where memory lasts, a compacted history keeps all.
+-- every crash leaves what recovers the same. A compacted history keeps all.
 pub record Told {S O : Type 0} (telling : Telling) (cube : CubeFiles) (cell : List ℕ) (files : FolderState) (store : Seen StoreState S) (out : Seen SinkState O) (r : Report) : Type 0 where
   pub core : Core
   pub policy : Policy
