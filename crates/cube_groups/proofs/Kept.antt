@@ -14,7 +14,7 @@ use Rattle.cube_model.proofs.DimsFacts.{distinct_by_turns}
 use Rattle.cube_model.proofs.Parts.{list_any-map}
 use Rattle.cube_tables.specs.Tables.{as_tables, is_empty_array, items_list, table_in, under}
 use Rattle.cube_tables.proofs.Turns.{no_append, no_check, nothing, value, turn_at}
-use Rattle.cube_groups.specs.Names.{is_group_name}
+use Rattle.cube_model.specs.Names.{is_group_name}
 use Rattle.cube_groups.specs.Rules.{AreGroups}
 use Rattle.cube_groups.specs.GroupsFile.{tables_of, group_of, group_faults, list_faults, tables_faults, groups_faults, groups_in}
 use Rattle.cube_groups.specs.declared.group.GroupFile.{GroupFile}

@@ -6,7 +6,7 @@ use Rattle.toml.specs.Data.{Data, Members, as_str}
 use Rattle.cube_model.specs.Checks.{check, in_turn, unless}
 use Rattle.cube_tables.specs.Kinds as kinds
 use Rattle.cube_tables.specs.Tables.{toml_of, under, as_tables, value_or, items_at, table_in, entry_of, key_of}
-use Rattle.cube_groups.specs.Names.{is_group_name}
+use Rattle.cube_model.specs.Names.{is_group_name}
 use Rattle.cube_groups.specs.declared.fault.GroupsFault.{GroupsFault}
 use Rattle.cube_groups.specs.declared.fault.GroupsFault.TheVariants as fault
 use Rattle.cube_groups.specs.declared.group.GroupFile.{GroupFile}

@@ -1,4 +1,3 @@
-pub mod Names
 pub mod GroupsFile
 pub mod NamedBooks
 pub mod Rules

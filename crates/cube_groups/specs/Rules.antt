@@ -2,7 +2,7 @@
 use Rattle.std.specs.Prelude.{◌≡◌, ◌≤◌, true, List, length, map}
 use Rattle.cube_model.specs.Cubes.{Each}
 use Rattle.cube_model.specs.Dims.{AreDistinct}
-use Rattle.cube_groups.specs.Names.{is_group_name}
+use Rattle.cube_model.specs.Names.{is_group_name}
 use Rattle.cube_groups.specs.declared.group.GroupFile.{GroupFile}
 
 -- 1 to 16 groups, each with the name of a group, and no two with the same

@@ -6,13 +6,12 @@ ghost use Rattle.toml.specs.View.{table_view};
 ghost use Rattle.cube_model.specs.Answers.{Answers};
 ghost use Rattle.cube_model.specs.Checks.{check, unless};
 ghost use Rattle.cube_tables.specs.Tables.{key_of};
-ghost use Rattle.cube_groups.specs.Names as spec;
+ghost use Rattle.cube_model.specs.Names as spec;
 ghost use Rattle.cube_groups.specs.GroupsFile.{group_of, name_faults, group_faults_at, group_faults};
 ghost use Rattle.cube_groups.specs.declared.fault.GroupsFault.TheVariants as fault;
 
 use crate::fault::GroupsFault;
-use crate::names::is_group_name;
-use cube_model::{Items, Text};
+use cube_model::{Items, Text, is_group_name};
 use cube_tables::{entry_text, key_text, read_text};
 use std::alloc::Global;
 use toml::Table;

@@ -5,13 +5,11 @@ mod fault;
 mod group;
 mod groups;
 mod named;
-mod names;
 mod read;
 mod worked;
 
 pub use fault::{GroupsFault, fault_text};
 pub use group::{GroupFile, GroupList};
 pub use groups::Groups;
-pub use names::is_group_name;
 pub use read::read_groups;
 pub use worked::worked_files;

@@ -1,7 +1,7 @@
 -- What a request asks for.
-use Rattle.std.specs.Prelude.{ℕ, ◌&&◌, ◌||◌, ◌==◌, Bool, List, [], ◌∷◌, length, take, drop, nat_lt, nat_le, nat_eq, Option, Some, None, option_map, if◌then◌else◌, bytes_eq, codes}
-use Rattle.std.specs.List.{starts_with, list_all, before_first, after_first, position_or_len}
-use Rattle.std.specs.Char.{is_ascii_alphanumeric}
+use Rattle.std.specs.Prelude.{ℕ, ◌||◌, ◌==◌, Bool, List, [], ◌∷◌, take, drop, nat_eq, Option, Some, None, option_map, if◌then◌else◌, bytes_eq, codes}
+use Rattle.std.specs.List.{starts_with, before_first, after_first, position_or_len}
+use Rattle.cube_model.specs.Names.{is_group_name}
 use Rattle.cube_model.specs.declared.ask.Ask.{Ask}
 use Rattle.cube_model.specs.declared.ask.Question.{Question}
 use Rattle.cube_model.specs.declared.ask.Question.TheVariants as question
@@ -55,13 +55,6 @@ plain_route path =
     else if bytes_eq path (codes "/v1/witness") then Some route.Witness
     else if bytes_eq path (codes "/v1/shape") then Some route.Shape
     else None
-
-abbrev pub is_name_byte : ℕ → Bool
-is_name_byte b = is_ascii_alphanumeric b || b == 95 || b == 45
-
--- the name of a group: 1 to 32 letters, digits, `_` or `-`
-abbrev pub is_group_name : List ℕ → Bool
-is_group_name name = nat_lt 0 (length name) && nat_le (length name) 32 && list_all is_name_byte name
 
 -- what is asked of a group, or of the server's own cube
 abbrev pub aimed : Option (List ℕ) → Question → Ask

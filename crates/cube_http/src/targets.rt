@@ -1,6 +1,6 @@
 // What a request asks for.
 ghost use Rattle.std.specs.Prelude.{◌≡◌, IfOk, option_map, position, codes, if◌then◌else◌};
-ghost use Rattle.std.specs.List.{list_all, before_first, after_first};
+ghost use Rattle.std.specs.List.{before_first, after_first};
 ghost use Rattle.cube_http.specs.Targets as spec;
 ghost use Rattle.cube_http.specs.Methods as methods;
 ghost use Rattle.cube_http.specs.Form.{first_named};
@@ -10,7 +10,7 @@ ghost use Rattle.cube_http.specs.declared.targets.Wanted.TheVariants as wanted;
 
 use crate::form::find_value;
 use crate::head::{MethodKind, is_post};
-use cube_model::{Ask, Fixed, NoMemory, Question, Text};
+use cube_model::{Ask, Fixed, NoMemory, Question, Text, is_group_name};
 use std::alloc::Global;
 
 /// What a path leads to.
@@ -122,18 +122,6 @@ fn plain_route(path: &[u8]) -> Option<Route>
     } else {
         None
     }
-}
-
-fn are_name_bytes(name: &[u8]) -> bool
-    ensures { result ≡ list_all spec.is_name_byte name.now }
-{
-    name.iter().all(|byte| byte.is_ascii_alphanumeric() || *byte == b'_' || *byte == b'-')
-}
-
-fn is_group_name(name: &[u8]) -> bool
-    ensures { result ≡ spec.is_group_name name.now }
-{
-    !name.is_empty() && name.len() <= 32 && are_name_bytes(name)
 }
 
 // Where a path behind `/g/` leads.

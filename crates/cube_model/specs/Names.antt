@@ -1,6 +1,7 @@
--- What a name is: the name of a dimension, a level, a member, a measure or a column.
+-- What a name is: the name of a dimension, a level, a member, a measure or a column, and of a group.
 use Rattle.std.specs.Prelude.{ℕ, Bool, not, ◌&&◌, ◌||◌, ◌==◌, nat_eq, nat_lt, nat_le, List, [], ◌∷◌, length, codes}
-use Rattle.std.specs.List.{list_any, starts_with}
+use Rattle.std.specs.List.{list_all, list_any, starts_with}
+use Rattle.std.specs.Char.{is_ascii_alphanumeric}
 use Rattle.std.specs.Str.{is_utf8, bytes_eq}
 
 -- a byte below 0x20, or 0x7F
@@ -27,3 +28,10 @@ is_level_name text = is_name text && not (bytes_eq text (codes "all"))
 -- the name of a measure: `count` is the number of facts
 unfoldable pub is_measure_name : List ℕ → Bool
 is_measure_name text = is_name text && not (bytes_eq text (codes "count"))
+
+abbrev pub is_name_byte : ℕ → Bool
+is_name_byte b = is_ascii_alphanumeric b || b == 95 || b == 45
+
+-- the name of a group: 1 to 32 ASCII letters, digits, `_` or `-`
+abbrev pub is_group_name : List ℕ → Bool
+is_group_name name = nat_lt 0 (length name) && nat_le (length name) 32 && list_all is_name_byte name

@@ -1,7 +1,7 @@
 // Tests of names.
 ghost use Rattle.std.specs.Prelude.{◌≡◌};
 ghost use Rattle.std.specs.List.{list_all};
-ghost use Rattle.cube_groups.specs.Names as spec;
+ghost use Rattle.cube_model.specs.Names as spec;
 
 /// Whether each byte may stand in the name of a group.
 fn are_name_bytes(name: &[u8]) -> bool
