@@ -74,9 +74,9 @@ one_file said name folder r (inr (inr (inl e))) = unreadable e.0.0
 one_file said name folder r (inr (inr (inr e))) = refused e.0.0
 
 all_files : {F : Type 0} (cube : CubeFiles) (folder : Seen FolderState F) (r : Report) → EndsUnopened cube folder r → Known r.status
-all_files cube folder r (inl e) = one_file dims_said cube.dims folder r e.unopened
-all_files cube folder r (inr (inl e)) = one_file (facts_said e.0) cube.facts folder r e.2.unopened
-all_files cube folder r (inr (inr e)) = one_file (policy_said e.0.dims) cube.policy folder r e.2.unopened
+all_files cube folder r (inl (inl e)) = one_file dims_said cube.dims folder r e.unopened
+all_files cube folder r (inl (inr e)) = one_file (facts_said e.0) cube.facts folder r e.2.unopened
+all_files cube folder r (inr e) = one_file (policy_said e.0.dims) cube.policy folder r e.2.unopened
 
 journal : {S : Type 0} (core : Core) (policy : Policy) (facts : List ℕ) (store : Seen StoreState S) (r : Report) → Unstarted core policy facts store r → Known r.status
 journal core policy facts store r (inl e) = no_memory e.0.0

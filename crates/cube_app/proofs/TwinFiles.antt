@@ -72,8 +72,8 @@ read_back core core' policy h is_core lt within e =
 makes_twin : (a b : Loaded) (h : Hidden) → IsCore a.core → h.measure < length a.core.dims.measures → AreTwins a b h → b.core ≡ with_cube a.core (cube_with a.core a.policy h)
 makes_twin a b h is_core lt twins =
     let bytes = facts_text a.core.dims a.core.shape (cube_with a.core a.policy h) in
-    let dims : b.core.dims ≡ a.core.dims = says_one dims_said b.core.dims a.core.dims (file_of a.known a.cube.dims) (subst (λ (o : Option (List ℕ)). IsSomeAnd o (λ x. dims_said x ≡ Ok b.core.dims)) twins.dims (b.makes.0).dims) (a.makes.0).dims in
-    let said : facts_said b.core.dims bytes ≡ Ok b.core = said_of (file_of b.known b.cube.facts) bytes (λ x. facts_said b.core.dims x ≡ Ok b.core) twins.facts (b.makes.0).facts in
+    let dims : b.core.dims ≡ a.core.dims = says_one dims_said b.core.dims a.core.dims (file_of a.known a.cube.dims) (subst (λ (o : Option (List ℕ)). IsSomeAnd o (λ x. dims_said x ≡ Ok b.core.dims)) twins.dims (b.makes.0).dims_are) (a.makes.0).dims_are in
+    let said : facts_said b.core.dims bytes ≡ Ok b.core = said_of (file_of b.known b.cube.facts) bytes (λ x. facts_said b.core.dims x ≡ Ok b.core) twins.facts (b.makes.0).facts_are in
     read_back a.core b.core a.policy h is_core lt twins.within (subst (λ (s : Dims). facts_said s bytes ≡ Ok b.core) dims said)
 
 -- a world by its values

@@ -13,6 +13,6 @@ one_file said name folder r (inr (inr (inl e))) = e.0.1
 one_file said name folder r (inr (inr (inr e))) = e.0.1
 
 pub unasked : {F : Type 0} (cube : CubeFiles) (folder : Seen FolderState F) (r : Report) → EndsUnopened cube folder r → r.outcomes ≡ []
-unasked cube folder r (inl e) = one_file dims_said cube.dims folder r e.unopened
-unasked cube folder r (inr (inl e)) = one_file (facts_said e.0) cube.facts folder r e.2.unopened
-unasked cube folder r (inr (inr e)) = one_file (policy_said e.0.dims) cube.policy folder r e.2.unopened
+unasked cube folder r (inl (inl e)) = one_file dims_said cube.dims folder r e.unopened
+unasked cube folder r (inl (inr e)) = one_file (facts_said e.0) cube.facts folder r e.2.unopened
+unasked cube folder r (inr e) = one_file (policy_said e.0.dims) cube.policy folder r e.2.unopened

@@ -115,7 +115,7 @@ given_grows s g h (Query text) = read_grows g h (request_of s text)
 given_grows s g h (Witness text) = extends_refl h
 given_grows s g h Shape = extends_refl h
 
-question_grows : (s : Dims) (g : Public) (h : List Entry) (q : Question) (o : Outcome) → Extends h (next_by (by_words s) o q g h)
+pub question_grows : (s : Dims) (g : Public) (h : List Entry) (q : Question) (o : Outcome) → Extends h (next_by (by_words s) o q g h)
 question_grows s g h q Given = given_grows s g h q
 question_grows s g h q JournalFault = extends_refl h
 question_grows s g h q NoMemory = extends_refl h

@@ -17,11 +17,11 @@ ghost use Rattle.cube_engine.specs.Prepared.{QuestionComes};
 ghost use Rattle.cube_engine.specs.Reads.{AskReadsFew};
 ghost use Rattle.cube_engine.specs.Worlds.{IsRuled};
 
-use crate::EngineFault;
 use crate::holding::Holding;
 use crate::opening::open_log;
 use crate::prepared::Prepared;
 use crate::witness::NoChanges;
+use crate::{EngineFault, SharedCore};
 use cube_admit::State;
 use cube_core::{Core, Steps};
 use cube_io::{Failed, Store};
@@ -55,7 +55,7 @@ impl Book {
     /// The book of a core under a policy, with the history that the log recovers.
     pub fn start<S: Store>(
         alloc: Global,
-        core: Core,
+        core: SharedCore,
         policy: Policy,
         store: &mut S,
         log: u32,
@@ -75,7 +75,7 @@ impl Book {
         ensures policy { IfOk result (λ book. book.policy ≡ policy) }
         ensures none { IfOk result (λ book. book.waiting ≡ None) }
     {
-        let (journal, state) = match open_log(alloc, &core, &policy, store, log) {
+        let (journal, state) = match open_log(alloc, core.get(), &policy, store, log) {
             Ok(opened) => opened,
             Err(fault) => return Err(fault),
         };

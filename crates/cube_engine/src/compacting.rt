@@ -16,8 +16,8 @@ impl Holding {
         ensures { IfOk result (λ text. text ≡ compacted_text self.now.core self.now.policy self.now.history) }
     {
         let _rules = self.core();
-        let digest = digest_for(alloc, &self.core, &self.policy)?;
-        let entries = self.state.compacted(alloc, &self.core, &self.policy)?;
+        let digest = digest_for(alloc, self.core.get(), &self.policy)?;
+        let entries = self.state.compacted(alloc, self.core.get(), &self.policy)?;
         journal2_text(alloc, &digest, entries.as_slice())
     }
 }

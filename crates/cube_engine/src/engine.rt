@@ -24,7 +24,7 @@ ghost use Rattle.cube_engine.specs.Worlds.{IsRuled, Opens};
 
 use crate::prepared::Prepared;
 use crate::turns::Turns;
-use crate::{Book, EngineFault, NoChanges};
+use crate::{Book, EngineFault, NoChanges, SharedCore};
 use cube_admit::State;
 use cube_core::{Core, Steps};
 use cube_io::Store;
@@ -157,6 +157,7 @@ impl Engine {
         ensures log { IfOk result (λ engine. engine.journal.log ≡ log) }
     {
         let turns = Turns::new(alloc, room)?;
+        let core = SharedCore::new(alloc, core)?;
         match Book::start(alloc, core, policy, store, log) {
             Ok(book) => Ok(Engine { book, turns }),
             Err(fault) => Err(fault),

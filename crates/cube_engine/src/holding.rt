@@ -10,6 +10,7 @@ ghost use Rattle.cube_query.specs.Canonical.{is_request};
 ghost use Rattle.cube_rollup.specs.Rollups.{entry_of};
 ghost use Rattle.cube_engine.specs.Books.{that_waits};
 
+use crate::SharedCore;
 use crate::rolling::{hold_next, roll_all};
 use cube_admit::State;
 use cube_core::{Core, Steps};
@@ -23,7 +24,7 @@ use std::sync::ledger::{Blank, Ledger};
 /// answered. A request that is answered first waits, and enters the history once its line is kept.
 #[derive(Drop)]
 pub(crate) struct Holding {
-    pub(crate) core: Core,
+    pub(crate) core: SharedCore,
     pub(crate) policy: Policy,
     pub(crate) state: State,
     pub(crate) rollups: Rollups,
@@ -48,7 +49,7 @@ impl Holding {
     /// A cube under a policy, with the history of a state behind which nothing waits.
     pub(crate) fn start(
         alloc: Global,
-        core: Core,
+        core: SharedCore,
         policy: Policy,
         state: State,
     ) -> Result<Holding, NoMemory>
@@ -57,7 +58,7 @@ impl Holding {
         requires none { state.pending ≡ None }
         ensures { IfOk result (λ holding. holding ≡ record { core = core; policy = policy; history = state.history; waiting = None }) }
     {
-        let rollups = roll_all::<Brand>(alloc, &core, &policy, &state, Blank::new(1))?;
+        let rollups = roll_all::<Brand>(alloc, core.get(), &policy, &state, Blank::new(1))?;
         Ok(Holding {
             core,
             policy,
@@ -75,8 +76,9 @@ impl Holding {
         ensures few { length (requests self.now.history) ≤ 16384 }
     {
         let _few = self.state.history();
-        let _rules = self.core.dims();
-        &self.core
+        let core = self.core.get();
+        let _rules = core.dims();
+        core
     }
 
     /// The policy.
@@ -112,10 +114,10 @@ impl Holding {
     {
         let verdict = self
             .state
-            .verdict(alloc, &self.core, &self.policy, request)?;
+            .verdict(alloc, self.core.get(), &self.policy, request)?;
         let held = hold_next(
             alloc,
-            &self.core,
+            self.core.get(),
             &self.policy,
             &self.state,
             &mut self.rollups,

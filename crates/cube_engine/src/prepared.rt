@@ -69,7 +69,7 @@ impl Holding {
         ensures prepared { IfOk result (λ prepared. prepared ≡ given_as (is_some self.now.waiting) (made.Made 200 kind.Csv (answer_words self.now.core.dims request.now (answer_of (world self.now.core self.now.policy) request.now))) (request_line self.now.core.dims request.now)) }
         ensures few { ReadsFew (shown self.now.core self.now.policy) self.now.history request.now steps.old steps.new }
     {
-        let body = answer_request(alloc, &self.core, &self.rollups, request, steps)?;
+        let body = answer_request(alloc, self.core.get(), &self.rollups, request, steps)?;
         let reply = Reply::Made {
             status: 200,
             kind: Kind::Csv,
@@ -78,7 +78,7 @@ impl Holding {
         if !self.state.pending() {
             return Ok(Prepared::Said(reply, Outcome::Given));
         }
-        let line = line_of(alloc, self.core.dims(), request)?;
+        let line = line_of(alloc, self.core.get().dims(), request)?;
         Ok(Prepared::Waits(reply, line))
     }
 

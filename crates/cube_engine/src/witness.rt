@@ -134,7 +134,7 @@ impl Holding {
         requires measure { measure < length self.now.policy.methods }
         ensures { IsGrounds (shown self.now.core self.now.policy) self.now.history measure result }
     {
-        grounds_of(&self.core, &self.policy, &self.state, measure)
+        grounds_of(self.core.get(), &self.policy, &self.state, measure)
     }
 
     // The changes for a cell of a measure.

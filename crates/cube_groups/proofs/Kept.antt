@@ -1,5 +1,5 @@
 -- What no fault of a groups file says: its groups keep the rules.
-use Rattle.std.proofs.Common.{◌≡◌, ℕ, zero, suc, ◌<◌, ◌≤◌, Bool, true, false, not, List, [], ◌∷◌, length, get_or, take, map, codes, refl, sym, ap, subst, ◌∙◌, eqb, Option, Some, None, Result, Ok, Err, arith}
+use Rattle.std.proofs.Common.{◌≡◌, ℕ, zero, suc, ◌<◌, ◌≤◌, Bool, true, false, not, List, [], ◌∷◌, ◌++◌, append_assoc, append-nil, length, get_or, take, map, codes, refl, sym, ap, subst, ◌∙◌, eqb, Option, Some, None, Result, Ok, Err, arith}
 use Rattle.std.specs.Prelude.{is_none, IfOk}
 use Rattle.std.specs.List.{list_any}
 use Rattle.std.specs.Str.{bytes_eq}
@@ -9,13 +9,11 @@ use Rattle.toml.specs.Data.{Data, string, integer, float, boolean, datetime, arr
 use Rattle.cube_model.specs.Answers.{Answers}
 use Rattle.cube_model.specs.Checks.{unless}
 use Rattle.cube_model.specs.Cubes.{Each}
-use Rattle.cube_model.specs.Dims.{AreDistinct}
-use Rattle.cube_model.proofs.DimsFacts.{distinct_by_turns}
 use Rattle.cube_model.proofs.Parts.{list_any-map}
 use Rattle.cube_tables.specs.Tables.{as_tables, is_empty_array, items_list, table_in, under}
 use Rattle.cube_tables.proofs.Turns.{no_append, no_check, nothing, value, turn_at}
 use Rattle.cube_model.specs.Names.{is_group_name}
-use Rattle.cube_groups.specs.Rules.{AreGroups}
+use Rattle.cube_groups.specs.Rules.{AreNew, AreGroups}
 use Rattle.cube_groups.specs.GroupsFile.{tables_of, group_of, group_faults, list_faults, tables_faults, groups_faults, groups_in}
 use Rattle.cube_groups.specs.declared.group.GroupFile.{GroupFile}
 use Rattle.cube_groups.specs.declared.fault.GroupsFault.{GroupsFault}
@@ -72,6 +70,14 @@ each_from : {X : Type 0} (P : X → Type 0) (xs : List X) (d : X) → ((k : ℕ)
 each_from P [] d h = tt
 each_from P (x ∷ xs) d h = (h zero (omega arith), each_from P xs d (λ k l. h (suc k) (omega (arith, l))))
 
+-- names of which none stands before itself are new one behind another
+new_by_turns : (earlier xs : List (List ℕ)) → ((k : ℕ) → k < length xs → list_any (bytes_eq (get_or xs k [])) (earlier ++ take k xs) ≡ false) → AreNew earlier xs
+new_by_turns earlier [] h = tt
+new_by_turns earlier (x ∷ xs) h = (
+  subst (λ (l : List (List ℕ)). list_any (bytes_eq x) l ≡ false) (append-nil earlier) (h zero (omega arith)),
+  new_by_turns (earlier ++ x ∷ []) xs (λ k l. subst (λ (ys : List (List ℕ)). list_any (bytes_eq (get_or xs k [])) ys ≡ false) (sym (append_assoc earlier (x ∷ []) (take k xs))) (h (suc k) (omega (arith, l)))),
+)
+
 module _ (ts : List Members) (none : tables_faults ts ≡ []) where
   abbrev gs : List GroupFile
   gs = map group_of ts
@@ -85,8 +91,8 @@ module _ (ts : List Members) (none : tables_faults ts ≡ []) where
       let within : k < length ts = omega (arith, long, l) in
       subst (λ g. is_group_name g.name ≡ true) (sym (get_or-map group_of ts k no_members (group_of no_members) within)) (follow k within).named)
 
-  distinct_kept : AreDistinct (map (λ g. g.name) gs)
-  distinct_kept = distinct_by_turns (map (λ (g : GroupFile). g.name) gs) (λ k l.
+  new_kept : AreNew [] (map (λ (g : GroupFile). g.name) gs)
+  new_kept = new_by_turns [] (map (λ (g : GroupFile). g.name) gs) (λ k l.
       let long = length-map ts group_of in
       let longer = length-map gs (λ (g : GroupFile). g.name) in
       let within : k < length ts = omega (arith, long, longer, l) in
@@ -106,7 +112,7 @@ are_groups t h =
       some = let l = many.some in omega (arith, l, long);
       few = let l = many.few in omega (arith, l, long);
       names = names_kept ts parts.1;
-      distinct_names = distinct_kept ts parts.1;
+      new_names = new_kept ts parts.1;
     }
 
 -- the groups that are answered keep the rules

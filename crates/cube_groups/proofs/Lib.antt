@@ -1,5 +1,2 @@
 pub mod Stated
 pub mod Kept
-pub mod Placed
-pub mod Turning
-pub mod Adding

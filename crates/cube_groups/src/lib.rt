@@ -3,13 +3,10 @@
 
 mod fault;
 mod group;
-mod groups;
-mod named;
 mod read;
 mod worked;
 
 pub use fault::{GroupsFault, fault_text};
 pub use group::{GroupFile, GroupList};
-pub use groups::Groups;
 pub use read::read_groups;
 pub use worked::worked_files;

@@ -7,7 +7,7 @@ use Rattle.std.proofs.lemmas.List.{append-nil, take_at, drop_all, take_all, take
 use Rattle.cube_io.specs.declared.faults.Failed.{Failed}
 use Rattle.cube_model.specs.Cubes.{IsIn}
 use Rattle.cube_io.specs.States.{State, Log, IsImage, IsInCut, IsInSync, Gained, Cut, Synced, settled, shortened, shortened_if}
-use Rattle.cube_io.proofs.Trails.{each_append, each_in, gained_then, gained_map, cut_gained, sync_gained, sync_last}
+use Rattle.cube_io.proofs.Trails.{each_append, each_in, gained_then, gained_map, cut_gained, sync_gained}
 use Rattle.cube_journal.specs.Lines.{onto, IsLine, IsInLine, IsEnded, IsPrefix, ended_lines}
 use Rattle.cube_journal.specs.Keeping.{Journal, Fits, IsInKeep, IsCutShort, KeepsLines, IsBegun, Restores, IsInRecovery}
 use Rattle.cube_journal.proofs.LineFacts.{lines_split, some_line, ended_line, ended_push, is_no_feed}
@@ -21,12 +21,6 @@ nothing_kept (x ∷ kept) lost (inr i) = absurd i
 -- a crash leaves all that is settled
 pub image_settled : (bytes b : List ℕ) → IsImage (settled bytes) b → b ≡ bytes
 image_settled bytes b image = image.whole ∙ ap (λ (l : List ℕ). bytes ++ l) (nothing_kept image.kept image.lost image.is_tail) ∙ append-nil bytes
-
-pub sync_state : (a b : Log) → Synced a b → b.state.now ≡ a.state.now
-sync_state a b sync = sync_last (λ s. s.now ≡ a.state.now) a b sync (λ s. ⊎_elim (λ same. ap (λ (x : State). x.now) same) (λ done. ap (λ (x : State). x.now) done))
-
-pub look_trail : (a b c : Log) → Synced a b → c ≡ b → Gained (IsInSync a.state) a c
-look_trail a b c sync same = subst (Gained (IsInSync a.state) a) (sym same) (sync_gained (IsInSync a.state) a b sync (λ s i. i))
 
 -- the images of a cut of what is settled
 whole_short : (len : ℕ) (bytes : List ℕ) → IsCutShort len bytes bytes

@@ -21,7 +21,7 @@ use cube_io::{Failed, ReadFault, Store};
 use cube_model::{Dims, History, Policy, Text};
 use std::alloc::Global;
 
-/// Syncs a log and reads it.
+/// Reads a log and syncs it. To read it comes first, since it can say that there is no memory to open the log.
 fn look<S: Store>(alloc: Global, store: &mut S, log: u32) -> Result<Text, ReadFault>
     requires { IsTrue (S.state store.old).attached }
     ensures cause { ReadCause (S.state store.old).faults (S.state store.new).faults result }
@@ -37,11 +37,11 @@ fn look<S: Store>(alloc: Global, store: &mut S, log: u32) -> Result<Text, ReadFa
     ensures long { IsTrue (S.state store.old).told → IsErrOf result read.TooLong
         → 2 ^ 28 < length ((S.state store.old).logs log).state.now }
 {
+    let bytes = store.read_all(alloc, log)?;
     match store.sync(log) {
-        Ok(()) => {}
-        Err(_) => return Err(ReadFault::Failed),
+        Ok(()) => Ok(bytes),
+        Err(_) => Err(ReadFault::Failed),
     }
-    store.read_all(alloc, log)
 }
 
 /// Cuts a log to its first bytes, and syncs it.

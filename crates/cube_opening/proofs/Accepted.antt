@@ -8,7 +8,7 @@ use Rattle.cube_model.specs.declared.policy.Policy.{Policy}
 use Rattle.cube_io.specs.Causes.{Rose}
 use Rattle.cube_io.specs.Files.{file_of}
 use Rattle.cube_io.specs.Seen.{FolderState, Seen}
-use Rattle.cube_opening.specs.Opening.{dims_said, facts_said, policy_said, FileSays, Unopened, Makes, MakesAll, EndsUnopened, HasAll}
+use Rattle.cube_opening.specs.Opening.{dims_said, facts_said, policy_said, FileSays, Unopened, MakesCore, MakesAll, EndsUnfounded, EndsUnopened, HasAll}
 use Rattle.cube_opening.specs.declared.cube_files.CubeFiles.{CubeFiles}
 use Rattle.cube_opening.specs.declared.report.Report.{Report}
 
@@ -29,10 +29,10 @@ not_both said x text None h k = h
 not_both said x text (Some bytes) h k = ok_not_err x text (said bytes) h k
 
 -- a core has the dimensions of its dimension file
-pub one_core : (cube : CubeFiles) (core other : Core) (known : List (List ℕ × List ℕ)) → Makes cube core known → Makes cube other known → core ≡ other
-one_core cube core other known h k =
-    let same : other.dims ≡ core.dims = says_one dims_said other.dims core.dims (file_of known cube.dims) k.dims h.dims in
-    says_one (facts_said core.dims) core other (file_of known cube.facts) h.facts (subst (λ (s : Dims). FileSays (facts_said s) cube.facts known (Ok other)) same k.facts)
+pub one_core : (dims facts : List ℕ) (core other : Core) (known : List (List ℕ × List ℕ)) → MakesCore dims facts core known → MakesCore dims facts other known → core ≡ other
+one_core dims facts core other known h k =
+    let same : other.dims ≡ core.dims = says_one dims_said other.dims core.dims (file_of known dims) k.dims_are h.dims_are in
+    says_one (facts_said core.dims) core other (file_of known facts) h.facts_are (subst (λ (s : Dims). FileSays (facts_said s) facts known (Ok other)) same k.facts_are)
 
 -- ---- the end of a run
 
@@ -44,14 +44,19 @@ accepted_one said name folder known r x is says q (inr (inl e)) = e.0
 accepted_one said name folder known r x is says q (inr (inr (inl e))) = absurd (q e.1)
 accepted_one said name folder known r x is says q (inr (inr (inr e))) = absurd (not_both said x r.text (file_of known name) says (rw is at e.1))
 
+-- at the files of a core that they make
+pub founded : {F : Type 0} (dims facts : List ℕ) (folder : Seen FolderState F) (known : List (List ℕ × List ℕ)) (r : Report) (core : Core) → folder.before.files ≡ Some known → MakesCore dims facts core known
+    → ¬ Rose folder.before.faults folder.after.faults → EndsUnfounded dims facts folder r → r.status ≡ 7
+founded dims facts folder known r core is m q (inl e) = accepted_one dims_said dims folder known r core.dims is m.dims_are q e.unopened
+founded dims facts folder known r core is m q (inr (s, says, e)) =
+    let same : s ≡ core.dims = says_one dims_said s core.dims (file_of known dims) (rw is at says) m.dims_are in
+    accepted_one (facts_said s) facts folder known r core is (subst (λ (x : Dims). FileSays (facts_said x) facts known (Ok core)) (sym same) m.facts_are) q e.unopened
+
 accepted : {F : Type 0} (cube : CubeFiles) (folder : Seen FolderState F) (known : List (List ℕ × List ℕ)) (r : Report) (core : Core) (policy : Policy) → folder.before.files ≡ Some known → MakesAll cube core policy known
     → ¬ Rose folder.before.faults folder.after.faults → EndsUnopened cube folder r → r.status ≡ 7
-accepted cube folder known r core policy is m q (inl e) = accepted_one dims_said cube.dims folder known r core.dims is (m.0).dims q e.unopened
-accepted cube folder known r core policy is m q (inr (inl (s, says, e))) =
-    let same : s ≡ core.dims = says_one dims_said s core.dims (file_of known cube.dims) (rw is at says) (m.0).dims in
-    accepted_one (facts_said s) cube.facts folder known r core is (subst (λ (x : Dims). FileSays (facts_said x) cube.facts known (Ok core)) (sym same) (m.0).facts) q e.unopened
-accepted cube folder known r core policy is m q (inr (inr (other, makes, e))) =
-    let same : other ≡ core = one_core cube other core known (rw is at makes) m.0 in
+accepted cube folder known r core policy is m q (inl e) = founded cube.dims cube.facts folder known r core is m.0 q e
+accepted cube folder known r core policy is m q (inr (other, makes, e)) =
+    let same : other ≡ core = sym (one_core cube.dims cube.facts core other known m.0 (rw is at makes)) in
     accepted_one (policy_said other.dims) cube.policy folder known r policy is (subst (λ (x : Core). FileSays (policy_said x.dims) cube.policy known (Ok policy)) (sym same) m.1) q e.unopened
 
 -- where the files make a core and a policy, and no fault was counted

@@ -1,13 +1,30 @@
 -- What was asked of a folder in several calls, and how a run ends behind files that were read.
 use Rattle.std.proofs.Common.{◌≡◌, ◌∙◌, ℕ, List, [], ◌∷◌, ◌++◌, Option, Some, None, Ok, Err, inl, inr, ap, sym, subst, append_assoc, append-nil}
-use Rattle.std.specs.Prelude.{IfSome, IsSomeAnd, Result}
+use Rattle.std.specs.Prelude.{IfSome, IfOk, IfErr, OnOk, IsSomeAnd, Result}
 use Rattle.cube_model.specs.Cores.{Core}
 use Rattle.cube_model.specs.Dims.{Dims}
 use Rattle.cube_io.specs.Causes.{Rose}
 use Rattle.cube_io.specs.Seen.{FolderState, Seen, seen}
-use Rattle.cube_opening.specs.Opening.{dims_said, facts_said, FileSays, Unopened, Failed, AskedFor, AskedUpTo, EndsAt, Makes}
-use Rattle.cube_opening.specs.declared.cube_files.CubeFiles.{CubeFiles}
+use Rattle.cube_opening.specs.Opening.{dims_said, facts_said, FileSays, Unopened, Failed, AskedFor, AskedUpTo, EndsAt, MakesCore}
 use Rattle.cube_opening.specs.declared.report.Report.{Report}
+
+-- ---- what holds of a result
+
+pub if_ok : {X E : Type 0} (P Q : X → Type 0) (r : Result X E) → ((x : X) → P x → Q x) → IfOk r P → IfOk r Q
+if_ok P Q (Ok x) f p = f x p
+if_ok P Q (Err e) f p = tt
+
+pub if_two : {X E : Type 0} (P Q R : X → Type 0) (r : Result X E) → ((x : X) → P x → Q x → R x) → IfOk r P → IfOk r Q → IfOk r R
+if_two P Q R (Ok x) f p q = f x p q
+if_two P Q R (Err e) f p q = tt
+
+pub if_err : {X E : Type 0} (P Q : E → Type 0) (r : Result X E) → ((e : E) → P e → Q e) → IfErr r P → IfErr r Q
+if_err P Q (Ok x) f p = tt
+if_err P Q (Err e) f p = f e p
+
+pub on_two : {X E : Type 0} (P Q R : Type 0) (r : Result X E) → (P → Q → R) → OnOk r P → OnOk r Q → OnOk r R
+on_two P Q R (Ok x) f p q = f p q
+on_two P Q R (Err e) f p q = tt
 
 -- ---- what was asked
 
@@ -32,11 +49,11 @@ asked_no_more xs tells old mid new h k = by_asked (tells old).asked (tells mid).
     by_asked (Some o) (Some m) (Some n) h k = let same : m ++ [] ≡ m = append-nil m in k ∙ same ∙ h
 
 -- memory ran out, or the folder failed, in a later call
-failed_behind : {F : Type 0} (tells : F → FolderState) (old mid new : F) (r : Report) → (tells mid).faults ≡ (tells old).faults → Failed (seen tells mid new) r → Failed (seen tells old new) r
+pub failed_behind : {F : Type 0} (tells : F → FolderState) (old mid new : F) (r : Report) → (tells mid).faults ≡ (tells old).faults → Failed (seen tells mid new) r → Failed (seen tells old new) r
 failed_behind tells old mid new r steady (inl e) = inl e
 failed_behind tells old mid new r steady (inr e) = inr (e.0, subst (λ (n : ℕ). Rose n (tells new).faults) steady e.1)
 
-unopened_behind : {X F : Type 0} (said : List ℕ → Result X (List ℕ)) (name : List ℕ) (tells : F → FolderState) (old mid new : F) (r : Report) → (tells mid).files ≡ (tells old).files → (tells mid).faults ≡ (tells old).faults
+pub unopened_behind : {X F : Type 0} (said : List ℕ → Result X (List ℕ)) (name : List ℕ) (tells : F → FolderState) (old mid new : F) (r : Report) → (tells mid).files ≡ (tells old).files → (tells mid).faults ≡ (tells old).faults
     → Unopened said name (seen tells mid new) r → Unopened said name (seen tells old new) r
 unopened_behind said name tells old mid new r same steady (inl e) = inl e
 unopened_behind said name tells old mid new r same steady (inr (inl e)) = inr (inl e)
@@ -59,9 +76,9 @@ ends_behind earlier said name tells old mid new r before same steady e = record 
 -- ---- what was read
 
 -- two files that were read make a core
-pub makes_of : (cube : CubeFiles) (core : Core) (s : Dims) (files mid : Option (List (List ℕ × List ℕ))) → mid ≡ files → core.dims ≡ s → IfSome files (λ known. FileSays dims_said cube.dims known (Ok s))
-    → IfSome mid (λ known. FileSays (facts_said s) cube.facts known (Ok core)) → IfSome files (Makes cube core)
-makes_of cube core s None mid same is h k = tt
-makes_of cube core s (Some known) mid same is h k =
-    let facts : FileSays (facts_said s) cube.facts known (Ok core) = rw same at k in
-    record { dims = subst (λ (x : Dims). FileSays dims_said cube.dims known (Ok x)) (sym is) h; facts = subst (λ (x : Dims). FileSays (facts_said x) cube.facts known (Ok core)) (sym is) facts }
+pub makes_of : (dims facts : List ℕ) (core : Core) (s : Dims) (files mid : Option (List (List ℕ × List ℕ))) → mid ≡ files → core.dims ≡ s → IfSome files (λ known. FileSays dims_said dims known (Ok s))
+    → IfSome mid (λ known. FileSays (facts_said s) facts known (Ok core)) → IfSome files (MakesCore dims facts core)
+makes_of dims facts core s None mid same is h k = tt
+makes_of dims facts core s (Some known) mid same is h k =
+    let says : FileSays (facts_said s) facts known (Ok core) = rw same at k in
+    record { dims_are = subst (λ (x : Dims). FileSays dims_said dims known (Ok x)) (sym is) h; facts_are = subst (λ (x : Dims). FileSays (facts_said x) facts known (Ok core)) (sym is) says }

@@ -1,4 +1,4 @@
--- What the dimension file, the fact file and the policy file of a command hold, read in turn.
+-- What the dimension file, the fact file and the policy file of a command hold, read in turn; and how a run ends at a file.
 use Rattle.std.specs.Prelude.{◌≡◌, ◌≢◌, ◌⊎◌, ◌<◌, ℕ, ℤ, nat_lt, List, [], ◌∷◌, ◌++◌, length, codes, if◌then◌else◌, IfSome, IsSomeAnd, OnOk, IfErr, Result, Ok, Err}
 use Rattle.cube_model.specs.declared.shape.Shape.{Shape}
 use Rattle.cube_model.specs.Cores.{Core}
@@ -46,8 +46,12 @@ facts_said s bytes = unless_long (codes "facts") bytes (core_in s (faulted (λ f
 abbrev pub flat_said : List ℕ → Result Flat (List ℕ)
 flat_said bytes = unless_long (codes "facts") bytes (faulted (λ fault. fault_text (codes "facts") (facts.fault_words fault)) (flat_of bytes))
 
+-- a policy file, which a report calls so
+abbrev pub policy_said_as : List ℕ → Dims → List ℕ → Result Policy (List ℕ)
+policy_said_as kind s bytes = unless_long kind bytes (faulted (λ fault. fault_text kind (policy.fault_words fault)) (policy_of s bytes))
+
 abbrev pub policy_said : Dims → List ℕ → Result Policy (List ℕ)
-policy_said s bytes = unless_long (codes "policy") bytes (faulted (λ fault. fault_text (codes "policy") (policy.fault_words fault)) (policy_of s bytes))
+policy_said s bytes = policy_said_as (codes "policy") s bytes
 
 -- ---- one file
 
@@ -106,36 +110,45 @@ pub record Reads {X F : Type 0} (folder : Seen FolderState F) (result : Result X
   pub steady : OnOk result (IsSteady folder)
   pub steady_err : IfErr result (λ r. r.status ≢ 5 → IsSteady folder)
 
--- ---- the three files of a cube
+-- ---- the files of a core
 
 -- the dimension file and the fact file of these names are there and make this core
-pub record Makes (cube : CubeFiles) (core : Core) (known : List (List ℕ × List ℕ)) : Type 0 where
-  pub dims : FileSays dims_said cube.dims known (Ok core.dims)
-  pub facts : FileSays (facts_said core.dims) cube.facts known (Ok core)
+pub record MakesCore (dims facts : List ℕ) (core : Core) (known : List (List ℕ × List ℕ)) : Type 0 where
+  pub dims_are : FileSays dims_said dims known (Ok core.dims)
+  pub facts_are : FileSays (facts_said core.dims) facts known (Ok core)
+
+-- this is the digest of the fact file, where the folder tells it
+abbrev pub IsDigestOf : List ℕ → FolderState → List ℕ → Type 0
+IsDigestOf facts folder digest = IfSome folder.files (λ known. IsSomeAnd (file_of known facts) (λ bytes. digest ≡ digest_of bytes))
+
+-- How a run ends at the files of a core: at the dimension file, or at the fact file, by what that one says.
+abbrev pub EndsUnfounded : {F : Type 0} → List ℕ → List ℕ → Seen FolderState F → Report → Type 0
+EndsUnfounded dims facts folder r =
+    EndsAt [] dims_said dims folder r
+    ⊎ ((s : Dims) × IfSome folder.before.files (λ known. FileSays dims_said dims known (Ok s)) × EndsAt (dims ∷ []) (facts_said s) facts folder r)
+
+-- ---- the three files of a cube
 
 -- with the policy file they make this core and this policy
 abbrev pub MakesAll : CubeFiles → Core → Policy → List (List ℕ × List ℕ) → Type 0
-MakesAll cube core policy known = Makes cube core known × FileSays (policy_said core.dims) cube.policy known (Ok policy)
+MakesAll cube core policy known = MakesCore cube.dims cube.facts core known × FileSays (policy_said core.dims) cube.policy known (Ok policy)
 
 -- the files make this core and this policy, where the folder tells them
 abbrev pub Make : CubeFiles → FolderState → Core → Policy → Type 0
 Make cube folder core policy = IfSome folder.files (MakesAll cube core policy)
 
--- this is the digest of the fact file, where the folder tells it
 abbrev pub IsDigest : CubeFiles → FolderState → List ℕ → Type 0
-IsDigest cube folder digest = IfSome folder.files (λ known. IsSomeAnd (file_of known cube.facts) (λ bytes. digest ≡ digest_of bytes))
+IsDigest cube folder digest = IsDigestOf cube.facts folder digest
 
 -- the names of the three files, in the turn in which they are read
 abbrev pub names_of : CubeFiles → List (List ℕ)
 names_of cube = cube.dims ∷ cube.facts ∷ cube.policy ∷ []
 
--- How a run ends at the files: at the dimension file; or at the fact file, by what that one says; or at the policy file, by what the core
--- is that the two make.
+-- How a run ends at the files: at those of the core, or at the policy file, by what the core is.
 abbrev pub EndsUnopened : {F : Type 0} → CubeFiles → Seen FolderState F → Report → Type 0
 EndsUnopened cube folder r =
-    EndsAt [] dims_said cube.dims folder r
-    ⊎ ((s : Dims) × IfSome folder.before.files (λ known. FileSays dims_said cube.dims known (Ok s)) × EndsAt (cube.dims ∷ []) (facts_said s) cube.facts folder r)
-    ⊎ ((core : Core) × IfSome folder.before.files (Makes cube core) × EndsAt (cube.dims ∷ cube.facts ∷ []) (policy_said core.dims) cube.policy folder r)
+    EndsUnfounded cube.dims cube.facts folder r
+    ⊎ ((core : Core) × IfSome folder.before.files (MakesCore cube.dims cube.facts core) × EndsAt (cube.dims ∷ cube.facts ∷ []) (policy_said core.dims) cube.policy folder r)
 
 -- the files are there and are accepted
 abbrev pub HasAll : CubeFiles → FolderState → Type 0

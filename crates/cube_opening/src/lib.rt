@@ -4,7 +4,9 @@
 mod cube_files;
 mod opening;
 mod report;
+mod ruling;
 
-pub use cube_files::CubeFiles;
+pub use cube_files::{CubeFiles, RuledFiles, Rules};
 pub use opening::{Guarded, Opened, open_flat, open_guarded, read_bytes};
 pub use report::{Report, Room, no_room, spent_room, with_text};
+pub use ruling::{Ruled, RuledGroup, RuledGroups, called, open_ruled};

@@ -11,7 +11,7 @@ ghost use Rattle.cube_policy.specs.declared.fault.PolicyFault.TheVariants as pol
 ghost use Rattle.cube_model.specs.Policies.{IsPolicy};
 ghost use Rattle.cube_opening.specs.Reports.{IsReport, NoRoom};
 ghost use Rattle.cube_journal.specs.Digests.{digest_of as digest_in};
-ghost use Rattle.cube_opening.specs.Opening.{fault_text, unreadable_text as unreadable_words, dims_said, facts_said, policy_said, flat_said, FileSays, Unread, AskedFor, AskedUpTo, EndsAt, GotBehind, Reads, Make, IsDigest, EndsUnopened, names_of};
+ghost use Rattle.cube_opening.specs.Opening.{fault_text, unreadable_text as unreadable_words, dims_said, facts_said, policy_said_as, flat_said, FileSays, Unread, AskedFor, AskedUpTo, EndsAt, GotBehind, Reads, MakesCore, IsDigestOf, EndsUnfounded, Make, IsDigest, EndsUnopened, names_of};
 
 use crate::cube_files::CubeFiles;
 use crate::report::{Report, Room, no_room, with_text};
@@ -53,11 +53,11 @@ pub struct Guarded {
     pub facts: Digest,
 }
 
-// A core, and the digest of the fact file that it was made of.
+/// A core, and the digest of the fact file that it was made of.
 #[derive(Drop)]
-struct Founded {
-    core: Core,
-    facts: Digest,
+pub(crate) struct Founded {
+    pub(crate) core: Core,
+    pub(crate) facts: Digest,
 }
 
 /// Reads the bytes of a file of a kind, as `dims`, which is named where the file is too long.
@@ -69,7 +69,7 @@ pub fn read_bytes<F: Folder>(
     files: &mut F,
 ) -> Result<Opened<Text>, Report>
     requires room { room ≡ [] }
-    requires kind { length kind.now ≤ 16 }
+    requires kind { length kind.now ≤ 40 }
     ensures ok { IfOk result (λ opened. (opened.room ≡ []) × IfSome (F.state files.old).files (λ known. file_of known name.now ≡ Some opened.value) × (length opened.value ≤ max_file)) }
     ensures err { IfErr result (Unread kind.now name.now (seen F.state files.old files.new)) }
     ensures asks_ok { OnOk result (AskedFor (name.now ∷ []) (seen F.state files.old files.new)) }
@@ -91,8 +91,8 @@ pub fn read_bytes<F: Folder>(
     }
 }
 
-// The report on a fault of a file of a kind, in these words.
-fn refuse(alloc: Global, kind: &[u8], words: &Text) -> Report
+/// The report on a fault of a file of a kind, in these words.
+pub(crate) fn refuse(alloc: Global, kind: &[u8], words: &Text) -> Report
     ensures { NoRoom result ⊎ IsReport 3 (fault_text kind.now words.now) result }
 {
     match refused_text(alloc, kind, words) {
@@ -138,15 +138,15 @@ fn refuse_facts(alloc: Global, room: Room, fault: FactsFault) -> Report
     }
 }
 
-// The report on a fault of a policy file.
-fn refuse_policy(alloc: Global, room: Room, fault: PolicyFault) -> Report
+// The report on a fault of a policy file of a kind.
+fn refuse_policy(alloc: Global, room: Room, kind: &[u8], fault: PolicyFault) -> Report
     requires { room ≡ [] }
-    ensures { NoRoom result ⊎ IsReport 7 (codes "no memory\n") result ⊎ ((fault ≢ policy_faults.NoMemory) × IsReport 3 (fault_text (codes "policy") (policy_words.fault_words fault)) result) }
+    ensures { NoRoom result ⊎ IsReport 7 (codes "no memory\n") result ⊎ ((fault ≢ policy_faults.NoMemory) × IsReport 3 (fault_text kind.now (policy_words.fault_words fault)) result) }
 {
     match fault {
         PolicyFault::NoMemory => room.with(b"no memory\n").close(alloc, 7),
         other => match cube_policy::fault_text(alloc, &other) {
-            Ok(words) => refuse(alloc, b"policy", &words),
+            Ok(words) => refuse(alloc, kind, &words),
             Err(_) => no_room(alloc),
         },
     }
@@ -251,22 +251,24 @@ pub fn open_flat<F: Folder>(
     }
 }
 
-// Reads the policy file under dimensions and measures.
-fn open_policy<F: Folder>(
+/// Reads a policy file under dimensions and measures, which is named as a kind where it is refused.
+pub(crate) fn open_policy<F: Folder>(
     alloc: Global,
     room: Room,
+    kind: &[u8],
     name: &Text,
     dims: &Dims,
     files: &mut F,
 ) -> Result<Opened<Policy>, Report>
-    requires { room ≡ [] }
-    ensures ok { IfOk result (λ opened. (opened.room ≡ []) × IfSome (F.state files.old).files (λ known. FileSays (policy_said dims.now) name.now known (Ok opened.value))) }
+    requires room { room ≡ [] }
+    requires kind { length kind.now ≤ 40 }
+    ensures ok { IfOk result (λ opened. (opened.room ≡ []) × IfSome (F.state files.old).files (λ known. FileSays (policy_said_as kind.now dims.now) name.now known (Ok opened.value))) }
     ensures rules { IfOk result (λ opened. IsPolicy dims.now opened.value) }
-    ensures err { IfErr result (EndsAt [] (policy_said dims.now) name.now (seen F.state files.old files.new)) }
+    ensures err { IfErr result (EndsAt [] (policy_said_as kind.now dims.now) name.now (seen F.state files.old files.new)) }
     ensures asks { OnOk result (AskedFor (name.now ∷ []) (seen F.state files.old files.new)) }
     ensures reads { Reads (seen F.state files.old files.new) result }
 {
-    let opened = match read_bytes(alloc, room, b"policy", name, files) {
+    let opened = match read_bytes(alloc, room, kind, name, files) {
         Ok(opened) => opened,
         Err(report) => return Err(report),
     };
@@ -275,8 +277,30 @@ fn open_policy<F: Folder>(
             room: opened.room,
             value,
         }),
-        Err(fault) => Err(refuse_policy(alloc, opened.room, fault)),
+        Err(fault) => Err(refuse_policy(alloc, opened.room, kind, fault)),
     }
+}
+
+/// Reads the dimension file and the fact file, in turn.
+pub(crate) fn open_founded<F: Folder>(
+    alloc: Global,
+    room: Room,
+    dims_name: &Text,
+    facts_name: &Text,
+    files: &mut F,
+) -> Result<Opened<Founded>, Report>
+    requires { room ≡ [] }
+    ensures ok { IfOk result (λ opened. (opened.room ≡ []) × IfSome (F.state files.old).files (MakesCore dims_name.now facts_name.now opened.value.core)) }
+    ensures digest { IfOk result (λ opened. IsDigestOf facts_name.now (F.state files.old) opened.value.facts) }
+    ensures err { IfErr result (EndsUnfounded dims_name.now facts_name.now (seen F.state files.old files.new)) }
+    ensures behind { OnOk result (GotBehind (dims_name.now ∷ facts_name.now ∷ []) (seen F.state files.old files.new)) }
+    ensures reads { Reads (seen F.state files.old files.new) result }
+{
+    let (room, dims) = match open_dims(alloc, room, dims_name, files) {
+        Ok(opened) => (opened.room, opened.value),
+        Err(report) => return Err(report),
+    };
+    open_facts(alloc, room, facts_name, dims, files)
 }
 
 /// Reads the dimension file, the fact file and the policy file, in turn.
@@ -294,25 +318,26 @@ pub fn open_guarded<F: Folder>(
     ensures behind { OnOk result (GotBehind (names_of cube.now) (seen F.state files.old files.new)) }
     ensures reads { Reads (seen F.state files.old files.new) result }
 {
-    let (room, dims) = match open_dims(alloc, room, &cube.dims, files) {
-        Ok(opened) => (opened.room, opened.value),
-        Err(report) => return Err(report),
-    };
-    let (room, founded) = match open_facts(alloc, room, &cube.facts, dims, files) {
+    let (room, founded) = match open_founded(alloc, room, &cube.dims, &cube.facts, files) {
         Ok(opened) => (opened.room, opened.value),
         Err(report) => return Err(report),
     };
     let Founded { core, facts } = founded;
-    let (room, policy) = match open_policy(alloc, room, &cube.policy, core.dims(), files) {
-        Ok(opened) => (opened.room, opened.value),
-        Err(report) => return Err(report),
-    };
-    Ok(Opened {
-        room,
-        value: Guarded {
-            core,
-            policy,
-            facts,
-        },
-    })
+    let opened = open_policy(alloc, room, b"policy", &cube.policy, core.dims(), files);
+    match opened {
+        Ok(
+            Opened {
+                room,
+                value: policy,
+            },
+        ) => Ok(Opened {
+            room,
+            value: Guarded {
+                core,
+                policy,
+                facts,
+            },
+        }),
+        Err(report) => Err(report),
+    }
 }

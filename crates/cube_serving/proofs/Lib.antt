@@ -1,3 +1,6 @@
+pub mod Placed
+pub mod Turning
+pub mod Adding
 pub mod Started
 pub mod Sealing
 pub mod Unopened
@@ -5,3 +8,5 @@ pub mod Phrases
 pub mod Wired
 pub mod Played
 mod Listening
+pub mod Grouped
+pub mod GroupLogs

@@ -17,9 +17,9 @@ one_status said name folder r (inr (inr (inl e))) = inr (inl e.0.0)
 one_status said name folder r (inr (inr (inr e))) = inl e.0.0
 
 status : {F : Type 0} (cube : CubeFiles) (folder : Seen FolderState F) (r : Report) → EndsUnopened cube folder r → IsOfFiles r.status
-status cube folder r (inl e) = one_status dims_said cube.dims folder r e.unopened
-status cube folder r (inr (inl e)) = one_status (facts_said e.0) cube.facts folder r e.2.unopened
-status cube folder r (inr (inr e)) = one_status (policy_said e.0.dims) cube.policy folder r e.2.unopened
+status cube folder r (inl (inl e)) = one_status dims_said cube.dims folder r e.unopened
+status cube folder r (inl (inr e)) = one_status (facts_said e.0) cube.facts folder r e.2.unopened
+status cube folder r (inr e) = one_status (policy_said e.0.dims) cube.policy folder r e.2.unopened
 
 other : (n k : ℕ) → (k ≡ 3 → ⊥) → (k ≡ 5 → ⊥) → (k ≡ 7 → ⊥) → IsOfFiles n → n ≡ k → ⊥
 other n k three five seven (inl e) is = three (sym is ∙ e)

@@ -1,3 +1,6 @@
 pub mod Starting
+pub mod NamedBooks
+pub mod Grouping
 pub mod Serving
+pub mod ServedGroups
 pub mod Replaying

@@ -26,14 +26,14 @@ use Rattle.cube_opening.specs.declared.report.Report.{Report}
 
 -- ---- how a run ends at its journal
 
--- the text on a journal that was not opened
-abbrev pub journal_text : EngineFault → List ℕ
-journal_text Failed = codes "store failed\n"
-journal_text TooLong = codes "journal: too long\n"
-journal_text (Damaged line) = codes "journal: line " ++ decimal line ++ codes " damaged\n"
-journal_text (OtherCube kept now) = codes "journal: digest " ++ kept ++ codes " is not " ++ now ++ codes "\n"
-journal_text (Inadmissible line) = codes "journal: line " ++ decimal line ++ codes " inadmissible\n"
-journal_text NoMemory = codes "no memory\n"
+-- the text on a journal that was not opened, which is called so
+abbrev pub journal_text_as : List ℕ → EngineFault → List ℕ
+journal_text_as called Failed = codes "store failed\n"
+journal_text_as called TooLong = called ++ codes ": too long\n"
+journal_text_as called (Damaged line) = called ++ codes ": line " ++ decimal line ++ codes " damaged\n"
+journal_text_as called (OtherCube kept now) = called ++ codes ": digest " ++ kept ++ codes " is not " ++ now ++ codes "\n"
+journal_text_as called (Inadmissible line) = called ++ codes ": line " ++ decimal line ++ codes " inadmissible\n"
+journal_text_as called NoMemory = codes "no memory\n"
 
 abbrev pub journal_status : EngineFault → ℕ
 journal_status Failed = 9
@@ -43,10 +43,14 @@ journal_status (OtherCube kept now) = 4
 journal_status (Inadmissible line) = 4
 journal_status NoMemory = 7
 
--- the bytes of a log are refused by this fault of theirs
+-- the bytes of the log of this number are refused by this fault of theirs, and the journal is called so
+abbrev pub IsRefusedIn : ℕ → List ℕ → Core → Policy → StoreState → EngineFault → Report → Type 0
+IsRefusedIn log called core policy store fault r =
+    (journal_status fault ≡ 4) × IsReport 4 (journal_text_as called fault) r × (IsTrue store.told → IsStartFault (history_of core policy (store.logs log).state.now) (store.logs log).state.now fault)
+
+-- those of the one journal
 abbrev pub IsRefused : Core → Policy → StoreState → EngineFault → Report → Type 0
-IsRefused core policy store fault r =
-    (journal_status fault ≡ 4) × IsReport 4 (journal_text fault) r × (IsTrue store.told → IsStartFault (history_of core policy (store.logs 0).state.now) (store.logs 0).state.now fault)
+IsRefused core policy store fault r = IsRefusedIn 0 (codes "journal") core policy store fault r
 
 -- the text on a seal that does not hold the journal, where this is the digest of the facts
 abbrev pub seal_text : List ℕ → SealFault → List ℕ
@@ -94,9 +98,12 @@ pub record Opens {S : Type 0} (store : Seen StoreState S) : Type 0 where
   pub others : OnlyJournal store.before store.after
   pub calls : IsTrue store.before.told → store.after.calls ≤ store.before.calls + 11
 
--- At each moment the journal is as at entry, or every crash leaves what recovers the same.
+-- At each moment the log is as at entry, or every crash leaves what recovers the same.
+abbrev pub RecoversIn : {S : Type 0} → ℕ → Core → Policy → Seen StoreState S → Type 0
+RecoversIn log core policy store = IsTrue store.before.told → Gained (IsInRecovery (history_of core policy) (store.before.logs log).state) (store.before.logs log) (store.after.logs log)
+
 abbrev pub Recovers : {S : Type 0} → Core → Policy → Seen StoreState S → Type 0
-Recovers core policy store = IsTrue store.before.told → Gained (IsInRecovery (history_of core policy) (store.before.logs 0).state) (store.before.logs 0) (store.after.logs 0)
+Recovers core policy store = RecoversIn 0 core policy store
 
 -- At no moment does a crash leave a seal of other facts, where none did so at entry.
 abbrev pub Seals : {S : Type 0} → List ℕ → Seen StoreState S → Type 0
@@ -145,9 +152,12 @@ abbrev pub IsBetween : Core → Policy → State → List Entry → List Entry �
 IsBetween core policy opened first last s =
     IsInRecovery (history_of core policy) opened s ⊎ ((h : List Entry) × Extends first h × Extends h last × IsWithin core policy h s)
 
--- Log 0 of a run that began and ended with these histories. Behind it every crash leaves what recovers the last one, alone or with one
+-- The log of a run that began and ended with these histories. Behind it every crash leaves what recovers the last one, alone or with one
 -- more request, and just that where the journal never failed.
-pub record Survived {S : Type 0} (core : Core) (policy : Policy) (first last : List Entry) (os : List Outcome) (store : Seen StoreState S) : Type 0 where
-  pub passed : Gained (IsBetween core policy (store.before.logs 0).state first last) (store.before.logs 0) (store.after.logs 0)
-  pub ends : IsWithin core policy last (store.after.logs 0).state
-  pub exact : faults_in os ≡ 0 → IsExact core policy last (store.after.logs 0).state
+pub record SurvivedIn {S : Type 0} (log : ℕ) (core : Core) (policy : Policy) (first last : List Entry) (os : List Outcome) (store : Seen StoreState S) : Type 0 where
+  pub passed : Gained (IsBetween core policy (store.before.logs log).state first last) (store.before.logs log) (store.after.logs log)
+  pub ends : IsWithin core policy last (store.after.logs log).state
+  pub exact : faults_in os ≡ 0 → IsExact core policy last (store.after.logs log).state
+
+abbrev pub Survived : {S : Type 0} → Core → Policy → List Entry → List Entry → List Outcome → Seen StoreState S → Type 0
+Survived core policy first last os store = SurvivedIn 0 core policy first last os store

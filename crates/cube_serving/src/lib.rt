@@ -1,10 +1,15 @@
 //! A cube behind its journal: the journal is opened, and the cube is served over connections, or to a script of them.
 #![tactic(auto)]
 
+mod gathering;
+mod groups;
+mod named;
 mod replaying;
 mod serving;
 mod starting;
 
+pub use gathering::open_groups;
+pub use groups::Groups;
 pub use replaying::replay_cube;
 pub use serving::serve_cube;
 pub use starting::open_engine;

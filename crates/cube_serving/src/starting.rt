@@ -8,7 +8,7 @@ ghost use Rattle.cube_engine.specs.Kept.{history_of, IsKept, IsExact};
 ghost use Rattle.cube_engine.specs.Worlds.{IsRuled};
 ghost use Rattle.cube_opening.specs.Reports.{IsReport, NoRoom};
 ghost use Rattle.cube_seal.specs.Seals.{Agrees, IsSealed};
-ghost use Rattle.cube_serving.specs.Starting.{journal_text as journal_words, journal_status as status_for, seal_text as seal_words, seal_status, IsCalm, Unstarted, AsksStore, Opens, Recovers, Seals};
+ghost use Rattle.cube_serving.specs.Starting.{journal_text_as as journal_words, journal_status as status_for, seal_text as seal_words, seal_status, IsCalm, Unstarted, AsksStore, Opens, Recovers, Seals};
 
 use cube_core::Core;
 use cube_engine::{Engine, EngineFault};
@@ -22,17 +22,19 @@ use std::alloc::Global;
 // The log of a command.
 const LOG: u32 = 0;
 
-// The text on two digests, of which the one that is kept is not that of now.
+// The text on two digests of what is called so, of which the one that is kept is not that of now.
 fn two_digests(
     alloc: Global,
+    called: &[u8],
     front: &[u8],
     kept: &Digest,
     words: &[u8],
     now: &Digest,
 ) -> Result<Text, NoMemory>
-    ensures { IfOk result (λ text. text ≡ front.now ++ kept.now ++ words.now ++ now.now ++ codes "\n") }
+    ensures { IfOk result (λ text. text ≡ called.now ++ front.now ++ kept.now ++ words.now ++ now.now ++ codes "\n") }
 {
-    let mut text = Text::from_bytes(alloc, front)?;
+    let mut text = Text::from_bytes(alloc, called)?;
+    text.extend(front)?;
     text.extend(kept.digits())?;
     text.extend(words)?;
     text.extend(now.digits())?;
@@ -40,45 +42,59 @@ fn two_digests(
     Ok(text)
 }
 
-fn other_digest(alloc: Global, front: &[u8], kept: &Digest, words: &[u8], now: &Digest) -> Report
-    ensures { IsReport 4 (front.now ++ kept.now ++ words.now ++ now.now ++ codes "\n") result ⊎ NoRoom result }
+fn other_digest(
+    alloc: Global,
+    called: &[u8],
+    front: &[u8],
+    kept: &Digest,
+    words: &[u8],
+    now: &Digest,
+) -> Report
+    ensures { IsReport 4 (called.now ++ front.now ++ kept.now ++ words.now ++ now.now ++ codes "\n") result ⊎ NoRoom result }
 {
-    match two_digests(alloc, front, kept, words, now) {
+    match two_digests(alloc, called, front, kept, words, now) {
         Ok(text) => with_text(alloc, 4, text),
         Err(_) => no_room(alloc),
     }
 }
 
-// The text on a line of a log.
-fn line_room(room: Room, line: u64, words: &[u8]) -> Room
+// The text on a line of a log, whose journal is called so.
+fn line_room(room: Room, called: &[u8], line: u64, words: &[u8]) -> Room
     requires room { room ≡ [] }
+    requires short { length called.now ≤ 40 }
     requires few { length words.now ≤ 32 }
-    ensures { result ≡ codes "journal: line " ++ decimal line ++ words.now }
+    ensures { result ≡ called.now ++ codes ": line " ++ decimal line ++ words.now }
 {
-    room.with(b"journal: line ").with_number(line).with(words)
+    room.with(called)
+        .with(b": line ")
+        .with_number(line)
+        .with(words)
 }
 
-// The report on a journal that was not opened.
-fn refuse_journal(alloc: Global, room: Room, fault: EngineFault) -> Report
-    requires { room ≡ [] }
-    ensures { IsReport (status_for fault) (journal_words fault) result ⊎ ((status_for fault ≡ 4) × NoRoom result) }
+/// The report on a journal that was not opened, which is called so.
+pub(crate) fn refuse_journal(alloc: Global, room: Room, called: &[u8], fault: EngineFault) -> Report
+    requires room { room ≡ [] }
+    requires short { length called.now ≤ 40 }
+    ensures { IsReport (status_for fault) (journal_words called.now fault) result ⊎ ((status_for fault ≡ 4) × NoRoom result) }
 {
     match fault {
         EngineFault::Failed => room.with(b"store failed\n").close(alloc, 9),
         EngineFault::NoMemory => room.with(b"no memory\n").close(alloc, 7),
-        EngineFault::TooLong => room.with(b"journal: too long\n").close(alloc, 4),
-        EngineFault::Damaged { line } => line_room(room, line, b" damaged\n").close(alloc, 4),
+        EngineFault::TooLong => room.with(called).with(b": too long\n").close(alloc, 4),
+        EngineFault::Damaged { line } => {
+            line_room(room, called, line, b" damaged\n").close(alloc, 4)
+        }
         EngineFault::Inadmissible { line } => {
-            line_room(room, line, b" inadmissible\n").close(alloc, 4)
+            line_room(room, called, line, b" inadmissible\n").close(alloc, 4)
         }
         EngineFault::OtherCube { kept, now } => {
-            other_digest(alloc, b"journal: digest ", &kept, b" is not ", &now)
+            other_digest(alloc, called, b": digest ", &kept, b" is not ", &now)
         }
     }
 }
 
-// The report on a journal that its seal does not hold.
-fn refuse_seal(alloc: Global, room: Room, fault: SealFault, facts: &Digest) -> Report
+/// The report on a journal that its seal does not hold.
+pub(crate) fn refuse_seal(alloc: Global, room: Room, fault: SealFault, facts: &Digest) -> Report
     requires { room ≡ [] }
     ensures { IsReport (seal_status fault) (seal_words facts.now fault) result ⊎ ((seal_status fault ≡ 4) × NoRoom result) }
 {
@@ -87,7 +103,7 @@ fn refuse_seal(alloc: Global, room: Room, fault: SealFault, facts: &Digest) -> R
         SealFault::NoMemory => room.with(b"no memory\n").close(alloc, 7),
         SealFault::Damaged => room.with(b"journal: seal damaged\n").close(alloc, 4),
         SealFault::OtherFacts { kept } => {
-            other_digest(alloc, b"journal: facts ", &kept, b" are not ", facts)
+            other_digest(alloc, b"journal", b": facts ", &kept, b" are not ", facts)
         }
     }
 }
@@ -130,7 +146,7 @@ fn start_engine<S: Store>(
             let _rules = value.core();
             Ok(Opened { room, value })
         }
-        Err(fault) => Err(refuse_journal(alloc, room, fault)),
+        Err(fault) => Err(refuse_journal(alloc, room, b"journal", fault)),
     }
 }
 

@@ -1,16 +1,17 @@
 // Groups over one store: each answers by its own history, and is recovered from its own log.
 ghost use Rattle.std.specs.Prelude.{◌≡◌, ◌<◌, None, length, codes, IsTrue, IfOk, OnOk};
 ghost use Rattle.cube_fixtures.specs.Worked.{pay_cube};
-ghost use Rattle.cube_groups.specs.NamedBooks.{rooms_of, IsAdded};
+ghost use Rattle.cube_serving.specs.NamedBooks.{rooms_of, IsAdded};
 ghost use Rattle.cube_model.specs.Cubes.{Each};
 ghost use Rattle.cube_model.specs.Rooms.{room_of};
 
 use crate::engines::{Asking, Case, ask_of, check_cases, put};
 use crate::images::{HEAD_LEN, behind};
 use crate::makers::make_guarded_pay;
-use cube_groups::Groups;
+use cube_engine::SharedCore;
 use cube_io::{Desk, MemStore, Store};
 use cube_model::{Fixed, Outcome, Reply, Text};
+use cube_serving::Groups;
 use std::alloc::Global;
 use std::process::Abort;
 use std::test::Fail;
@@ -41,6 +42,7 @@ fn add(alloc: Global, groups: &mut Groups, store: &mut MemStore, name: &[u8]) ->
 {
     let (core, rules) = make_guarded_pay(alloc)?;
     let name = Text::from_bytes(alloc, name)?;
+    let core = SharedCore::new(alloc, core)?;
     match groups.add(alloc, store, name, core, rules) {
         Ok(()) => Ok(()),
         Err(_) => Err(Fail::from("no group")),

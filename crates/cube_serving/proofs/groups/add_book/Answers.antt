@@ -2,9 +2,9 @@ use Rattle.std.proofs.Common.{◌∙◌, ℕ, ap, sym, subst}
 use Rattle.cube_model.specs.Cores.{Core}
 use Rattle.cube_model.specs.Cubes.{Each}
 use Rattle.cube_engine.specs.Kept.{IsKept}
-use Rattle.cube_groups.specs.NamedBooks.{IsKeptIn, AreInOrder}
-use Rattle.cube_groups.proofs.Adding.{order_more, kept_still, kept_more}
-use Rattle.cube_groups.proofs.groups.add_book.Goals as goal
+use Rattle.cube_serving.specs.NamedBooks.{IsKeptIn, AreInOrder}
+use Rattle.cube_serving.proofs.Adding.{order_more, kept_still, kept_more}
+use Rattle.cube_serving.proofs.groups.add_book.Goals as goal
 
 pub returns-in-Err-clause-kept : goal.returns-in-Err-clause-kept
 returns-in-Err-clause-kept g c = λ told.

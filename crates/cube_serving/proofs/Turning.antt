@@ -25,9 +25,9 @@ use Rattle.cube_engine.specs.Books.{Book, book_reply, book_history, StaysExact}
 use Rattle.cube_engine.specs.Kept.{IsKept, IsExact, IsWithin}
 use Rattle.cube_engine.specs.Prepared.{SettleCause}
 use Rattle.cube_engine.specs.Steps.{by_words, call, manner}
-use Rattle.cube_groups.specs.NamedBooks.{room, rooms_of, dims_of, is_named, IsKeptIn, AreInOrder, place, places_of, HoldsAt, IsTurn}
-use Rattle.cube_groups.specs.declared.named.NamedBook.{NamedBook}
-use Rattle.cube_groups.proofs.Placed.{flip, none_named, Split, split, after, same_places, same_length, same_dims, apart_keeps, numbered_keeps, each_keeps, each_here, each_maps, front_logs, back_logs, kept_keeps, own_holds, only_holds, other_holds}
+use Rattle.cube_serving.specs.NamedBooks.{room, rooms_of, dims_of, is_named, IsKeptIn, AreInOrder, place, places_of, HoldsAt, IsTurn}
+use Rattle.cube_serving.specs.declared.named.NamedBook.{NamedBook}
+use Rattle.cube_serving.proofs.Placed.{flip, none_named, Split, split, after, same_places, same_length, same_dims, apart_keeps, numbered_keeps, each_keeps, each_here, each_maps, front_logs, back_logs, kept_keeps, own_holds, only_holds, other_holds}
 
 -- ---- rooms behind a turn
 

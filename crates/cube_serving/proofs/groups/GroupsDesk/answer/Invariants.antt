@@ -1,4 +1,4 @@
-use Rattle.cube_groups.proofs.groups.GroupsDesk.answer.Given as goal
+use Rattle.cube_serving.proofs.groups.GroupsDesk.answer.Given as goal
 
 abbrev pub ghosts-answer_uncounted : goal.ghosts-answer_uncounted
 ghosts-answer_uncounted g a = record { name = a.blank.name; parts = a.blank.parts }

@@ -1,8 +1,8 @@
 use Rattle.std.proofs.Common.{◌≡◌, subst}
 use Rattle.cube_model.specs.declared.outcome.Outcome.TheVariants.{Given}
 use Rattle.cube_engine.specs.Steps.{manner}
-use Rattle.cube_groups.specs.NamedBooks.{Groups, rooms_of, dims_of}
-use Rattle.cube_groups.proofs.groups.Groups.answer_uncounted.Goals as goal
+use Rattle.cube_serving.specs.NamedBooks.{Groups, rooms_of, dims_of}
+use Rattle.cube_serving.proofs.groups.Groups.answer_uncounted.Goals as goal
 
 pub returns-clause-untouched : goal.returns-clause-untouched
 returns-clause-untouched g c =

@@ -15,8 +15,8 @@ use Rattle.cube_model.proofs.DimsFacts.{same-bytes_eq}
 use Rattle.cube_model.proofs.Members.{tested, same_eq, same_refl}
 use Rattle.cube_io.specs.States.{State, Log}
 use Rattle.cube_engine.specs.Kept.{IsKept}
-use Rattle.cube_groups.specs.NamedBooks.{room, rooms_of, dims_of, is_named, IsKeptIn, AreNumbered, place, places_of, HoldsAt}
-use Rattle.cube_groups.specs.declared.named.NamedBook.{NamedBook}
+use Rattle.cube_serving.specs.NamedBooks.{room, rooms_of, dims_of, is_named, IsKeptIn, AreNumbered, place, places_of, HoldsAt}
+use Rattle.cube_serving.specs.declared.named.NamedBook.{NamedBook}
 
 -- ---- names
 

@@ -1,7 +1,7 @@
 use Rattle.std.proofs.Common.{refl}
-use Rattle.cube_groups.specs.declared.named.NamedBook.{NamedBook}
-use Rattle.cube_groups.proofs.Turning.{IsAnswer, turned, leaving}
-use Rattle.cube_groups.proofs.groups.answer_at.Goals as goal
+use Rattle.cube_serving.specs.declared.named.NamedBook.{NamedBook}
+use Rattle.cube_serving.proofs.Turning.{IsAnswer, turned, leaving}
+use Rattle.cube_serving.proofs.groups.answer_at.Goals as goal
 
 pub returns-clause-turn : goal.returns-clause-turn
 returns-clause-turn g c =

@@ -1,9 +1,9 @@
 use Rattle.std.proofs.Common.{sym, ap, ◌∙◌}
 use Rattle.std.specs.List.{position}
 use Rattle.cube_model.specs.Rooms.{aim}
-use Rattle.cube_groups.specs.NamedBooks.{is_named}
-use Rattle.cube_groups.proofs.Turning.{missed_turn}
-use Rattle.cube_groups.proofs.groups.answer_by.Goals as goal
+use Rattle.cube_serving.specs.NamedBooks.{is_named}
+use Rattle.cube_serving.proofs.Turning.{missed_turn}
+use Rattle.cube_serving.proofs.groups.answer_by.Goals as goal
 
 pub returns-in-None-clause-turn : goal.returns-in-None-clause-turn
 returns-in-None-clause-turn g c =

@@ -14,11 +14,11 @@ ghost use Rattle.cube_engine.specs.Constant.{manner_is_constant};
 ghost use Rattle.cube_engine.specs.Kept.{history_of, IsExact, IsWithin};
 ghost use Rattle.cube_engine.specs.Opening.{StartCause, IsStartFault};
 ghost use Rattle.cube_engine.specs.Steps as steps;
-ghost use Rattle.cube_groups.specs.NamedBooks.{rooms_of, dims_of, is_named, IsKeptIn, AreInOrder, places_of, HoldsAt, IsTurn, IsCounted, IsAdded};
+ghost use Rattle.cube_serving.specs.NamedBooks.{rooms_of, dims_of, is_named, IsKeptIn, AreInOrder, places_of, HoldsAt, IsTurn, IsCounted, IsAdded};
 
 use crate::named::NamedBook;
-use cube_core::{Core, Steps};
-use cube_engine::{Book, EngineFault, Turns};
+use cube_core::Steps;
+use cube_engine::{Book, EngineFault, SharedCore, Turns};
 use cube_io::{Desk, Store};
 use cube_model::{Ask, Fixed, Kind, NoMemory, Outcome, Outcomes, Policy, Reply, Text};
 use std::alloc::Global;
@@ -127,7 +127,7 @@ fn add_book<S: Store>(
     alloc: Global,
     store: &mut S,
     name: Text,
-    core: Core,
+    core: SharedCore,
     policy: Policy,
 ) -> Result<(), EngineFault>
     requires order { AreInOrder books.old.items }
@@ -152,6 +152,7 @@ fn add_book<S: Store>(
         Ok(book) => book,
         Err(fault) => return Err(fault),
     };
+    let _rules = book.core();
     match push_book(books, name, book) {
         Ok(()) => Ok(()),
         Err(_) => Err(EngineFault::NoMemory),
@@ -167,7 +168,7 @@ pub struct Groups {
 }
 
 impl Model for Groups {
-    ghost use Rattle.cube_groups.specs.NamedBooks as said;
+    ghost use Rattle.cube_serving.specs.NamedBooks as said;
 
     ghost Value = { said.Groups };
 
@@ -194,7 +195,7 @@ impl Groups {
         alloc: Global,
         store: &mut S,
         name: Text,
-        core: Core,
+        core: SharedCore,
         policy: Policy,
     ) -> Result<(), EngineFault>
         requires few { length self.old.books < 16 }

@@ -19,7 +19,8 @@ use Rattle.cube_engine.specs.Kept.{history_of, IsKept, IsExact, IsWithin}
 use Rattle.cube_engine.specs.Books.{Book}
 use Rattle.cube_engine.specs.Prepared.{SettleCause}
 use Rattle.cube_engine.specs.Steps.{manner}
-use Rattle.cube_groups.specs.declared.named.NamedBook.{NamedBook}
+use Rattle.cube_engine.specs.Worlds.{IsRuled}
+use Rattle.cube_serving.specs.declared.named.NamedBook.{NamedBook}
 
 -- groups: their books in order, what became of the asks so far, and how many more there is room for
 pub record Groups : Type 0 where
@@ -113,5 +114,6 @@ pub record IsAdded (old new : List NamedBook) (name : List ℕ) (core : Core) (p
   pub core_is : book.core ≡ core
   pub policy_is : book.policy ≡ policy
   pub log : book.journal.log ≡ length old
+  pub rules : IsRuled book
   pub history : IsTrue store.told → history_of core policy (store.logs (length old)).state.now ≡ Ok book.history
   pub exact : IsTrue store.told → IsExact core policy book.history (store'.logs (length old)).state

@@ -8,9 +8,9 @@ use Rattle.cube_model.specs.Rooms.{room_of, AreApart}
 use Rattle.cube_io.specs.States.{Log}
 use Rattle.cube_engine.specs.Books.{Book}
 use Rattle.cube_engine.specs.Kept.{IsKept}
-use Rattle.cube_groups.specs.NamedBooks.{room, rooms_of, dims_of, IsKeptIn, AreNumbered, AreInOrder}
-use Rattle.cube_groups.specs.declared.named.NamedBook.{NamedBook}
-use Rattle.cube_groups.proofs.Placed.{flip, each_maps, kept_elsewhere}
+use Rattle.cube_serving.specs.NamedBooks.{room, rooms_of, dims_of, IsKeptIn, AreNumbered, AreInOrder}
+use Rattle.cube_serving.specs.declared.named.NamedBook.{NamedBook}
+use Rattle.cube_serving.proofs.Placed.{flip, each_maps, kept_elsewhere}
 
 each_more : (P : NamedBook → Type 0) (g : NamedBook) (gs : List NamedBook) → Each P gs → P g → Each P (gs ++ g ∷ [])
 each_more P g [] a p = (p, tt)

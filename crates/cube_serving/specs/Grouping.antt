@@ -1,0 +1,167 @@
+-- Groups over one core, each with its policy, its history and its log: how a run ends at their journals, and what is open behind them.
+use Rattle.std.specs.Prelude.{◌≡◌, ◌≢◌, ◌⊎◌, ⊤, ◌+◌, ◌*◌, ◌^◌, ◌<◌, ◌≤◌, ℕ, suc, IsTrue, List, [], ◌∷◌, ◌++◌, length, map, codes, IsOk, Ok}
+use Rattle.cube_model.specs.declared.entry.Entry.{Entry}
+use Rattle.cube_model.specs.declared.policy.Policy.{Policy}
+use Rattle.cube_model.specs.Cores.{Core, shown, world}
+use Rattle.cube_model.specs.Cubes.{Each}
+use Rattle.cube_model.specs.Rooms.{Room}
+use Rattle.cube_model.specs.Verdicts.{IsAdmissible}
+use Rattle.cube_groups.specs.declared.group.GroupFile.{GroupFile}
+use Rattle.cube_io.specs.Causes.{Rose}
+use Rattle.cube_io.specs.Seen.{FolderState, StoreState, Seen, Unused}
+use Rattle.cube_io.specs.declared.store.TheConstants.{SEAL_LOG}
+use Rattle.cube_engine.specs.Kept.{history_of, IsExact}
+use Rattle.cube_engine.specs.Worlds.{IsRuled}
+use Rattle.cube_engine.specs.declared.fault.EngineFault.{EngineFault}
+use Rattle.cube_opening.specs.Opening.{IsDigestOf, GotBehind}
+use Rattle.cube_opening.specs.Reports.{IsReport, NoRoom}
+use Rattle.cube_opening.specs.Ruling.{called, ruled_names, EndsUnruled, MakeGroups}
+use Rattle.cube_opening.specs.declared.cube_files.RuledFiles.{RuledFiles}
+use Rattle.cube_opening.specs.declared.report.Report.{Report}
+use Rattle.cube_opening.specs.declared.ruling.RuledGroup.{RuledGroup}
+use Rattle.cube_seal.specs.Seals.{Agrees, IsSealed}
+use Rattle.cube_seal.specs.declared.fault.SealFault.{SealFault}
+use Rattle.cube_serving.specs.declared.named.NamedBook.{NamedBook}
+use Rattle.cube_serving.specs.Starting.{IsCalm, IsRefusedIn, IsUnsealed, RecoversIn, Seals}
+
+-- ---- groups in a run
+
+-- A group in a run: its name, its policy, its history when its journal was opened, and its history at the end.
+pub record GroupRun : Type 0 where
+  pub name : List ℕ
+  pub policy : Policy
+  pub first : List Entry
+  pub last : List Entry
+
+-- the groups, by what their files say
+abbrev pub ruled_by : GroupRun → RuledGroup
+ruled_by g = record { name = g.name; policy = g.policy }
+
+abbrev pub ruled : List GroupRun → List RuledGroup
+ruled gs = map ruled_by gs
+
+-- it holds of each with its place, which is the number of its log
+abbrev pub AllOf : {X : Type 0} → (ℕ → X → Type 0) → ℕ → List X → Type 0
+AllOf holds k [] = ⊤
+AllOf holds k (g ∷ gs) = holds k g × AllOf holds (suc k) gs
+
+-- the room of a group when its journal was opened, and at the end
+abbrev pub first_room : Core → GroupRun → Room
+first_room core g = record { name = g.name; world = world core g.policy; history = g.first }
+
+abbrev pub last_room : Core → GroupRun → Room
+last_room core g = record { name = g.name; world = world core g.policy; history = g.last }
+
+abbrev pub first_rooms : Core → List GroupRun → List Room
+first_rooms core gs = map (first_room core) gs
+
+abbrev pub last_rooms : Core → List GroupRun → List Room
+last_rooms core gs = map (last_room core) gs
+
+-- ---- how a run ends at their journals
+
+-- The bytes of the log of a group are refused by a fault of theirs, where those of the groups before it are accepted.
+abbrev pub IsRefusedAt : Core → ℕ → List RuledGroup → StoreState → Report → Type 0
+IsRefusedAt core k [] store r = ⊥
+IsRefusedAt core k (g ∷ gs) store r =
+    ((fault : EngineFault) × IsRefusedIn k (called (codes "journal") g.name) core g.policy store fault r)
+    ⊎ ((IsTrue store.told → IsOk (history_of core g.policy (store.logs k).state.now)) × IsRefusedAt core (suc k) gs store r)
+
+-- A run over this core, these groups and facts of this digest ended at the journals: memory ran out, or the store failed, or the bytes
+-- of a group's journal are refused, or those of the seal.
+abbrev pub UnstartedGroups : {S : Type 0} → Core → List RuledGroup → List ℕ → Seen StoreState S → Report → Type 0
+UnstartedGroups core gs facts store r =
+    (NoRoom r × IsCalm store)
+    ⊎ (IsReport 7 (codes "no memory\n") r × IsCalm store)
+    ⊎ (IsReport 9 (codes "store failed\n") r × Rose store.before.faults store.after.faults)
+    ⊎ (IsRefusedAt core 0 gs store.before r × IsCalm store)
+    ⊎ ((fault : SealFault) × IsUnsealed facts store.before fault r × IsCalm store)
+
+-- at each moment the log of each group is as at entry, or every crash leaves what recovers the same
+abbrev pub AllRecover : {S : Type 0} → Core → ℕ → List RuledGroup → Seen StoreState S → Type 0
+AllRecover core k gs store = AllOf (λ log (g : RuledGroup). RecoversIn log core g.policy store) k gs
+
+-- no log changed but so many from this number on
+abbrev pub OnlyFrom : ℕ → ℕ → StoreState → StoreState → Type 0
+OnlyFrom from many old new = IsTrue old.told → (k : ℕ) → (k < from) ⊎ (from + many ≤ k) → new.logs k ≡ old.logs k
+
+-- no log changed but the first ones, so many, and that of the seal
+abbrev pub OnlyFirst : ℕ → StoreState → StoreState → Type 0
+OnlyFirst many old new = IsTrue old.told → (k : ℕ) → many ≤ k → k ≢ SEAL_LOG → new.logs k ≡ old.logs k
+
+-- A run ended at the journals, over the core, the groups and the facts that the files make, behind the files of these further names.
+pub record EndsUnstartedGroups {F S : Type 0} (cube : RuledFiles) (more : List (List ℕ)) (files : Seen FolderState F) (store : Seen StoreState S) (r : Report) : Type 0 where
+  pub core : Core
+  pub listed : List GroupFile
+  pub groups : List RuledGroup
+  pub facts : List ℕ
+  pub files_make : MakeGroups cube files.before core listed groups
+  pub digest : IsDigestOf cube.facts files.before facts
+  pub behind : GotBehind (ruled_names cube listed ++ more) files
+  pub unstarted : UnstartedGroups core groups facts store r
+  pub passed : AllRecover core 0 groups store
+  pub seals : Seals facts store
+
+-- A run ended before its cube was open: at a file, or at a journal behind the files.
+abbrev pub EndsClosedGroups : {F S : Type 0} → RuledFiles → List (List ℕ) → Seen FolderState F → Seen StoreState S → Report → Type 0
+EndsClosedGroups cube more files store r = (EndsUnruled cube files r × Unused store) ⊎ EndsUnstartedGroups cube more files store r
+
+-- the bytes of the log of a group are accepted
+abbrev pub IsAccepted : Core → StoreState → ℕ → RuledGroup → Type 0
+IsAccepted core store log g = (length (store.logs log).state.now ≤ 2 ^ 28) × IsOk (history_of core g.policy (store.logs log).state.now)
+
+-- the journals and their seal are accepted
+pub record HaveJournals (cube : RuledFiles) (files : FolderState) (store : StoreState) : Type 0 where
+  pub told : IsTrue store.told
+  pub recover : (core : Core) (fs : List GroupFile) (gs : List RuledGroup) → MakeGroups cube files core fs gs → AllOf (IsAccepted core store) 0 gs
+  pub agrees : (facts : List ℕ) → IsDigestOf cube.facts files facts → Agrees facts (store.logs SEAL_LOG).state.now
+
+-- ---- open groups
+
+-- The groups were opened, behind their files and the files of these further names: the core and the policies that the files make, the digest of the fact file, and the histories that the
+-- journals recover. The seal said nothing yet, or this digest; and whatever a crash leaves now says it.
+pub record AreOpen {F S : Type 0} (cube : RuledFiles) (more : List (List ℕ)) (files : Seen FolderState F) (store : Seen StoreState S) (core : Core) (facts : List ℕ) (gs : List GroupRun) : Type 0 where
+  pub listed : List GroupFile
+  pub files_make : MakeGroups cube files.before core listed (ruled gs)
+  pub digest : IsDigestOf cube.facts files.before facts
+  pub behind : GotBehind (ruled_names cube listed ++ more) files
+  pub recovered : IsTrue store.before.told → AllOf (λ log (g : GroupRun). history_of core g.policy (store.before.logs log).state.now ≡ Ok g.first) 0 gs
+  pub admissible : Each (λ g. IsAdmissible (shown core g.policy) g.first) gs
+  pub agreed : IsTrue store.before.told → Agrees facts (store.before.logs SEAL_LOG).state.now
+  pub sealed : IsTrue store.before.told → IsSealed facts (store.after.logs SEAL_LOG).state
+  pub seals : Seals facts store
+
+-- ---- books that were started
+
+-- The book of a group was started in the log of this number: over this core, with the history that the log recovers; every crash leaves
+-- just that, and at each moment left what recovers the same.
+pub record IsStarted {S : Type 0} (core : Core) (store : Seen StoreState S) (log : ℕ) (g : RuledGroup) (b : NamedBook) : Type 0 where
+  pub name : b.name ≡ g.name
+  pub core_is : b.book.core ≡ core
+  pub policy : b.book.policy ≡ g.policy
+  pub log_is : b.book.journal.log ≡ log
+  pub rules : IsRuled b.book
+  pub history : IsTrue store.before.told → history_of core g.policy (store.before.logs log).state.now ≡ Ok b.book.history
+  pub exact : IsTrue store.before.told → IsExact core g.policy b.book.history (store.after.logs log).state
+
+-- those of these groups, in the logs from this number on
+abbrev pub AreStarted : {S : Type 0} → Core → Seen StoreState S → ℕ → List RuledGroup → List NamedBook → Type 0
+AreStarted core store k [] [] = ⊤
+AreStarted core store k [] (b ∷ bs) = ⊥
+AreStarted core store k (g ∷ gs) [] = ⊥
+AreStarted core store k (g ∷ gs) (b ∷ bs) = IsStarted core store k g b × AreStarted core store (suc k) gs bs
+
+-- How the start of these groups ended, from the log of this number on.
+abbrev pub RestUnstarted : {S : Type 0} → Core → ℕ → List RuledGroup → Seen StoreState S → Report → Type 0
+RestUnstarted core k gs store r =
+    (NoRoom r × IsCalm store)
+    ⊎ (IsReport 7 (codes "no memory\n") r × IsCalm store)
+    ⊎ (IsReport 9 (codes "store failed\n") r × Rose store.before.faults store.after.faults)
+    ⊎ (IsRefusedAt core k gs store.before r × IsCalm store)
+
+-- what the start of groups leaves as it was: the store tells what it told, and stays attached and was asked for no name
+pub record Gathers {S : Type 0} (many : ℕ) (store : Seen StoreState S) : Type 0 where
+  pub told : store.after.told ≡ store.before.told
+  pub attached : IsTrue store.after.attached
+  pub names : IsTrue store.before.told → store.after.names ≡ store.before.names
+  pub calls : IsTrue store.before.told → store.after.calls ≤ store.before.calls + 6 * many
