@@ -1,5 +1,5 @@
 -- Where three files are accepted, a run ends at them only for want of memory.
-use Rattle.std.proofs.Common.{◌≡◌, ℕ, List, [], ◌∷◌, Some, None, Ok, Err, inl, inr, refl, sym, subst}
+use Rattle.std.proofs.Common.{◌≡◌, ℕ, List, Some, None, Ok, Err, inl, inr, refl, sym, subst}
 use Rattle.std.specs.Prelude.{IsSomeAnd, Result}
 use Rattle.std.specs.declared.option.Option.{Option}
 use Rattle.cube_model.specs.Cores.{Core}

@@ -4,7 +4,7 @@ use Rattle.std.specs.Prelude.{IfSome, IfOk, IfErr, OnOk, IsSomeAnd, Result}
 use Rattle.cube_model.specs.Cores.{Core}
 use Rattle.cube_model.specs.Dims.{Dims}
 use Rattle.cube_io.specs.Causes.{Rose}
-use Rattle.cube_io.specs.Seen.{FolderState, Seen, seen}
+use Rattle.cube_io.specs.Seen.{FolderState, seen}
 use Rattle.cube_opening.specs.Opening.{dims_said, facts_said, FileSays, Unopened, Failed, AskedFor, AskedUpTo, EndsAt, MakesCore}
 use Rattle.cube_opening.specs.declared.report.Report.{Report}
 

@@ -1,8 +1,7 @@
 -- The policy files of groups, read one behind another.
-use Rattle.std.proofs.Common.{true, ◌≡◌, ◌∙◌, ◌≤◌, ℕ, suc, List, [], ◌∷◌, ◌++◌, map, length, take, drop, get_or, ◌-◌, arith, Option, Some, None, Ok, Err, inl, inr, refl, sym, ap, ap₂, subst, append_assoc, append-nil}
+use Rattle.std.proofs.Common.{true, ◌≡◌, ◌∙◌, ◌≤◌, ℕ, suc, List, [], ◌∷◌, ◌++◌, map, length, take, drop, get_or, ◌-◌, arith, Option, Some, None, Ok, inl, inr, refl, sym, ap, ap₂, subst, append_assoc, append-nil}
 use Rattle.std.specs.Prelude.{IfSome, Result}
 use Rattle.std.proofs.lemmas.List.{take_all}
-use Rattle.cube_model.specs.declared.policy.Policy.{Policy}
 use Rattle.cube_model.specs.Cubes.{Each}
 use Rattle.cube_model.specs.Dims.{Dims}
 use Rattle.cube_model.specs.Policies.{IsPolicy}
@@ -14,7 +13,7 @@ use Rattle.cube_groups.specs.declared.group.GroupFile.{GroupFile}
 use Rattle.cube_io.specs.Seen.{FolderState, Seen, seen}
 use Rattle.cube_opening.specs.Opening.{AskedFor, AskedUpTo, EndsAt, FileSays}
 use Rattle.cube_opening.specs.Reports.{NoRoom}
-use Rattle.cube_opening.specs.Ruling.{group_policy_said, IsRuledBy, AreRuledBy, AreGroups, HaveNames, EndsAtOne, EndsAtRules, groups_said, one_group, policy_names}
+use Rattle.cube_opening.specs.Ruling.{group_policy_said, IsRuledBy, AreRuledBy, AreGroups, HaveNames, EndsAtOne, EndsAtRules, groups_said, one_group}
 use Rattle.cube_opening.specs.declared.cube_files.Rules.{Rules}
 use Rattle.cube_opening.specs.declared.cube_files.Rules.TheVariants.{One, Groups as Listed}
 use Rattle.cube_opening.specs.declared.report.Report.{Report}

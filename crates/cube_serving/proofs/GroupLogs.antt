@@ -1,24 +1,19 @@
 -- What a crash leaves of the log of each group, while groups are asked on one wire.
-use Rattle.std.proofs.Common.{◌≡◌, ◌≢◌, ◌∙◌, ◌<◌, ◌≤◌, ◌+◌, refl, sym, ap, ap₂, subst, ℕ, suc, List, [], ◌∷◌, ◌++◌, length, map, inl, inr, IsTrue, append_assoc, length-append, arith}
-use Rattle.std.specs.Prelude.{◌⊎◌, None}
-use Rattle.cube_model.specs.declared.ask.Question.{Question}
+use Rattle.std.proofs.Common.{◌≡◌, ◌∙◌, ◌+◌, refl, sym, ap, subst, ℕ, suc, List, [], ◌∷◌, ◌++◌, length, map, inl, inr, IsTrue, append_assoc, length-append, arith}
 use Rattle.cube_model.specs.declared.entry.Entry.{Entry}
-use Rattle.cube_model.specs.declared.outcome.Outcome.{Outcome}
 use Rattle.cube_model.specs.declared.policy.Policy.{Policy}
-use Rattle.cube_model.specs.Cores.{Core, shown, world}
-use Rattle.cube_model.specs.Cubes.{Each}
+use Rattle.cube_model.specs.Cores.{Core, shown}
 use Rattle.cube_model.specs.Dims.{Dims}
-use Rattle.cube_model.specs.Rooms.{Room, Call, turns_to, ended}
+use Rattle.cube_model.specs.Rooms.{Room, turns_to, ended}
 use Rattle.cube_model.specs.Runs.{end}
 use Rattle.cube_model.specs.TwoWorlds.{Extends}
 use Rattle.cube_io.specs.Seen.{StoreState, Seen}
-use Rattle.cube_io.specs.States.{State, Log, Gained}
+use Rattle.cube_io.specs.States.{State, Gained}
 use Rattle.cube_io.proofs.Trails.{gained_then, gained_map}
 use Rattle.cube_journal.specs.Keeping.{IsInRecovery}
-use Rattle.cube_engine.specs.Books.{Book}
 use Rattle.cube_engine.specs.Kept.{history_of, IsExact, IsWithin}
 use Rattle.cube_engine.specs.Steps.{by_words, manner}
-use Rattle.cube_server.specs.Crashes.{after, Reaches, OnTheWay, Endures}
+use Rattle.cube_server.specs.Crashes.{after, OnTheWay, Endures}
 use Rattle.cube_server.specs.Logs.{Call as Reached}
 use Rattle.cube_server.specs.Seen.{DeskState}
 use Rattle.cube_serving.specs.Grouping.{AllOf}
@@ -26,7 +21,8 @@ use Rattle.cube_serving.specs.NamedBooks.{room, rooms_of, AreNumbered, place, pl
 use Rattle.cube_serving.specs.ServedGroups.{turn_of}
 use Rattle.cube_serving.specs.Starting.{IsBetween, SurvivedIn}
 use Rattle.cube_serving.specs.declared.named.NamedBook.{NamedBook}
-use Rattle.cube_serving.proofs.Grouped.{after_is, map_twice, turns_grow}
+use Rattle.cube_serving.proofs.Grouped.{after_is, turns_grow}
+use Rattle.cube_serving.proofs.Lists.{at_seam, map_append, map_twice}
 use Rattle.cube_serving.proofs.Placed.{front_logs, back_logs, own_holds, only_holds}
 
 -- ---- a book with another history
@@ -80,10 +76,6 @@ each_book P bs h = go [] bs refl
         more : (n : ℕ) → n + 1 ≡ suc n
         more n = omega arith
 
-map_append : {X Y : Type 0} (f : X → Y) (xs ys : List X) → map f (xs ++ ys) ≡ map f xs ++ map f ys
-map_append f [] ys = refl
-map_append f (x ∷ xs) ys = ap (λ zs. f x ∷ zs) (map_append f xs ys)
-
 -- of the rooms behind some asks it holds at the log of a book as of that book behind them
 own_only : (P : Core → Policy → List Entry → State → Type 0) (s : Dims) (calls : List Reached) (front back : List NamedBook) (g : NamedBook) (st : State) → AreNumbered 0 (front ++ g ∷ back)
     → HoldsAt P (places_of (front ++ g ∷ back)) (after (manner s) (rooms_of (front ++ g ∷ back)) calls) (length front) st → P g.book.core g.book.policy (ended (by_words s) (map turn_of calls) (room g)).history st
@@ -96,10 +88,10 @@ own_only P s calls front back g st numbered holds =
     let there = log_at 0 front back g numbered in
     let log : g.book.journal.log ≡ length front = omega (arith, there) in
     let at : HoldsAt P (places_of (map f front ++ f g ∷ map f back)) (rooms_of (map f front ++ f g ∷ map f back)) g.book.journal.log st =
-        subst (λ (xs : List NamedBook). HoldsAt P (places_of xs) (rooms_of xs) g.book.journal.log st) split
-        (subst (λ (k : ℕ). HoldsAt P (places_of (map f bs)) (rooms_of (map f bs)) k st) (sym log)
-        (subst (λ ps. HoldsAt P ps (rooms_of (map f bs)) (length front) st) (sym (moved_places s calls bs))
-        (subst (λ rs. HoldsAt P (places_of bs) rs (length front) st) (sym (moved_rooms s calls bs)) holds))) in
+    subst (λ (xs : List NamedBook). HoldsAt P (places_of xs) (rooms_of xs) g.book.journal.log st) split
+    (subst (λ (k : ℕ). HoldsAt P (places_of (map f bs)) (rooms_of (map f bs)) k st) (sym log)
+    (subst (λ ps. HoldsAt P ps (rooms_of (map f bs)) (length front) st) (sym (moved_places s calls bs))
+    (subst (λ rs. HoldsAt P (places_of bs) rs (length front) st) (sym (moved_rooms s calls bs)) holds))) in
     only_holds P (f g) (map f front) (map f back) st (front_logs 0 (map f front) (map f back) (f g) moved_numbered) (back_logs 0 (map f front) (map f back) (f g) moved_numbered) at
 
 -- it holds at the log of a book where it holds of that book
@@ -109,17 +101,6 @@ own_at P front back g st numbered p =
     let there = log_at 0 front back g numbered in
     let log : g.book.journal.log ≡ length front = omega (arith, there) in
     subst (λ (k : ℕ). HoldsAt P (places_of (front ++ g ∷ back)) (rooms_of (front ++ g ∷ back)) k st) log (own_holds P g front back st p)
-
--- two ways to the same rooms lead each book to the same history
-at_seam : {X Y : Type 0} (f g : X → Y) (front back : List X) (x : X) → map f (front ++ x ∷ back) ≡ map g (front ++ x ∷ back) → f x ≡ g x
-at_seam f g [] back x e = head_alike e
-  where
-    head_alike : {Z : Type 0} {a b : Z} {as bs : List Z} → (a ∷ as) ≡ (b ∷ bs) → a ≡ b
-    head_alike k = cc
-at_seam f g (y ∷ front) back x e = at_seam f g front back x (tail_alike e)
-  where
-    tail_alike : {Z : Type 0} {a b : Z} {as bs : List Z} → (a ∷ as) ≡ (b ∷ bs) → as ≡ bs
-    tail_alike k = cc
 
 -- ---- what asks leave of them
 
@@ -150,9 +131,9 @@ module _ {S : Type 0} (s : Dims) (calls : List Reached) (within exact : List Roo
       let h = behind s first g in
       let here : x.here ≡ map (st_of first) (rooms_of bs) = x.from.1 ∙ after_is s (rooms_of bs) first in
       let both : map (st_of calls) (rooms_of bs) ≡ map (λ r. st_of then (st_of first r)) (rooms_of bs) =
-          sym (w.leads ∙ after_is s (rooms_of bs) calls) ∙ x.to.1 ∙ after_is s x.here then ∙ ap (map (st_of then)) here ∙ map_twice (st_of first) (st_of then) (λ r. st_of then (st_of first r)) (rooms_of bs) (λ r. refl) in
+      sym (w.leads ∙ after_is s (rooms_of bs) calls) ∙ x.to.1 ∙ after_is s x.here then ∙ ap (map (st_of then)) here ∙ map_twice (st_of first) (st_of then) (λ r. st_of then (st_of first r)) (rooms_of bs) (λ r. refl) in
       let both_books : map (λ b. st_of calls (room b)) bs ≡ map (λ b. st_of then (st_of first (room b))) bs =
-          sym (map_twice room (st_of calls) (λ b. st_of calls (room b)) bs (λ b. refl)) ∙ both ∙ map_twice room (λ r. st_of then (st_of first r)) (λ b. st_of then (st_of first (room b))) bs (λ b. refl) in
+      sym (map_twice room (st_of calls) (λ b. st_of calls (room b)) bs (λ b. refl)) ∙ both ∙ map_twice room (λ r. st_of then (st_of first r)) (λ b. st_of then (st_of first (room b))) bs (λ b. refl) in
       let same : behind s calls g ≡ end (by_words s) public h (turns_to g.name (map turn_of then)) = ap (λ (r : Room). r.history) (at_seam (λ b. st_of calls (room b)) (λ b. st_of then (st_of first (room b))) front back g both_books) in (
         h,
         turns_grow s public g.book.history (turns_to g.name (map turn_of first)),

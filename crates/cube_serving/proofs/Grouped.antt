@@ -1,18 +1,16 @@
 -- Groups on one wire: each is asked by itself, and over a world with the changes for a protected cell of one of them the log is the same.
-use Rattle.std.proofs.Common.{◌≡◌, ◌∙◌, refl, sym, ap, ap₂, subst, ℕ, Bool, true, false, cond, List, [], ◌∷◌, map, Option, Some, None, inl, inr}
+use Rattle.std.proofs.Common.{◌≡◌, ◌∙◌, refl, sym, ap, ap₂, subst, ℕ, Bool, true, false, cond, List, [], ◌∷◌, map, Some, None, inl, inr}
 use Rattle.std.proofs.lemmas.Bool.{false≢true}
 use Rattle.cube_model.specs.declared.ask.Question.{Question}
 use Rattle.cube_model.specs.declared.cell.Cell.{Cell}
 use Rattle.cube_model.specs.declared.entry.Entry.{Entry}
-use Rattle.cube_model.specs.declared.outcome.Outcome.{Outcome}
-use Rattle.cube_model.specs.declared.policy.Policy.{Policy}
 use Rattle.cube_model.specs.declared.reply.Reply.{Reply}
 use Rattle.cube_model.specs.Cores.{Core, IsCore, shown, world}
 use Rattle.cube_model.specs.Cubes.{Public, World, IsWorld, same, IsIn, Each}
 use Rattle.cube_model.specs.Dims.{Dims}
 use Rattle.cube_model.specs.Policies.{IsPolicy}
 use Rattle.cube_model.specs.Protection.{protected}
-use Rattle.cube_model.specs.Rooms.{Room, Call, room_of, goes_to, next_room, next_in, replies_in, end_in, AreApart, turns_to, ended, with_world, other_world, IsByItself}
+use Rattle.cube_model.specs.Rooms.{Room, Call, room_of, goes_to, next_room, next_in, replies_in, end_in, AreApart, turns_to, ended, with_world, IsByItself}
 use Rattle.cube_model.specs.Runs.{Stepper, Turn, next, replies, end}
 use Rattle.cube_model.specs.Twins.{changes, twin}
 use Rattle.cube_model.specs.TwoWorlds.{Extends}
@@ -31,22 +29,7 @@ use Rattle.cube_server.specs.Logs.{Call as Reached, Luck, log_of, calls_of}
 use Rattle.cube_server.proofs.Likeness.{logs_are_alike}
 use Rattle.cube_serving.specs.Grouping.{GroupRun, first_room, first_rooms}
 use Rattle.cube_serving.specs.ServedGroups.{turn_of}
-
--- ---- lists
-
-pub each_in : {X : Type 0} (P : X → Type 0) (xs : List X) → ((x : X) → IsIn x xs → P x) → Each P xs
-each_in P [] h = tt
-each_in P (x ∷ xs) h = (h x (inl refl), each_in P xs (λ y k. h y (inr k)))
-
-pub map_twice : {X Y Z : Type 0} (f : X → Y) (g : Y → Z) (h : X → Z) (xs : List X) → ((x : X) → g (f x) ≡ h x) → map g (map f xs) ≡ map h xs
-map_twice f g h [] e = refl
-map_twice f g h (x ∷ xs) e = ap₂ (λ z zs. z ∷ zs) (e x) (map_twice f g h xs e)
-
-head_alike : {X : Type 0} {x y : X} {xs ys : List X} → (x ∷ xs) ≡ (y ∷ ys) → x ≡ y
-head_alike e = cc
-
-tail_alike : {X : Type 0} {x y : X} {xs ys : List X} → (x ∷ xs) ≡ (y ∷ ys) → xs ≡ ys
-tail_alike e = cc
+use Rattle.cube_serving.proofs.Lists.{each_in, head_alike, map_twice, tail_alike}
 
 -- ---- rooms behind some asks
 

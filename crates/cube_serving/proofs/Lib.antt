@@ -1,3 +1,4 @@
+pub mod Lists
 pub mod Placed
 pub mod Turning
 pub mod Adding
@@ -10,3 +11,5 @@ pub mod Played
 mod Listening
 pub mod Grouped
 pub mod GroupLogs
+pub mod Gathered
+pub mod Shared

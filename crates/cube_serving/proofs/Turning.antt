@@ -27,15 +27,10 @@ use Rattle.cube_engine.specs.Prepared.{SettleCause}
 use Rattle.cube_engine.specs.Steps.{by_words, call, manner}
 use Rattle.cube_serving.specs.NamedBooks.{room, rooms_of, dims_of, is_named, IsKeptIn, AreInOrder, place, places_of, HoldsAt, IsTurn}
 use Rattle.cube_serving.specs.declared.named.NamedBook.{NamedBook}
+use Rattle.cube_serving.proofs.Lists.{head_alike, tail_alike}
 use Rattle.cube_serving.proofs.Placed.{flip, none_named, Split, split, after, same_places, same_length, same_dims, apart_keeps, numbered_keeps, each_keeps, each_here, each_maps, front_logs, back_logs, kept_keeps, own_holds, only_holds, other_holds}
 
 -- ---- rooms behind a turn
-
-head_alike : {X : Type 0} {x y : X} {xs ys : List X} → (x ∷ xs) ≡ (y ∷ ys) → x ≡ y
-head_alike e = cc
-
-tail_alike : {X : Type 0} {x y : X} {xs ys : List X} → (x ∷ xs) ≡ (y ∷ ys) → xs ≡ ys
-tail_alike e = cc
 
 module _ (s : Dims) (a : Ask) (o : Outcome) where
   stays : (x : NamedBook) → same x.name (aim a.group) ≡ false → next_room (by_words s) (call a o) (room x) ≡ room x

@@ -224,7 +224,8 @@ impl Groups {
 
     /// How many groups there are.
     pub fn len(&self) -> usize
-        ensures { result ≡ length self.now.books }
+        ensures len { result ≡ length self.now.books }
+        ensures order { AreInOrder self.now.books }
     {
         self.books.as_slice().len()
     }

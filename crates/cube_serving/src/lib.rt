@@ -3,6 +3,7 @@
 
 mod gathering;
 mod groups;
+mod housing;
 mod named;
 mod replaying;
 mod serving;
@@ -10,6 +11,7 @@ mod starting;
 
 pub use gathering::open_groups;
 pub use groups::Groups;
+pub use housing::serve_groups;
 pub use replaying::replay_cube;
 pub use serving::serve_cube;
 pub use starting::open_engine;

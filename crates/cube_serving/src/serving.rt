@@ -19,8 +19,8 @@ use cube_opening::{CubeFiles, Report, Room, open_guarded, spent_room};
 use cube_server::{Pool, ServeFault, serve};
 use std::alloc::Global;
 
-// The most events that are taken of a wire.
-const MAX_EVENTS: u64 = 1 << 40;
+/// The most events that are taken of a wire.
+pub(crate) const MAX_EVENTS: u64 = 1 << 40;
 
 // Serves a wire by an engine that was asked nothing before, over log 0 of the store.
 pub(crate) fn serve_engine<S: Store, W: Wire>(

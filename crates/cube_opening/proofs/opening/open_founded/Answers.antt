@@ -1,8 +1,5 @@
-use Rattle.std.proofs.Common.{◌≡◌, ◌∙◌, List, ℕ, [], ◌∷◌, Ok, inr}
-use Rattle.std.specs.Prelude.{IfSome}
-use Rattle.cube_opening.specs.Opening.{facts_said, FileSays, MakesCore, IsDigestOf, EndsAt, EndsUnfounded, AskedFor, IsSteady, GotBehind}
-use Rattle.cube_opening.specs.declared.opening.Opened.{Opened}
-use Rattle.cube_opening.specs.declared.opening.Founded.{Founded}
+use Rattle.std.proofs.Common.{◌∙◌, [], ◌∷◌, inr}
+use Rattle.cube_opening.specs.Opening.{facts_said}
 use Rattle.cube_opening.proofs.Behind.{asked_then, ends_behind, makes_of, if_two, if_err, on_two}
 use Rattle.cube_opening.proofs.opening.open_founded.Goals as goal
 

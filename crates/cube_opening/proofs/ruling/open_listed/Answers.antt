@@ -14,7 +14,7 @@ returns-clause-rules g c =
     let fs = c.in-Ok.opened.value in
     let said = c.in-Ok.ensures.rules in
     if_ok _ _ c.open_rest.result (λ o h. read_groups s files fs o.value said.some said.few (short_groups fs said) said.new_names
-      (subst (λ (gs : List RuledGroup). Read s files fs gs o.value) c.new.ensures (subst (λ (l : List GroupFile). Read s files l c.new.result o.value) c.as_slice.ensures h))) c.open_rest.ensures.ok
+    (subst (λ (gs : List RuledGroup). Read s files fs gs o.value) c.new.ensures (subst (λ (l : List GroupFile). Read s files l c.new.result o.value) c.as_slice.ensures h))) c.open_rest.ensures.ok
 
 pub returns-clause-err : goal.returns-clause-err
 returns-clause-err g c =
@@ -24,5 +24,9 @@ returns-clause-err g c =
     let new = c.open_rest.new.files in
     let fs = c.in-Ok.opened.value in
     let x = c.in-Ok.ensures in
-    if_err _ _ c.open_rest.result (λ r h. inr (fs, x.ok.1, one_behind tells c.args.files.now mid new r (c.args.name.now ∷ []) x.asks x.reads.files x.reads.steady s [] fs
-      (subst (λ (l : List GroupFile). EndsAtOne s [] l (seen tells mid new) r) c.as_slice.ensures h))) c.open_rest.ensures.err
+    if_err _ _ c.open_rest.result (λ r h. inr (
+      fs,
+      x.ok.1,
+      one_behind tells c.args.files.now mid new r (c.args.name.now ∷ []) x.asks x.reads.files x.reads.steady s [] fs
+          (subst (λ (l : List GroupFile). EndsAtOne s [] l (seen tells mid new) r) c.as_slice.ensures h),
+    )) c.open_rest.ensures.err

@@ -1,7 +1,9 @@
 use Rattle.std.proofs.Common.{IsTrue, sym, subst}
 use Rattle.cube_io.specs.States.{Log}
 use Rattle.cube_engine.specs.Kept.{IsExact}
-use Rattle.cube_serving.proofs.Sealing.{journal_is_other, seals_from, unsealed}
+use Rattle.cube_io.specs.Seen.{seen}
+use Rattle.cube_io.specs.declared.store.TheConstants.{SEAL_LOG}
+use Rattle.cube_serving.proofs.Sealing.{at_seal, journal_is_other, seal_is_other, seals_from, unsealed}
 use Rattle.cube_serving.proofs.starting.open_engine.Goals as goal
 
 pub returns-in-Err-clause-err : goal.returns-in-Err-clause-err
@@ -18,11 +20,11 @@ returns-in-Ok-hold_seal-clause-sealed g c = λ told. c.in-Ok-hold_seal.ensures.s
 pub returns-in-Err-hold_seal-clause-seals : goal.returns-in-Err-hold_seal-clause-seals
 returns-in-Err-hold_seal-clause-seals g c =
     let x = c.in-Ok.ensures in
-    seals_from c.args.guarded.facts g.S.Store.state c.args.store.now c.start_engine.new.store c.hold_seal.new.store x.told x.others c.in-Err-hold_seal.ensures.crash
+    seals_from c.args.guarded.facts g.S.Store.state c.args.store.now c.start_engine.new.store c.hold_seal.new.store x.told (λ told. x.others told SEAL_LOG seal_is_other) c.in-Err-hold_seal.ensures.crash
 
 pub returns-in-Err-hold_seal-clause-err : goal.returns-in-Err-hold_seal-clause-err
 returns-in-Err-hold_seal-clause-err g c =
     let x = c.in-Ok.ensures in
     let y = c.in-Err-hold_seal.ensures in
-    unsealed c.args.guarded.core c.args.guarded.policy c.args.guarded.facts g.S.Store.state c.args.store.now c.start_engine.new.store c.hold_seal.new.store c.in-Err-hold_seal.fault c.refuse_seal.result
-    x.told x.others x.steady y.cause y.fault c.refuse_seal.ensures
+    unsealed c.args.guarded.core c.args.guarded.policy c.args.guarded.facts (seen g.S.Store.state c.args.store.now c.hold_seal.new.store) c.refuse_seal.result
+    (at_seal c.args.guarded.facts g.S.Store.state c.args.store.now c.start_engine.new.store c.hold_seal.new.store c.in-Err-hold_seal.fault c.refuse_seal.result x.told (λ told. x.others told SEAL_LOG seal_is_other) x.steady y.cause y.fault c.refuse_seal.ensures)

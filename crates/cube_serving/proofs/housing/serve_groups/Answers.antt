@@ -1,0 +1,27 @@
+use Rattle.cube_engine.specs.Kept.{IsWithin}
+use Rattle.cube_serving.specs.NamedBooks.{dims_of}
+use Rattle.cube_serving.proofs.Shared.{desk_at, foreign, serves, survive, wired}
+use Rattle.cube_serving.proofs.Phrases.{phrased}
+use Rattle.cube_serving.proofs.Wired.{ends, rose_for}
+use Rattle.cube_serving.proofs.housing.serve_groups.Goals as goal
+
+pub serve-requires-clause-phrased : goal.serve-requires-clause-phrased
+serve-requires-clause-phrased g c = phrased (dims_of c.args.groups.now.books)
+
+pub returns-clause-served : goal.returns-clause-served
+returns-clause-served g c = λ core over.
+    let e = c.args.groups.now in
+    let last = c.serve.new.desk in
+    let x = c.serve.ensures in
+    let told = (g.W.Wire.state c.args.wire.now).told in
+    let log = (g.W.Wire.state c.serve.new.wire).log in
+    let order = c.len-order.ensures.order in
+    let w = wired core e last c.requires.some over c.requires.rules order c.requires.unasked x.endures.manner x.endures.asked c.serve.result told log (ends c.serve.result told (desk_at e) (desk_at last) log x.ended x.unended x.room x.spent) x.endures.counted x.log in
+    let v = survive core e last c.requires.some over c.requires.rules order c.requires.unasked x.endures.manner x.endures.asked g.S.Store.state c.args.store.now c.serve.new.store x.endures in
+    serves core e last c.requires.some over c.requires.rules order c.requires.unasked x.endures.manner x.endures.asked g.S.Store.state c.args.store.now c.serve.new.store c.serve.result told log w v
+
+pub returns-clause-asks : goal.returns-clause-asks
+returns-clause-asks g c = rose_for c.args.groups.now.outcomes c.serve.new.desk.outcomes (g.S.Store.state c.args.store.now).faults (g.S.Store.state c.serve.new.store).faults c.requires.unasked c.serve.ensures.endures.risen
+
+pub returns-clause-others : goal.returns-clause-others
+returns-clause-others g c = λ told log far. c.serve.ensures.endures.others told log (λ rooms s h. foreign IsWithin 0 c.args.groups.now.books rooms log s c.len-order.ensures.order.numbered far h)
