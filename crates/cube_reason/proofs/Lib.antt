@@ -1,0 +1,14 @@
+pub mod Narrowed
+pub mod Numbers
+pub mod Steps
+pub mod Made
+pub mod Levels
+pub mod Accepted
+pub mod Searches
+pub mod Trailing
+pub mod Singles
+pub mod Reaching
+pub mod Named
+pub mod Refusals
+pub mod Few
+pub mod Together

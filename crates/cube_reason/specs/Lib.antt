@@ -1,0 +1,10 @@
+pub mod Views
+pub mod Given
+pub mod Tied
+pub mod Stepped
+pub mod Made
+pub mod Searched
+pub mod Trails
+pub mod Found
+pub mod ReasonText
+pub mod Examples

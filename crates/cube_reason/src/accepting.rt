@@ -1,0 +1,186 @@
+// Whether a reason is one, checked without judging the request again.
+ghost use Rattle.std.specs.Prelude.{◌≡◌, ◌<◌, true, ℕ, length, IfOk};
+ghost use Rattle.std.specs.List.{list_any};
+ghost use Rattle.cube_model.specs.declared.request.What.TheVariants as what;
+ghost use Rattle.cube_model.specs.Cores.{shown};
+ghost use Rattle.cube_model.specs.Policies.{IsPolicy};
+ghost use Rattle.cube_model.specs.Protection as protection;
+ghost use Rattle.cube_model.specs.Reasons as said;
+ghost use Rattle.cube_model.specs.Requests.{grain, is_valid};
+ghost use Rattle.cube_model.specs.Verdicts.{narrowed, source};
+ghost use Rattle.cube_reason.specs.Given.{AreAllowed, RefusesWhere};
+ghost use Rattle.cube_reason.specs.Stepped.{ends_at};
+ghost use Rattle.cube_reason.specs.Views.{reason_view, steps_view, end_view};
+
+use crate::blocks::make_up;
+use crate::joints::joints_of;
+use crate::narrowing::next_source;
+use crate::stepping::{has_single, led};
+use crate::ties::{Tie, ties};
+use crate::{End, Reason, WalkStep};
+use cube_core::Core;
+use cube_model::{Cell, Entry, Method, NoMemory, Policy, Request, What};
+use cube_source::guarded;
+use std::alloc::Global;
+
+/// Whether cells of the cuboid that the source would become make up the protected cell.
+fn accept_blocks(
+    alloc: Global,
+    core: &Core,
+    policy: &Policy,
+    history: &[Entry],
+    request: &Request,
+    measure: u32,
+    cell: &Cell,
+    blocks: &[Cell],
+) -> Result<bool, NoMemory>
+    requires policy { IsPolicy core.now.dims policy.now }
+    requires measure { measure < length core.now.dims.measures }
+    requires allowed { AreAllowed (shown core.now policy.now) history.now }
+    requires valid { is_valid (shown core.now policy.now) request.now ≡ true }
+    ensures { IfOk result (λ taken. taken ≡ said.are_blocks (shown core.now policy.now) measure (narrowed (source history.now measure) (grain request.now)) cell.now blocks.now) }
+{
+    let levels = next_source(alloc, core, policy, history, request, measure)?;
+    make_up(alloc, core, policy, measure, &levels, cell, blocks)
+}
+
+/// Whether a place is guarded.
+fn is_guarded(
+    alloc: Global,
+    core: &Core,
+    policy: &Policy,
+    measure: u32,
+    place: u32,
+) -> Result<bool, NoMemory>
+    requires policy { IsPolicy core.now.dims policy.now }
+    ensures { IfOk result (λ found. found ≡ protection.listed place (protection.guarded (shown core.now policy.now) measure)) }
+{
+    let places = guarded(alloc, core, policy, measure)?;
+    Ok(is_listed(places.as_slice(), place))
+}
+
+/// Whether a place is listed.
+fn is_listed(places: &[u32], place: u32) -> bool
+    ensures { result ≡ protection.listed place places.now }
+{
+    places.iter().any(|other| place == *other)
+}
+
+/// Whether the number of steps is odd.
+fn is_odd(steps: &[WalkStep]) -> bool
+    ensures { result ≡ said.is_odd (steps_view steps.now) }
+{
+    steps.len() % 2 == 1
+}
+
+/// Whether a walk that leads to a place ends there: back where it began and at odd length, or at a place alone.
+fn ends(ties: &[Tie], start: u32, steps: &[WalkStep], end: Option<End>, at: u32) -> bool
+    ensures { result ≡ ends_at ties.now start steps.now end at }
+{
+    match end {
+        None => is_odd(steps) && at == start,
+        Some(end) => end.place == at && has_single(ties, end.place, end.by),
+    }
+}
+
+/// Whether steps and an end are a walk from a guarded place.
+fn accept_walk(
+    alloc: Global,
+    core: &Core,
+    policy: &Policy,
+    history: &[Entry],
+    request: &Request,
+    measure: u32,
+    place: u32,
+    steps: &[WalkStep],
+    end: Option<End>,
+) -> Result<bool, NoMemory>
+    requires policy { IsPolicy core.now.dims policy.now }
+    requires allowed { AreAllowed (shown core.now policy.now) history.now }
+    requires valid { is_valid (shown core.now policy.now) request.now ≡ true }
+    ensures { IfOk result (λ taken. taken ≡ said.is_walk (shown core.now policy.now) history.now request.now measure place (steps_view steps.now) (end_view end)) }
+{
+    if !is_guarded(alloc, core, policy, measure, place)? {
+        return Ok(false);
+    }
+    let ties = ties(alloc, core, policy, history, request, measure)?;
+    let joints = joints_of(alloc, core.len(), ties.as_slice())?;
+    match led(joints.as_slice(), place, steps) {
+        None => Ok(false),
+        Some(at) => Ok(ends(ties.as_slice(), place, steps, end, at)),
+    }
+}
+
+/// Whether a reason is one for a request on a measure.
+fn accept_on(
+    alloc: Global,
+    core: &Core,
+    policy: &Policy,
+    history: &[Entry],
+    request: &Request,
+    measure: u32,
+    reason: &Reason,
+) -> Result<bool, NoMemory>
+    requires policy { IsPolicy core.now.dims policy.now }
+    requires measure { measure < length core.now.dims.measures }
+    requires allowed { AreAllowed (shown core.now policy.now) history.now }
+    requires valid { is_valid (shown core.now policy.now) request.now ≡ true }
+    ensures { IfOk result (λ taken. taken ≡ said.is_reason_by (protection.method (shown core.now policy.now) measure) (shown core.now policy.now) history.now request.now measure (reason_view reason.now)) }
+{
+    match policy.method(measure) {
+        Method::Plain => Ok(false),
+        Method::Lattice => match reason {
+            Reason::Blocks { cell, blocks } => accept_blocks(
+                alloc,
+                core,
+                policy,
+                history,
+                request,
+                measure,
+                cell,
+                blocks.as_slice(),
+            ),
+            Reason::Walk { .. } => Ok(false),
+        },
+        Method::Parity => match reason {
+            Reason::Blocks { .. } => Ok(false),
+            Reason::Walk { place, steps, end } => accept_walk(
+                alloc,
+                core,
+                policy,
+                history,
+                request,
+                measure,
+                *place,
+                steps.as_slice(),
+                *end,
+            ),
+        },
+    }
+}
+
+/// Whether a reason is one for the refusal of a request behind a history. What is named in it need not be there: cells, places
+/// and numbers may be any.
+///
+/// It does not judge the request. Where it answers true behind an admissible history, the request may not be answered.
+/// Blocks take a few looks at each place. A walk takes as many steps as its history and its request have links, and for each step
+/// of its own a look at the links of one place.
+pub fn accept(
+    alloc: Global,
+    core: &Core,
+    policy: &Policy,
+    history: &[Entry],
+    request: &Request,
+    reason: &Reason,
+) -> Result<bool, NoMemory>
+    requires policy { IsPolicy core.now.dims policy.now }
+    requires allowed { AreAllowed (shown core.now policy.now) history.now }
+    requires valid { is_valid (shown core.now policy.now) request.now ≡ true }
+    ensures exact { IfOk result (λ taken. taken ≡ said.is_reason (shown core.now policy.now) history.now request.now (reason_view reason.now)) }
+    ensures refuses { IfOk result (RefusesWhere (shown core.now policy.now) history.now request.now) }
+{
+    match request.what {
+        What::Count => Ok(false),
+        What::Measure(measure) => accept_on(alloc, core, policy, history, request, measure, reason),
+    }
+}

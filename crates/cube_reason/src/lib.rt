@@ -1,0 +1,25 @@
+//! Reasons for refusals, which anybody can check without trusting the code that refused.
+//!
+//! A reason depends on what is public alone: no function here takes a value of the cube.
+#![tactic(auto)]
+
+mod accepting;
+mod blocks;
+mod finding;
+mod joints;
+mod narrowing;
+mod reasoning;
+mod reasons;
+mod searching;
+mod stepping;
+mod texts;
+mod ties;
+mod trails;
+mod walking;
+mod worked;
+
+pub use accepting::accept;
+pub use reasoning::reason;
+pub use reasons::{End, Origin, Reason, StepList, WalkStep};
+pub use texts::reason_text;
+pub use worked::worked_reasons;

@@ -1,0 +1,91 @@
+// The cuboid that the source of a measure would become.
+ghost use Rattle.std.specs.Prelude.{◌≡◌, ◌<◌, ⊤, ℕ, true, Some, None, length, fold, IfOk};
+ghost use Rattle.cube_model.specs.declared.policy.Policy.{Policy};
+ghost use Rattle.cube_model.specs.Cores.{shown};
+ghost use Rattle.cube_model.specs.Cubes.{are_levels};
+ghost use Rattle.cube_model.specs.Dims.{plains};
+ghost use Rattle.cube_model.specs.Entries.{is_allowed, levels_in};
+ghost use Rattle.cube_model.specs.Requests.{is_valid, grain as grain_of};
+ghost use Rattle.cube_model.specs.Verdicts as verdicts;
+ghost use Rattle.cube_reason.specs.Given.{AreAllowed, HasLevels};
+
+use cube_core::Core;
+use cube_lattice::{grain, meet_into};
+use cube_model::{Entry, Levels, NoMemory, Policy, Request};
+use std::alloc::Global;
+
+/// A source under some levels.
+fn narrow(source: Option<Levels>, levels: Levels, core: &Core) -> Levels
+    requires source { HasLevels (plains core.now.dims) source }
+    requires levels { are_levels (plains core.now.dims) levels ≡ true }
+    ensures narrowed { result ≡ verdicts.narrowed source levels }
+    ensures levels { are_levels (plains core.now.dims) result ≡ true }
+{
+    let _rules = core.dims();
+    match source {
+        None => levels,
+        Some(mut source) => {
+            meet_into(&mut source, &levels);
+            source
+        }
+    }
+}
+
+/// A source under what an entry brings.
+fn narrow_by(
+    alloc: Global,
+    core: &Core,
+    policy: &Policy,
+    source: Option<Levels>,
+    entry: &Entry,
+) -> Result<Option<Levels>, NoMemory>
+    requires source { HasLevels (plains core.now.dims) source }
+    requires allowed { is_allowed (shown core.now policy.now) entry.now ≡ true }
+    ensures narrowed { IfOk result (λ next. next ≡ fold (λ s c. Some (verdicts.narrowed s c)) source (levels_in entry.now)) }
+    ensures levels { IfOk result (λ next. HasLevels (plains core.now.dims) next) }
+{
+    match entry {
+        Entry::Asked(request) => Ok(Some(narrow(source, grain(alloc, request)?, core))),
+        Entry::Source { levels, .. } => Ok(Some(narrow(source, levels.copied(alloc)?, core))),
+        Entry::Linked { .. } => Ok(source),
+    }
+}
+
+/// The source that a history leaves of a measure.
+fn source_of(
+    alloc: Global,
+    core: &Core,
+    policy: &Policy,
+    history: &[Entry],
+    measure: u32,
+) -> Result<Option<Levels>, NoMemory>
+    requires allowed { AreAllowed (shown core.now policy.now) history.now }
+    ensures source { IfOk result (λ source. source ≡ verdicts.source history.now measure) }
+    ensures levels { IfOk result (λ source. HasLevels (plains core.now.dims) source) }
+{
+    let mut source = None;
+    'entries: for entry in history {
+        if entry.is_on(measure) {
+            source = narrow_by(alloc, core, policy, source, entry)?;
+        }
+    }
+    Ok(source)
+}
+
+/// The cuboid that the source of a measure would become behind a history, by the grain of a request.
+pub(crate) fn next_source(
+    alloc: Global,
+    core: &Core,
+    policy: &Policy,
+    history: &[Entry],
+    request: &Request,
+    measure: u32,
+) -> Result<Levels, NoMemory>
+    requires allowed { AreAllowed (shown core.now policy.now) history.now }
+    requires valid { is_valid (shown core.now policy.now) request.now ≡ true }
+    ensures levels { IfOk result (λ levels. levels ≡ verdicts.narrowed (verdicts.source history.now measure) (grain_of request.now)) }
+    ensures there { IfOk result (λ levels. are_levels (plains core.now.dims) levels ≡ true) }
+{
+    let source = source_of(alloc, core, policy, history, measure)?;
+    Ok(narrow(source, grain(alloc, request)?, core))
+}
