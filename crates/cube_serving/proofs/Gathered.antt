@@ -17,6 +17,7 @@ use Rattle.cube_io.proofs.Trails.{gained_none}
 use Rattle.cube_journal.specs.Keeping.{IsInRecovery}
 use Rattle.cube_engine.specs.Kept.{history_of, IsExact}
 use Rattle.cube_engine.specs.Opening.{StartCause, IsStartFault}
+use Rattle.cube_engine.specs.Worlds.{IsRuled}
 use Rattle.cube_engine.specs.declared.fault.EngineFault.{EngineFault}
 use Rattle.cube_engine.specs.declared.fault.EngineFault.TheVariants.{Failed, TooLong, Damaged, OtherCube, Inadmissible, NoMemory}
 use Rattle.cube_opening.specs.Reports.{IsReport, NoRoom}
@@ -252,6 +253,23 @@ gathers_more n tells old mid new a b = record {
 
 pub gathers_first : {S : Type 0} (n : ℕ) (store : Seen StoreState S) → Gathers 1 store → Gathers (suc n) store
 gathers_first n store a = record { told = a.told; attached = a.attached; names = a.names; calls = λ told. (let c = a.calls told in omega (arith, c)) }
+
+-- ---- what is known of them
+
+pub all_over : {S : Type 0} (core : Core) (store : Seen StoreState S) (k : ℕ) (gs : List RuledGroup) (bs : List NamedBook) → AreStarted core store k gs bs → Each (λ b. b.book.core ≡ core) bs
+all_over core store k gs [] a = tt
+all_over core store k [] (b ∷ bs) a = absurd a
+all_over core store k (g ∷ gs) (b ∷ bs) a = ((a.0).core_is, all_over core store (suc k) gs bs a.1)
+
+pub all_ruled : {S : Type 0} (core : Core) (store : Seen StoreState S) (k : ℕ) (gs : List RuledGroup) (bs : List NamedBook) → AreStarted core store k gs bs → Each (λ b. IsRuled b.book) bs
+all_ruled core store k gs [] a = tt
+all_ruled core store k [] (b ∷ bs) a = absurd a
+all_ruled core store k (g ∷ gs) (b ∷ bs) a = ((a.0).rules, all_ruled core store (suc k) gs bs a.1)
+
+pub some_started : {S : Type 0} (core : Core) (store : Seen StoreState S) (gs : List RuledGroup) (bs : List NamedBook) → 1 ≤ length gs → AreStarted core store 0 gs bs → 1 ≤ length bs
+some_started core store [] bs some a = absurd (omega (arith, some))
+some_started core store (g ∷ gs) [] some a = absurd a
+some_started core store (g ∷ gs) (b ∷ bs) some a = omega arith
 
 -- ---- the seal beside them
 

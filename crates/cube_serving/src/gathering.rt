@@ -2,6 +2,7 @@
 ghost use Rattle.std.specs.Prelude.{◌≡◌, ◌<◌, ◌≤◌, ◌+◌, ◌*◌, ◌++◌, ◌∷◌, [], List, length, map, IsTrue, IfOk, IfErr, OnOk};
 ghost use Rattle.cube_model.specs.Cubes.{Each};
 ghost use Rattle.cube_model.specs.Policies.{IsPolicy};
+ghost use Rattle.cube_engine.specs.Worlds.{IsRuled};
 ghost use Rattle.cube_groups.specs.Rules.{AreNew};
 ghost use Rattle.cube_io.specs.Seen.{seen};
 ghost use Rattle.cube_opening.specs.Ruling.{AreGroups};
@@ -163,6 +164,9 @@ pub fn open_groups<S: Store>(
     requires groups { AreGroups ruled.core.dims ruled.groups }
     ensures room { IfOk result (λ opened. opened.room ≡ []) }
     ensures ok { IfOk result (λ opened. AreStarted ruled.core (seen S.state store.old store.new) 0 ruled.groups opened.value.books) }
+    ensures some { IfOk result (λ opened. 1 ≤ length opened.value.books) }
+    ensures over { IfOk result (λ opened. Each (λ b. b.book.core ≡ ruled.core) opened.value.books) }
+    ensures rules { IfOk result (λ opened. Each (λ b. IsRuled b.book) opened.value.books) }
     ensures outcomes { IfOk result (λ opened. (opened.value.outcomes ≡ []) × (opened.value.left ≡ stated)) }
     ensures attached { OnOk result (IsTrue (S.state store.new).attached) }
     ensures kept { IsTrue (S.state store.old).told → IfOk result (λ opened. Each (IsKeptIn (S.state store.new).logs) opened.value.books) }

@@ -1,4 +1,4 @@
-//! Trials of cubes that are asked: engines over logs and stores that fail, groups over one store, what is recovered from logs, and the
+//! Trials of cubes that are asked: engines over logs and stores that fail, groups over one store and on one wire, what is recovered from logs, and the
 //! demonstration of a made cube.
 //!
 //! There is nothing here but tests, each of something that no clause of the crates below says, and what they share.
@@ -16,3 +16,5 @@ mod images;
 mod journals;
 #[cfg(test)]
 mod makers;
+#[cfg(test)]
+mod served_groups;

@@ -2,7 +2,7 @@ use Rattle.std.proofs.Common.{length, IsTrue, sym, subst, arith}
 use Rattle.cube_io.specs.Seen.{seen}
 use Rattle.cube_io.specs.States.{Log}
 use Rattle.cube_seal.specs.Seals.{Agrees}
-use Rattle.cube_serving.proofs.Gathered.{at_rest, kept_sealed, only_first, recover_sealed, seal_stays, started_sealed, unsealed_groups}
+use Rattle.cube_serving.proofs.Gathered.{all_over, all_ruled, at_rest, kept_sealed, only_first, recover_sealed, seal_stays, some_started, started_sealed, unsealed_groups}
 use Rattle.cube_serving.proofs.Sealing.{at_seal, seals_from, seals_unreached}
 use Rattle.cube_serving.proofs.gathering.open_groups.Goals as goal
 
@@ -62,3 +62,12 @@ returns-in-Err-hold_seal-clause-err g c =
     let y = c.in-Err-hold_seal.ensures in
     unsealed_groups c.args.ruled.core c.args.ruled.groups c.args.ruled.facts (seen g.S.Store.state c.args.store.now c.hold_seal.new.store) c.refuse_seal.result
     (at_seal c.args.ruled.facts g.S.Store.state c.args.store.now c.start_groups.new.store c.hold_seal.new.store c.in-Err-hold_seal.fault c.refuse_seal.result x.told (seal_stays (length c.args.ruled.groups) (g.S.Store.state c.args.store.now) (g.S.Store.state c.start_groups.new.store) c.requires.groups.few x.frame) x.steady y.cause y.fault c.refuse_seal.ensures)
+
+pub returns-in-Ok-hold_seal-clause-some : goal.returns-in-Ok-hold_seal-clause-some
+returns-in-Ok-hold_seal-clause-some g c = some_started c.args.ruled.core (seen g.S.Store.state c.args.store.now c.start_groups.new.store) c.args.ruled.groups c.in-Ok.opened.value.books c.requires.groups.some c.in-Ok.ensures.ok
+
+pub returns-in-Ok-hold_seal-clause-over : goal.returns-in-Ok-hold_seal-clause-over
+returns-in-Ok-hold_seal-clause-over g c = all_over c.args.ruled.core (seen g.S.Store.state c.args.store.now c.start_groups.new.store) 0 c.args.ruled.groups c.in-Ok.opened.value.books c.in-Ok.ensures.ok
+
+pub returns-in-Ok-hold_seal-clause-rules : goal.returns-in-Ok-hold_seal-clause-rules
+returns-in-Ok-hold_seal-clause-rules g c = all_ruled c.args.ruled.core (seen g.S.Store.state c.args.store.now c.start_groups.new.store) 0 c.args.ruled.groups c.in-Ok.opened.value.books c.in-Ok.ensures.ok
