@@ -4,8 +4,8 @@
 Each command runs once for each allocation that it makes, which is refused alone, and once more in which all behind it are
 refused too, up to the 2,000th allocation or to another number that is given. What a run may do:
 
-- It ends with status 7, or with status 9 where the journal could not be opened, and has written nothing. The journal
-  holds what it held, and the next run goes as this one would have gone.
+- It ends with status 7 and has written nothing. The journal holds what it held, and the next run goes as this one would
+  have gone.
 - It ends with status 0. Each reply is the right one or `no memory`, and what got `no memory` is as if it had not been
   asked: the other replies and the bytes of the journal are those of a run over the other asks alone. The journal opens
   again, what was answered is answered again and what was refused is refused, and no line comes.
@@ -35,7 +35,7 @@ LIMIT = 2_000
 PATIENCE = 60
 TOLD = 20
 NO_MEMORY = b"no memory\n"
-NOTHING = {7: NO_MEMORY, 9: b"store failed\n"}
+NOTHING = {7: NO_MEMORY}
 
 MONTHS, AREAS, COUNT = "slice pay by time.month", "slice pay by region.area", "cell count"
 CELL = "cell pay region.city=Lyon, time.month=Feb"
