@@ -31,8 +31,9 @@ const SCRIPT: &[u8] = b"\
 const CUT: &[u8] =
     b"source: the cuboid (region.area, time.month) does not cut the cell (region.city=Lyon, time.month=Feb)\n\n";
 
-/// No ask failed.
+/// No ask failed; those that reach no group count too.
 const OUTCOMES: &[Outcome] = &[
+    Outcome::Given,
     Outcome::Given,
     Outcome::Given,
     Outcome::Given,
