@@ -1,5 +1,5 @@
 -- One more step of each loop, and chains as the definitions have them.
-use Rattle.std.proofs.Common.{◌≡◌, ◌≢◌, ℕ, suc, ◌+◌, ◌-◌, ◌*◌, ◌<◌, ◌≤◌, Bool, true, false, ◌&&◌, nat_le, min, List, [], ◌∷◌, ◌++◌, length, map, take, drop, set, get_or, refl, sym, ◌∙◌, ap, arith, append_assoc, add-one, Option}
+use Rattle.std.proofs.Common.{◌≡◌, ◌≢◌, ℕ, suc, ◌+◌, ◌-◌, ◌*◌, ◌<◌, ◌≤◌, Bool, true, false, ◌&&◌, nat_le, min, List, [], ◌∷◌, ◌++◌, length, map, take, drop, set, get_or, refl, sym, ◌∙◌, ap, ap₂, arith, append_assoc, add-one, Option}
 use Rattle.std.specs.List.{list_all, zip}
 use Rattle.std.proofs.lemmas.List.{take_all, drop_more, drop_all, get_or_read, drop-set-lt, length-drop}
 use Rattle.std.proofs.Math.Seq.{take-suc-set}
@@ -52,6 +52,15 @@ lower_more whole a b i v lt even is lowered =
 -- all levels are lowered
 pub lower_end : (whole a b : List ℕ) (i : ℕ) → length a ≤ i → whole ≡ take i a ++ meet (drop i a) (drop i b) → a ≡ whole
 lower_end whole a b i le is = sym (is ∙ ap (λ (l : List ℕ). take i a ++ meet l (drop i b)) (drop_all i a le) ∙ append-nil (take i a) ∙ take_all i a le)
+
+min_turned : (a b : ℕ) → min a b ≡ min b a
+min_turned a b = omega arith
+
+pub meet_turned : (a b : List ℕ) → length a ≡ length b → meet a b ≡ meet b a
+meet_turned [] [] e = refl
+meet_turned [] (y ∷ ys) e = absurd (omega (arith, e))
+meet_turned (x ∷ xs) [] e = absurd (omega (arith, e))
+meet_turned (x ∷ xs) (y ∷ ys) e = ap₂ (λ z zs. z ∷ zs) (min_turned x y) (meet_turned xs ys (omega (arith, e)))
 
 -- ---- the grain
 

@@ -12,4 +12,4 @@ mod order;
 pub use below::{cuboids, cuboids_below};
 pub use grains::grain;
 pub use number::cuboid_number;
-pub use order::{finer_or_equal, meet_into};
+pub use order::{finer_or_equal, meet_into, narrow};

@@ -1,8 +1,9 @@
 // The order of cuboids, and their meet.
-ghost use Rattle.std.specs.Prelude.{◌≡◌, ℕ, length, nat_le};
+ghost use Rattle.std.specs.Prelude.{◌≡◌, ℕ, length, nat_le, option_copied, IfSome};
 ghost use Rattle.std.specs.List.{list_all, zip};
 ghost use Rattle.cube_model.specs.Cubes as cubes;
 ghost use Rattle.cube_model.specs.Cubes.{is_finer};
+ghost use Rattle.cube_model.specs.Verdicts.{narrowed};
 
 use cube_model::Levels;
 
@@ -31,5 +32,21 @@ pub fn meet_into(a: &mut Levels, b: &Levels)
     'levels: for place in 0..others.len() {
         let lesser = a.as_slice()[place].min(others[place]);
         a.set(place, lesser);
+    }
+}
+
+/// A source narrowed by one more cuboid: its meet with the cuboid, or the cuboid where there is no source yet. It takes no memory.
+#[tactic(auto, using(crate::proofs::Steps::meet_turned))]
+pub fn narrow(source: Option<&Levels>, levels: Levels) -> Levels
+    requires { IfSome (option_copied source) (λ held. length held ≡ length levels) }
+    ensures { result ≡ narrowed (option_copied source.entry) levels }
+{
+    match source {
+        None => levels,
+        Some(source) => {
+            let mut next = levels;
+            meet_into(&mut next, source);
+            next
+        }
     }
 }
