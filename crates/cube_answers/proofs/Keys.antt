@@ -133,3 +133,8 @@ cell_done core place i levels key ok l all a b =
     let levels_are : levels ≡ finest = a ∙ ap (λ (n : ℕ). take n finest) (all ∙ sym long) ∙ take-length finest in
     let key_is : key ≡ leaves_at core place = b ∙ ap (λ (n : ℕ). take n (leaves_at core place)) (all ∙ sym size) ∙ take-length (leaves_at core place) in
     rw (levels_are, key_is) (refl, cell_fits core place ok l)
+
+-- no cell of a place looks at the policy
+pub any_policy : (core : Core) (p : Policy) (place : ℕ) → core_cell (unprotected core) place ≡ core_cell (shown core p) place
+unfolding key_at
+any_policy core p place = refl

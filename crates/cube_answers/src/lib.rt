@@ -2,12 +2,14 @@
 #![tactic(auto)]
 
 mod answers;
+mod cells;
 mod numbers;
 mod refusals;
 mod sums;
 mod worked;
 
 pub use answers::answer_text;
+pub use cells::{cell_at, push_cell, push_cuboid, push_place};
 pub use refusals::verdict_text;
 pub use sums::answer;
 pub use worked::{worked_answers, worked_refusals};

@@ -2,7 +2,7 @@ use Rattle.std.proofs.Common.{rules, ◌≡◌, ◌<◌, length, arith}
 use Rattle.std.proofs.lemmas.List.{length-map}
 use Rattle.cube_model.specs.Dims.{plain, plains}
 use Rattle.cube_answers.proofs.Keys.{levels_next, key_next, cell_done}
-use Rattle.cube_answers.proofs.refusals.cell_at.Goals as goal
+use Rattle.cube_answers.proofs.cells.cell_at.Goals as goal
 
 pub loop-d-preserved : goal.loop-d-preserved
 loop-d-preserved c =

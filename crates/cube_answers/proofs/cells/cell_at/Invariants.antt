@@ -1,7 +1,7 @@
 use Rattle.std.proofs.Common.{◌≡◌, [], map, take, get_or}
 use Rattle.cube_model.specs.Cubes.{ancestors}
 use Rattle.cube_model.specs.Dims.{plains}
-use Rattle.cube_answers.proofs.refusals.cell_at.Given as goal
+use Rattle.cube_answers.proofs.cells.cell_at.Given as goal
 
 abbrev pub invariant-loop-d : goal.invariant-loop-d
 invariant-loop-d l = record {
