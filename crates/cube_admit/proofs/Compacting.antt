@@ -1,5 +1,5 @@
 -- What is kept of the measures is what the compacted history holds.
-use Rattle.std.proofs.Common.{◌≡◌, ℕ, zero, suc, ◌+◌, ◌<◌, List, [], ◌∷◌, ◌++◌, length, map, flat_map, get_or, Option, None, refl, ap, ◌∙◌, subst, arith, append-nil}
+use Rattle.std.proofs.Common.{◌≡◌, ℕ, suc, ◌+◌, ◌<◌, List, [], ◌∷◌, ◌++◌, length, map, flat_map, get_or, None, refl, ap, ◌∙◌, subst, arith, append-nil}
 use Rattle.cube_model.specs.declared.entry.Entry.{Entry}
 use Rattle.cube_model.specs.declared.policy.Method.{Method}
 use Rattle.cube_model.specs.declared.policy.Method.TheVariants.{Plain, Lattice, Parity}

@@ -1,16 +1,7 @@
--- The meet of two cuboids, and when it is one of them.
+-- When the meet of two cuboids is one of them.
 use Rattle.std.proofs.Common.{◌≡◌, ℕ, Bool, ◌&&◌, nat_le, min, eqb, List, [], ◌∷◌, length, refl, sym, ap₂, arith}
 use Rattle.std.proofs.lemmas.Bool.Decides.{nat_tests}
 use Rattle.cube_model.specs.Cubes.{same, meet, is_finer}
-
-min_turned : (a b : ℕ) → min a b ≡ min b a
-min_turned a b = omega arith
-
-pub meet_turned : (a b : List ℕ) → length a ≡ length b → meet a b ≡ meet b a
-meet_turned [] [] e = refl
-meet_turned [] (y ∷ ys) e = absurd (omega (arith, e))
-meet_turned (x ∷ xs) [] e = absurd (omega (arith, e))
-meet_turned (x ∷ xs) (y ∷ ys) e = ap₂ (λ z zs. z ∷ zs) (min_turned x y) (meet_turned xs ys (omega (arith, e)))
 
 min_test : (a b : ℕ) → eqb (min a b) a ≡ nat_le a b
 min_test a b = grind (arith, nat_tests)

@@ -1,11 +1,11 @@
 // The source rule: what one more request makes of the source of a lattice measure.
 ghost use Rattle.std.specs.Prelude.{◌≡◌, length};
-ghost use Rattle.cube_model.specs.Verdicts.{holds_grain, narrowed};
+ghost use Rattle.cube_model.specs.Verdicts.{holds_grain};
 ghost use Rattle.cube_admit.specs.Sources.{IsLong, stepped, step_by};
 ghost use Rattle.cube_admit.specs.States.{source_in};
 
 use crate::Held;
-use cube_lattice::{finer_or_equal, meet_into};
+use cube_lattice::{finer_or_equal, narrow};
 use cube_model::Levels;
 
 /// Whether the source is as fine as the grain already.
@@ -17,22 +17,6 @@ fn holds(source: &Option<Levels>, grain: &Levels) -> bool
     match source {
         None => false,
         Some(source) => finer_or_equal(source, grain),
-    }
-}
-
-/// The source under one more grain.
-#[tactic(auto, using(crate::proofs::Meets::meet_turned))]
-fn narrow(source: &Option<Levels>, grain: Levels) -> Levels
-    requires { IsLong (length grain) source.now }
-    ensures { result ≡ narrowed source.now grain }
-{
-    match source {
-        None => grain,
-        Some(source) => {
-            let mut next = grain;
-            meet_into(&mut next, source);
-            next
-        }
     }
 }
 
@@ -53,7 +37,7 @@ fn step_from(source: &Option<Levels>, grain: Levels) -> Step
     if holds(source, &grain) {
         Step::Stays
     } else {
-        Step::Would(narrow(source, grain))
+        Step::Would(narrow(source.as_ref(), grain))
     }
 }
 
