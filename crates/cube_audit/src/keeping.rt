@@ -6,21 +6,21 @@ ghost use Rattle.cube_model.specs.Cores.{shown};
 ghost use Rattle.cube_model.specs.Cubes.{count_from};
 ghost use Rattle.cube_model.specs.Dims.{plains};
 ghost use Rattle.cube_model.specs.Entries.{asked as entries_of};
-ghost use Rattle.cube_model.specs.Kept.{uncut_by, cell_at, unkept};
+ghost use Rattle.cube_model.specs.Kept.{uncut_by, unkept};
 ghost use Rattle.cube_model.specs.Links.{basis, is_free, suiting};
 ghost use Rattle.cube_model.specs.Links as model;
-ghost use Rattle.cube_model.specs.Protection.{core_cell};
 ghost use Rattle.cube_model.specs.Protection as protection;
 ghost use Rattle.cube_model.specs.Requests.{fits};
-ghost use Rattle.cube_model.specs.Verdicts.{source, links_of, narrowed, fixed_by};
+ghost use Rattle.cube_model.specs.Verdicts.{source, links_of, fixed_by};
 ghost use Rattle.cube_audit.specs.Audits.{kept_or_fixed};
 ghost use Rattle.cube_audit.specs.Keeping.{public_of, AreValid};
 
 use crate::auditing::Audited;
+use cube_answers::cell_at;
 use cube_colour::{Added, Colouring};
 use cube_core::Core;
-use cube_lattice::{grain, meet_into};
-use cube_model::{Cell, Items, Levels, Method, NoMemory, Places, Policy, Request};
+use cube_lattice::{grain, narrow};
+use cube_model::{Cell, Levels, Method, NoMemory, Places, Policy, Request};
 use cube_pairs::links;
 use cube_source::{Judged, guarded, judge};
 use std::alloc::Global;
@@ -36,20 +36,6 @@ pub(crate) struct Asked<'a> {
     pub requests: &'a [Request],
 }
 
-/// A source under one more grain.
-fn narrow(source: Option<Levels>, grain: Levels) -> Levels
-    requires { IfSome source (λ levels. length levels ≡ length grain) }
-    ensures { result ≡ narrowed source grain }
-{
-    match source {
-        None => grain,
-        Some(mut source) => {
-            meet_into(&mut source, &grain);
-            source
-        }
-    }
-}
-
 /// The source of the requests on a measure: the meet of their grains, or none where there is no such request.
 fn source_of(alloc: Global, asked: &Asked, measure: u32) -> Result<Option<Levels>, NoMemory>
     requires { AreValid asked.now }
@@ -58,7 +44,7 @@ fn source_of(alloc: Global, asked: &Asked, measure: u32) -> Result<Option<Levels
     let mut source = None;
     'requests: for request in asked.requests {
         if request.asks_for(measure) {
-            source = Some(narrow(source, grain(alloc, request)?));
+            source = Some(narrow(source.as_ref(), grain(alloc, request)?));
         }
     }
     Ok(source)
@@ -113,20 +99,6 @@ fn first_fixed(colouring: &Colouring, places: &[u32]) -> Option<u32>
         .find(|place| !colouring.is_free(*place))
 }
 
-/// The cell of a place.
-fn cell_of(alloc: Global, core: &Core, place: u32) -> Result<Cell, NoMemory>
-    requires { place < length core.now.shape.points }
-    ensures { IfOk result (λ cell. (p : Policy) → cell ≡ core_cell (shown core.now p) place) }
-{
-    let mut levels = Items::new(alloc);
-    let mut key = Items::new(alloc);
-    for d in 0..core.dims().dimensions().len() as u32 {
-        levels.push(0)?;
-        key.push(core.key_at(place, d, 0))?;
-    }
-    Ok(Cell { levels, key })
-}
-
 /// The first protected cell of a lattice measure that the source of the requests does not cut.
 fn unkept_lattice(alloc: Global, asked: &Asked, measure: u32) -> Result<Option<Cell>, NoMemory>
     requires asked { AreValid asked.now }
@@ -164,7 +136,7 @@ fn unkept_at(alloc: Global, asked: &Asked, measure: u32) -> Result<Option<Cell>,
         Method::Lattice => unkept_lattice(alloc, asked, measure),
         Method::Parity => match fixed_place(alloc, asked, measure)? {
             None => Ok(None),
-            Some(place) => Ok(Some(cell_of(alloc, asked.core, place)?)),
+            Some(place) => Ok(Some(cell_at(alloc, asked.core, place)?)),
         },
     }
 }

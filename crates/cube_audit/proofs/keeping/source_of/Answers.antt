@@ -11,14 +11,14 @@ requests-init c = refl
 
 pub narrow-requires : goal.narrow-requires
 narrow-requires c =
-    rw (c.requests.invariant, c.in_ok-grain.ensures)
+    rw (c.as_ref.ensures.value, c.requests.invariant, c.in_ok-grain.ensures)
     (long_so_far c.args.asked.now.requests.now c.requests.request-index c.request-item.result c.requests-test.true c.request-item.is (public_of c.args.asked.now) c.args.measure c.requires.requests)
 
 pub requests-preserved : goal.requests-preserved
 requests-preserved c =
     elim c.if-asks_for.branch [
       | then-asks_for+in_ok-grain w ↦
-          rw (w.source-is, w.narrow.ensures, c.requests.invariant, w.in_ok-grain.ensures)
+          rw (w.source-is, w.narrow.ensures, w.as_ref.ensures.value, c.requests.invariant, w.in_ok-grain.ensures)
           (sym (source_next c.args.asked.now.requests.now c.requests.request-index c.request-item.result c.requests-test.true c.request-item.is c.args.measure (sym c.asks_for.ensures ∙ w.if-asks_for.true)))
       | else-asks_for w ↦
           w.source-is ∙ c.requests.invariant
