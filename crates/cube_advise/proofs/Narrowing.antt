@@ -1,14 +1,15 @@
 -- A source under one more cuboid, and the cuboids in their order.
 use Rattle.std.proofs.Common.{◌≡◌, ◌<◌, ℕ, zero, suc, true, List, [], ◌∷◌, length, map, get_or, Option, Some, None, inl, inr, refl, sym, ◌∙◌, arith}
+use Rattle.std.specs.Prelude.{IfSome}
 use Rattle.cube_model.specs.Cubes.{Dimension, cuboids_below, are_levels, IsIn}
 use Rattle.cube_model.specs.Verdicts.{narrowed}
 use Rattle.cube_model.proofs.Compacts.{meet_in_range}
 use Rattle.cube_model.proofs.Histories.{length-levels}
 use Rattle.cube_model.proofs.Objects.{below_finer}
-use Rattle.cube_advise.specs.Open.{InRange, IsLong}
+use Rattle.cube_advise.specs.Open.{InRange}
 use Rattle.cube_advise.proofs.Opening.{levels_below}
 
-pub narrow_long : (ds : List Dimension) (s : Option (List ℕ)) (c : List ℕ) → InRange ds s → are_levels ds c ≡ true → IsLong (length c) s
+pub narrow_long : (ds : List Dimension) (s : Option (List ℕ)) (c : List ℕ) → InRange ds s → are_levels ds c ≡ true → IfSome s (λ held. length held ≡ length c)
 narrow_long ds None c r l = tt
 narrow_long ds (Some s) c r l = length-levels ds s r ∙ sym (length-levels ds c l)
 

@@ -1,5 +1,5 @@
 -- The cuboids that can be released behind a history.
-use Rattle.std.specs.Prelude.{◌≡◌, ⊤, ℕ, Bool, true, not, List, length, filter, Option, Some, None}
+use Rattle.std.specs.Prelude.{◌≡◌, ⊤, ℕ, Bool, true, not, List, filter, Option, Some, None}
 use Rattle.cube_model.specs.declared.entry.Entry.{Entry}
 use Rattle.cube_model.specs.Cubes.{Dimension, Public, cuboids, are_levels}
 use Rattle.cube_model.specs.Verdicts.{narrowed, source}
@@ -28,8 +28,3 @@ finest_open g h m = finest_by g (source h m) m
 abbrev pub InRange : List Dimension → Option (List ℕ) → Type 0
 InRange ds None = ⊤
 InRange ds (Some s) = are_levels ds s ≡ true
-
--- where there is a source, it has so many levels
-abbrev pub IsLong : ℕ → Option (List ℕ) → Type 0
-IsLong n None = ⊤
-IsLong n (Some s) = length s ≡ n

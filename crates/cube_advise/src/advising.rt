@@ -5,31 +5,16 @@ ghost use Rattle.cube_model.specs.Cores.{shown};
 ghost use Rattle.cube_model.specs.Dims.{plains};
 ghost use Rattle.cube_model.specs.Policies.{IsPolicy};
 ghost use Rattle.cube_admit.specs.States.{StandsFor};
-ghost use Rattle.cube_answers.specs.VerdictText.{cuboid_text, bracketed};
 ghost use Rattle.cube_advise.specs.Open.{InRange};
 ghost use Rattle.cube_advise.specs.Advice.{cuboid_line, source_lines, safe_lines, measure_line, lattice_lines, measure_lines, advice_text};
 
 use crate::finest_behind;
 use cube_admit::State;
+use cube_answers::push_cuboid;
 use cube_core::Core;
 use cube_model::{Dims, Levels, Method, NoMemory, Policy, Text};
-use cube_query::{groups, push_levels};
 use cube_text::push_name;
 use std::alloc::Global;
-
-// The levels of a cuboid that are not `all`, or the word `all`, between brackets.
-fn push_cuboid(text: &mut Text, dims: &Dims, levels: &[u32]) -> Result<(), NoMemory>
-    requires { length levels.now ≡ length dims.now.dimensions }
-    ensures { OnOk result (text.new ≡ text.old ++ bracketed (cuboid_text dims.now levels.now)) }
-{
-    text.push(b'(')?;
-    if groups(dims, levels) {
-        push_levels(text, dims, levels, b"")?;
-    } else {
-        text.extend(b"all")?;
-    }
-    text.push(b')')
-}
 
 fn push_cuboid_line(
     text: &mut Text,

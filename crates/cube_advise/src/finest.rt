@@ -5,32 +5,16 @@ ghost use Rattle.cube_model.specs.Cubes.{are_levels, same};
 ghost use Rattle.cube_model.specs.Dims.{plains};
 ghost use Rattle.cube_model.specs.Policies.{IsPolicy};
 ghost use Rattle.cube_model.specs.Safe.{finest, has_finer as finer_test};
-ghost use Rattle.cube_model.specs.Verdicts.{narrowed};
 ghost use Rattle.cube_model.specs.declared.cell.Cell.{Cell};
 ghost use Rattle.cube_source.specs.Judged.{judged_of};
 ghost use Rattle.cube_source.specs.Tables.{TableStands};
-ghost use Rattle.cube_advise.specs.Open.{is_open_by, finest_by, InRange, IsLong};
+ghost use Rattle.cube_advise.specs.Open.{is_open_by, finest_by, InRange};
 
 use cube_core::Core;
-use cube_lattice::{cuboids, finer_or_equal, meet_into};
+use cube_lattice::{cuboids, finer_or_equal, narrow};
 use cube_model::{Cuboids, Levels, NoMemory, Policy};
 use cube_source::{JudgeTable, Judged};
 use std::alloc::Global;
-
-// The source under one more cuboid.
-fn narrow(alloc: Global, source: Option<&Levels>, levels: &Levels) -> Result<Levels, NoMemory>
-    requires { IsLong (length levels.now) (option_copied source) }
-    ensures { IfOk result (λ narrower. narrower ≡ narrowed (option_copied source.entry) levels.now) }
-{
-    match source {
-        None => levels.copied(alloc),
-        Some(source) => {
-            let mut narrowed = source.copied(alloc)?;
-            meet_into(&mut narrowed, levels);
-            Ok(narrowed)
-        }
-    }
-}
 
 // Whether a cuboid was judged to cut each protected cell.
 fn is_safe(judged: &Judged) -> bool
@@ -60,7 +44,7 @@ fn is_open(
     ensures is { IfOk result (λ open_now. open_now ≡ is_open_by (shown core.now policy.now) (option_copied source.entry) measure levels.now) }
     ensures stands { TableStands core.now policy.now table.new }
 {
-    let narrowed = narrow(alloc, source, levels)?;
+    let narrowed = narrow(source, levels.copied(alloc)?);
     let judged = table.judge(alloc, core, policy, measure, &narrowed)?;
     Ok(is_safe(&judged))
 }
