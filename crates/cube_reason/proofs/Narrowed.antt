@@ -1,5 +1,6 @@
 -- The source of a measure, an entry further.
 use Rattle.std.specs.List.{fold}
+use Rattle.std.specs.Prelude.{IfSome}
 use Rattle.std.proofs.Common.{◌≡◌, ℕ, ◌+◌, ◌<◌, true, false, List, [], ◌∷◌, ◌++◌, length, take, get_or, Option, Some, None, refl, sym, ap, ◌∙◌, subst}
 use Rattle.std.proofs.lemmas.Bool.{and_parts, eqb-true}
 use Rattle.std.proofs.lemmas.List.{take_more}
@@ -12,7 +13,7 @@ use Rattle.cube_model.specs.Protection.{method, is_lattice}
 use Rattle.cube_model.specs.Requests.{grain, is_valid}
 use Rattle.cube_model.specs.Verdicts.{narrowed, source}
 use Rattle.cube_model.proofs.Compacts.{lesser_in_range, meet_in_range}
-use Rattle.cube_model.proofs.Histories.{fits_valid, source-push, source-narrow, source-skip, source-link}
+use Rattle.cube_model.proofs.Histories.{fits_valid, length-levels, source-push, source-narrow, source-skip, source-link}
 use Rattle.cube_model.proofs.Sources.{Each-get_or}
 use Rattle.cube_reason.specs.Given.{AreAllowed, HasLevels}
 
@@ -33,6 +34,10 @@ asked_valid g r e = e
 pub narrowed_levels : (ds : List Dimension) (s : Option (List ℕ)) (c : List ℕ) → HasLevels ds s → are_levels ds c ≡ true → are_levels ds (narrowed s c) ≡ true
 narrowed_levels ds None c a b = b
 narrowed_levels ds (Some s) c a b = meet_in_range ds s c a b
+
+pub narrow_long : (ds : List Dimension) (s : Option (List ℕ)) (c : List ℕ) → HasLevels ds s → are_levels ds c ≡ true → IfSome s (λ held. length held ≡ length c)
+narrow_long ds None c a b = tt
+narrow_long ds (Some s) c a b = length-levels ds s a ∙ sym (length-levels ds c b)
 
 source_on : (h : List Entry) (m : ℕ) (e : Entry) → is_on m e ≡ true → source (h ++ e ∷ []) m ≡ fold (λ s c. Some (narrowed s c)) (source h m) (levels_in e)
 source_on h m (Asked r) a = source-push h r m a

@@ -10,26 +10,9 @@ ghost use Rattle.cube_model.specs.Verdicts as verdicts;
 ghost use Rattle.cube_reason.specs.Given.{AreAllowed, HasLevels};
 
 use cube_core::Core;
-use cube_lattice::{grain, meet_into};
+use cube_lattice::{grain, narrow};
 use cube_model::{Entry, Levels, NoMemory, Policy, Request};
 use std::alloc::Global;
-
-/// A source under some levels.
-fn narrow(source: Option<Levels>, levels: Levels, core: &Core) -> Levels
-    requires source { HasLevels (plains core.now.dims) source }
-    requires levels { are_levels (plains core.now.dims) levels ≡ true }
-    ensures narrowed { result ≡ verdicts.narrowed source levels }
-    ensures levels { are_levels (plains core.now.dims) result ≡ true }
-{
-    let _rules = core.dims();
-    match source {
-        None => levels,
-        Some(mut source) => {
-            meet_into(&mut source, &levels);
-            source
-        }
-    }
-}
 
 /// A source under what an entry brings.
 fn narrow_by(
@@ -45,8 +28,8 @@ fn narrow_by(
     ensures levels { IfOk result (λ next. HasLevels (plains core.now.dims) next) }
 {
     match entry {
-        Entry::Asked(request) => Ok(Some(narrow(source, grain(alloc, request)?, core))),
-        Entry::Source { levels, .. } => Ok(Some(narrow(source, levels.copied(alloc)?, core))),
+        Entry::Asked(request) => Ok(Some(narrow(source.as_ref(), grain(alloc, request)?))),
+        Entry::Source { levels, .. } => Ok(Some(narrow(source.as_ref(), levels.copied(alloc)?))),
         Entry::Linked { .. } => Ok(source),
     }
 }
@@ -87,5 +70,5 @@ pub(crate) fn next_source(
     ensures there { IfOk result (λ levels. are_levels (plains core.now.dims) levels ≡ true) }
 {
     let source = source_of(alloc, core, policy, history, measure)?;
-    Ok(narrow(source, grain(alloc, request)?, core))
+    Ok(narrow(source.as_ref(), grain(alloc, request)?))
 }
