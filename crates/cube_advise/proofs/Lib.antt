@@ -1,4 +1,6 @@
 pub mod Opening
+pub mod Entries
+pub mod Holdings
 pub mod Cutting
 pub mod Narrowing
 pub mod Numbering

@@ -1,5 +1,5 @@
 -- Pay by a source, each city's month protected, and hours by links.
-use Rattle.std.specs.Prelude.{List, [], ◌∷◌, None, pos}
+use Rattle.std.specs.Prelude.{List, [], ◌∷◌, None, Some, pos}
 use Rattle.cube_model.specs.declared.entry.Entry.{Entry}
 use Rattle.cube_model.specs.declared.entry.Entry.TheVariants.{Asked}
 use Rattle.cube_model.specs.declared.policy.Method.TheVariants.{Lattice, Parity}
@@ -26,3 +26,7 @@ lone_core = record {
 -- pay by month was answered
 abbrev pub months : List Entry
 months = Asked (record { what = Measure 0; group = 2 ∷ 0 ∷ []; picks = None ∷ None ∷ [] }) ∷ []
+
+-- hours of Lyon and Nice in January were answered, in one sum: one pair
+abbrev pub hours : List Entry
+hours = Asked (record { what = Measure 1; group = 2 ∷ 2 ∷ []; picks = Some (record { level = 1; first = 0; last = 0 }) ∷ Some (record { level = 0; first = 0; last = 0 }) ∷ [] }) ∷ []

@@ -3,4 +3,7 @@ pub mod OpenLaws
 pub mod Words
 pub mod Lines
 pub mod Advice
+pub mod Holdings
+pub mod Behind
+pub mod Telling
 pub mod Examples

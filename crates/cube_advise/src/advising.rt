@@ -72,7 +72,7 @@ fn push_measure_line(text: &mut Text, dims: &Dims, measure: u32) -> Result<(), N
 }
 
 // The lines on a lattice measure whose history has this source.
-fn push_lattice(
+pub(crate) fn push_lattice(
     alloc: Global,
     text: &mut Text,
     core: &Core,

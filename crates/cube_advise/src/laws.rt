@@ -1,5 +1,6 @@
-// Laws on the finest open cuboids.
+// Laws on the finest open cuboids, and on the links that are held.
 ghost use Rattle.cube_advise.specs.OpenLaws.{FinestOpenAre, FinestOpenAtFirst, FinestOpenAreAnswered};
+ghost use Rattle.cube_advise.specs.Holdings.{HeldLinksAreFew};
 
 /// The finest open cuboids are open, none is finer than another, and each open cuboid is at or above one of them.
 pub fn finest_open_are()
@@ -15,4 +16,9 @@ pub fn finest_open_at_first()
 /// history is not full.
 pub fn finest_open_are_answered()
     ensures { FinestOpenAreAnswered }
+{}
+
+/// An admissible history holds at most as many links of a parity measure as there are places, and one less where one is protected.
+pub fn held_links_are_few()
+    ensures { HeldLinksAreFew }
 {}

@@ -3,15 +3,21 @@
 #![tactic(auto)]
 
 mod advising;
+mod behind;
+mod entering;
 mod finest;
 pub mod laws;
 mod lines;
+mod telling;
 mod word;
 mod worked;
 mod workload;
 
 pub use advising::advice;
+pub use behind::advice_behind;
+pub use entering::workload_behind;
 pub use finest::finest_behind;
+pub use telling::{told_first, told_later};
 pub use word::Word;
-pub use worked::{worked_advice, worked_words};
-pub use workload::{Workload, WorkloadFault, workload_text};
+pub use worked::{worked_advice, worked_advice_behind, worked_words};
+pub use workload::{Workload, is_workload, workload_text};

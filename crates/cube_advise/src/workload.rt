@@ -1,7 +1,6 @@
 // The lines of a workload, judged one behind another.
 ghost use Rattle.std.specs.Prelude.{◌≡◌, ◌≢◌, [], ◌∷◌, ◌++◌, ◌≤◌, suc, true, None, ℕ, List, length, IfOk, IfSome, OnErr};
 ghost use Rattle.std.specs.Str.Lines.{lines};
-ghost use Rattle.cube_model.specs.Answers.{Answers};
 ghost use Rattle.cube_model.specs.Cores.{shown};
 ghost use Rattle.cube_model.specs.Cubes.{Public};
 ghost use Rattle.cube_model.specs.Policies.{IsPolicy};
@@ -11,8 +10,7 @@ ghost use Rattle.cube_model.specs.Verdicts.{verdict as verdict_of};
 ghost use Rattle.cube_admit.specs.States.{StandsFor};
 ghost use Rattle.cube_query.specs.Canonical.{is_request};
 ghost use Rattle.cube_advise.specs.Words.{asked_in, word_on, behind, words_of};
-ghost use Rattle.cube_advise.specs.Lines.{numbered, workload_of};
-ghost use Rattle.cube_advise.specs.declared.workload.WorkloadFault.TheVariants as fault;
+ghost use Rattle.cube_advise.specs.Lines.{is_workload as is_one, workload_words};
 
 use crate::Word;
 use crate::lines::{count_lines, next_line, push_word};
@@ -29,22 +27,6 @@ const MAX_LINE: usize = 65_536;
 
 /// The most lines of a workload.
 const MAX_LINES: usize = 1_000_000;
-
-/// Why a workload is refused.
-#[derive(Clone, Copy, Debug, PartialEq, Eq)]
-pub enum WorkloadFault {
-    /// It has more than 1,000,000 lines.
-    TooManyLines,
-    NoMemory,
-}
-
-impl From<NoMemory> for WorkloadFault {
-    ghost from_gives = { λ _ e. e ≡ fault.NoMemory };
-
-    fn from(_: NoMemory) -> WorkloadFault {
-        WorkloadFault::NoMemory
-    }
-}
 
 // The request that a line names, if any.
 fn read_line(alloc: Global, dims: &Dims, line: &[u8]) -> Result<Option<Request>, NoMemory>
@@ -104,7 +86,8 @@ impl Workload {
 
     /// The history as the lines so far left it, and what is kept of it.
     pub fn state(&self) -> &State
-        ensures { result.now ≡ self.now }
+        ensures state { result.now ≡ self.now }
+        ensures none { result.now.pending ≡ None }
     {
         &self.state
     }
@@ -157,8 +140,15 @@ impl Workload {
     }
 }
 
-// A line for each line of a text, with its number and its word.
-fn word_lines(
+/// Whether a text has at most 1,000,000 lines, as a workload does.
+pub fn is_workload(text: &[u8]) -> bool
+    ensures { result ≡ is_one text.now }
+{
+    count_lines(text) <= MAX_LINES
+}
+
+/// The words for the lines of a workload, a line with its number and its word for each, judged behind the history of one.
+pub fn workload_text(
     alloc: Global,
     core: &Core,
     policy: &Policy,
@@ -167,8 +157,8 @@ fn word_lines(
 ) -> Result<Text, NoMemory>
     requires policy { IsPolicy core.now.dims policy.now }
     requires stands { StandsFor (shown core.now policy.now) workload }
-    requires few { length (lines text.now) ≤ 1000000 }
-    ensures { IfOk result (λ words. words ≡ numbered 1 (words_of core.now.dims (shown core.now policy.now) workload.history (lines text.now))) }
+    requires few { is_one text.now ≡ true }
+    ensures { IfOk result (λ words. words ≡ workload_words core.now.dims (shown core.now policy.now) workload.history text.now) }
 {
     let mut workload = workload;
     let mut words = Text::new(alloc);
@@ -183,24 +173,4 @@ fn word_lines(
         push_word(&mut words, number, word)?;
         rest = behind;
     }
-}
-
-/// The words for the lines of a text, a line with its number and its word for each, judged behind the history of a workload.
-/// A text of more than 1,000,000 lines is refused, before any is judged.
-pub fn workload_text(
-    alloc: Global,
-    core: &Core,
-    policy: &Policy,
-    workload: Workload,
-    text: &[u8],
-) -> Result<Text, WorkloadFault>
-    requires policy { IsPolicy core.now.dims policy.now }
-    requires stands { StandsFor (shown core.now policy.now) workload }
-    ensures { Answers fault.NoMemory result (workload_of core.now.dims (shown core.now policy.now) workload.history text.now) }
-{
-    if count_lines(text) > MAX_LINES {
-        return Err(WorkloadFault::TooManyLines);
-    }
-    let words = word_lines(alloc, core, policy, workload, text)?;
-    Ok(words)
 }

@@ -4,7 +4,7 @@ use Rattle.cube_model.specs.Cores.{shown}
 use Rattle.cube_admit.specs.States.{StandsFor}
 use Rattle.cube_advise.specs.Words.{words_of}
 use Rattle.cube_advise.specs.Lines.{numbered}
-use Rattle.cube_advise.proofs.workload.word_lines.Given as goal
+use Rattle.cube_advise.proofs.workload.workload_text.Given as goal
 
 abbrev pub invariant-lines : goal.invariant-lines
 invariant-lines l = record {
