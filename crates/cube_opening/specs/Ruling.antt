@@ -1,5 +1,5 @@
 -- Groups of users, each with a policy of its own over one core: what their files hold, read in turn.
-use Rattle.std.specs.Prelude.{◌≡◌, ◌⊎◌, ⊤, ℕ, ◌≤◌, ◌==◌, List, [], ◌∷◌, ◌++◌, length, map, codes, if◌then◌else◌, IfSome, Result, Ok}
+use Rattle.std.specs.Prelude.{◌≡◌, ◌⊎◌, ⊤, ℕ, ◌≤◌, ◌==◌, List, [], ◌∷◌, ◌++◌, length, map, codes, if◌then◌else◌, IfSome, IsSomeAnd, Result, Ok}
 use Rattle.cube_model.specs.declared.policy.Policy.{Policy}
 use Rattle.cube_model.specs.Cores.{Core}
 use Rattle.cube_model.specs.Cubes.{Each}
@@ -118,3 +118,7 @@ pub record MakesGroups (cube : RuledFiles) (core : Core) (fs : List GroupFile) (
 pub record MakeGroups (cube : RuledFiles) (folder : FolderState) (core : Core) (fs : List GroupFile) (gs : List RuledGroup) : Type 0 where
   pub make : IfSome folder.files (MakesGroups cube core fs gs)
   pub named : HaveNames fs gs
+
+-- the files are there and are accepted
+abbrev pub HasGroups : RuledFiles → FolderState → Type 0
+HasGroups cube folder = IsSomeAnd folder.files (λ known. (core : Core) × ((fs : List GroupFile) × ((gs : List RuledGroup) × (HaveNames fs gs × MakesGroups cube core fs gs known))))

@@ -13,3 +13,6 @@ pub mod Grouped
 pub mod GroupLogs
 pub mod Gathered
 pub mod Shared
+pub mod OpenGroups
+pub mod Unruled
+pub mod Unstarted

@@ -58,10 +58,10 @@ module _ (core : Core) (calls : List Reached) where
   abbrev runs_of : List NamedBook → List GroupRun
   runs_of bs = map (run_from s calls) bs
 
-  runs : (bs : List NamedBook) → Over core bs → AreRunsOf core bs (runs_of bs)
-  unfolding run_from room_over
-  runs [] a = tt
-  runs (b ∷ bs) a = (ap (room_over b b.book.history) a.0, runs bs a.1)
+  runs : (bs : List NamedBook) → AreRunsOf bs (runs_of bs)
+  unfolding run_from
+  runs [] = tt
+  runs (b ∷ bs) = ((refl, refl, refl), runs bs)
 
   firsts : (bs : List NamedBook) → Over core bs → first_rooms core (runs_of bs) ≡ rooms_of bs
   unfolding run_from room_over
@@ -193,4 +193,4 @@ module _ (core : Core) (e last : Groups) (some : 1 ≤ length e.books) (over : O
       (subst (λ (x : Core). Gained (IsInRecovery (history_of x g.book.policy) ((tells opened).logs k).state) ((tells opened).logs k) ((tells mid).logs k)) (sym c) (recovers (subst IsTrue (sym told_same) are))))))
 
   pub serves : {S : Type 0} (tells : S → StoreState) (mid new : S) (end_is : Result (Unit {0}) ServeFault) (is_told : Bool) (log : List LogEntry) → WiredGroups core a end_is is_told log → SurviveFrom tells core a mid new → ServeWire tells core e last end_is is_told log mid new
-  serves tells mid new end_is is_told log w v = record { asking = a; runs = runs core asked.calls e.books over; stated = refl; left = refl; outcomes = refl; wired = w; survived = v }
+  serves tells mid new end_is is_told log w v = record { asking = a; runs = runs core asked.calls e.books; stated = refl; left = refl; outcomes = refl; wired = w; survived = v }

@@ -33,6 +33,13 @@ pub record GroupRun : Type 0 where
   pub first : List Entry
   pub last : List Entry
 
+-- the groups, by what their files say
+abbrev pub ruled_by : GroupRun → RuledGroup
+ruled_by g = record { name = g.name; policy = g.policy }
+
+abbrev pub ruled : List GroupRun → List RuledGroup
+ruled gs = map ruled_by gs
+
 -- it holds of each with its place, which is the number of its log
 abbrev pub AllOf : {X : Type 0} → (ℕ → X → Type 0) → ℕ → List X → Type 0
 AllOf holds k [] = ⊤
@@ -116,3 +123,47 @@ pub record Gathers {S : Type 0} (many : ℕ) (store : Seen StoreState S) : Type 
   pub attached : IsTrue store.after.attached
   pub names : IsTrue store.before.told → store.after.names ≡ store.before.names
   pub calls : IsTrue store.before.told → store.after.calls ≤ store.before.calls + 6 * many
+
+-- ---- how a run ends before its groups are open
+
+-- A run ended at the journals, over the core, the groups and the facts that the files make, behind the files of these further names.
+pub record EndsUnstartedGroups {F S : Type 0} (cube : RuledFiles) (more : List (List ℕ)) (files : Seen FolderState F) (store : Seen StoreState S) (r : Report) : Type 0 where
+  pub core : Core
+  pub listed : List GroupFile
+  pub groups : List RuledGroup
+  pub facts : List ℕ
+  pub files_make : MakeGroups cube files.before core listed groups
+  pub digest : IsDigestOf cube.facts files.before facts
+  pub behind : GotBehind (ruled_names cube listed ++ more) files
+  pub unstarted : UnstartedGroups core groups facts store r
+  pub passed : AllRecover core 0 groups store
+  pub seals : Seals facts store
+
+-- A run ended before its cube was open: at a file, or at a journal behind the files.
+abbrev pub EndsClosedGroups : {F S : Type 0} → RuledFiles → List (List ℕ) → Seen FolderState F → Seen StoreState S → Report → Type 0
+EndsClosedGroups cube more files store r = (EndsUnruled cube files r × Unused store) ⊎ EndsUnstartedGroups cube more files store r
+
+-- the bytes of the log of a group are accepted
+abbrev pub IsAccepted : Core → StoreState → ℕ → RuledGroup → Type 0
+IsAccepted core store log g = (length (store.logs log).state.now ≤ 2 ^ 28) × IsOk (history_of core g.policy (store.logs log).state.now)
+
+-- the journals and their seal are accepted
+pub record HaveJournals (cube : RuledFiles) (files : FolderState) (store : StoreState) : Type 0 where
+  pub told : IsTrue store.told
+  pub recover : (core : Core) (fs : List GroupFile) (gs : List RuledGroup) → MakeGroups cube files core fs gs → AllOf (IsAccepted core store) 0 gs
+  pub agrees : (facts : List ℕ) → IsDigestOf cube.facts files facts → Agrees facts (store.logs SEAL_LOG).state.now
+
+-- ---- open groups
+
+-- The groups were opened, behind their files and the files of these further names: the core and the policies that the files make, the digest of the fact file, and the histories that the
+-- journals recover. The seal said nothing yet, or this digest; and whatever a crash leaves now says it.
+pub record AreOpen {F S : Type 0} (cube : RuledFiles) (more : List (List ℕ)) (files : Seen FolderState F) (store : Seen StoreState S) (core : Core) (facts : List ℕ) (gs : List GroupRun) : Type 0 where
+  pub listed : List GroupFile
+  pub files_make : MakeGroups cube files.before core listed (ruled gs)
+  pub digest : IsDigestOf cube.facts files.before facts
+  pub behind : GotBehind (ruled_names cube listed ++ more) files
+  pub recovered : IsTrue store.before.told → AllOf (λ log (g : GroupRun). history_of core g.policy (store.before.logs log).state.now ≡ Ok g.first) 0 gs
+  pub admissible : Each (λ g. IsAdmissible (shown core g.policy) g.first) gs
+  pub agreed : IsTrue store.before.told → Agrees facts (store.before.logs SEAL_LOG).state.now
+  pub sealed : IsTrue store.before.told → IsSealed facts (store.after.logs SEAL_LOG).state
+  pub seals : Seals facts store

@@ -4,3 +4,4 @@ pub mod Grouping
 pub mod Serving
 pub mod ServedGroups
 pub mod Replaying
+pub mod ReplayedGroups

@@ -1,24 +1,30 @@
 -- What is told to the connections of a wire on which groups are served.
-use Rattle.std.specs.Prelude.{◌≡◌, ◌+◌, ⊤, ℕ, Bool, IsTrue, List, [], ◌∷◌, length, map}
+use Rattle.std.specs.Prelude.{◌≡◌, ◌≢◌, ◌⊎◌, ◌+◌, ⊤, ℕ, Bool, IsTrue, List, [], ◌∷◌, length, map}
 use Rattle.std.specs.declared.result.Result.{Result}
 use Rattle.cube_model.specs.declared.ask.Question.{Question}
 use Rattle.cube_model.specs.declared.outcome.Outcome.{Outcome}
 use Rattle.cube_model.specs.Cores.{Core}
 use Rattle.cube_model.specs.Cubes.{Each}
 use Rattle.cube_model.specs.Rooms.{Call, IsByItself, with_world}
-use Rattle.cube_io.specs.Seen.{StoreState, seen}
+use Rattle.cube_io.specs.Causes.{Rose, RoseBy}
+use Rattle.cube_io.specs.Desks.{faults_in}
+use Rattle.cube_io.specs.Seen.{FolderState, StoreState, WireState, Seen, Unused, seen}
 use Rattle.cube_io.specs.Wires.{LogEntry, events_in}
 use Rattle.cube_engine.specs.Headline.{Hides}
 use Rattle.cube_engine.specs.Kept.{IsExact}
 use Rattle.cube_engine.specs.Steps.{by_words, call, manner}
+use Rattle.cube_opening.specs.Reports.{IsDone}
+use Rattle.cube_opening.specs.Ruling.{HasGroups}
+use Rattle.cube_opening.specs.declared.cube_files.RuledFiles.{RuledFiles}
+use Rattle.cube_opening.specs.declared.report.Report.{Report}
 use Rattle.cube_server.specs.Crashes.{Called}
 use Rattle.cube_server.specs.Logs.{Luck, Call as Reached, calls_of, log_of}
 use Rattle.cube_server.specs.Seen.{DeskState}
 use Rattle.cube_server.specs.Steps.{Serves, sends_in, luck_of, stated_at}
 use Rattle.cube_server.specs.declared.serving.ServeFault.{ServeFault}
-use Rattle.cube_serving.specs.Grouping.{GroupRun, AllOf, first_room, first_rooms, last_rooms}
-use Rattle.cube_serving.specs.Serving.{Ends}
-use Rattle.cube_serving.specs.NamedBooks.{Groups, room}
+use Rattle.cube_serving.specs.Grouping.{GroupRun, AllOf, AllRecover, AreOpen, EndsClosedGroups, HaveJournals, ruled, first_room, first_rooms, last_rooms}
+use Rattle.cube_serving.specs.Serving.{Ends, Unheard, served_status, served_text}
+use Rattle.cube_serving.specs.NamedBooks.{Groups}
 use Rattle.cube_serving.specs.Starting.{RecoversIn, SurvivedIn}
 use Rattle.cube_serving.specs.declared.named.NamedBook.{NamedBook}
 use Rattle.cube_talk.specs.Talk.{max_input}
@@ -69,11 +75,11 @@ pub record WiredGroups (core : Core) (a : GroupsAsking) (end : Result (Unit {0})
 -- ---- books that serve
 
 -- these are the books at the start of the run
-abbrev pub AreRunsOf : Core → List NamedBook → List GroupRun → Type 0
-AreRunsOf core [] [] = ⊤
-AreRunsOf core [] (g ∷ gs) = ⊥
-AreRunsOf core (b ∷ bs) [] = ⊥
-AreRunsOf core (b ∷ bs) (g ∷ gs) = (room b ≡ first_room core g) × AreRunsOf core bs gs
+abbrev pub AreRunsOf : List NamedBook → List GroupRun → Type 0
+AreRunsOf [] [] = ⊤
+AreRunsOf [] (g ∷ gs) = ⊥
+AreRunsOf (b ∷ bs) [] = ⊥
+AreRunsOf (b ∷ bs) (g ∷ gs) = ((b.name ≡ g.name) × (b.book.policy ≡ g.policy) × (b.book.history ≡ g.first)) × AreRunsOf bs gs
 
 -- What asks over opened logs leave of them, seen from before the opening: where a log was exact behind that, it survived.
 abbrev pub SurviveFrom : {S : Type 0} → (S → StoreState) → Core → GroupsAsking → S → S → Type 0
@@ -83,9 +89,52 @@ SurviveFrom {S} tells core a old new = IsTrue (tells old).told → (opened : S) 
 -- Groups over one core served a wire. They were asked nothing before.
 pub record ServeWire {S : Type 0} (tells : S → StoreState) (core : Core) (old new : Groups) (end : Result (Unit {0}) ServeFault) (told : Bool) (log : List LogEntry) (store store' : S) : Type 0 where
   pub asking : GroupsAsking
-  pub runs : AreRunsOf core old.books asking.groups
+  pub runs : AreRunsOf old.books asking.groups
   pub stated : asking.stated ≡ old.left
   pub left : asking.left ≡ new.left
   pub outcomes : asking.outcomes ≡ new.outcomes
   pub wired : WiredGroups core asking end told log
   pub survived : SurviveFrom tells core asking store store'
+
+-- ---- the whole
+
+-- A wire was served by open groups, and their journals kept what was answered, each by itself. For each ask in which one failed the store's
+-- count of faults rose.
+pub record ServedGroups {F S : Type 0} (cube : RuledFiles) (more : List (List ℕ)) (files : Seen FolderState F) (store : Seen StoreState S) (a : GroupsAsking) (end : Result (Unit {0}) ServeFault) (told : Bool) (log : List LogEntry) : Type 0 where
+  pub core : Core
+  pub facts : List ℕ
+  pub opened : AreOpen cube more files store core facts a.groups
+  pub wired : WiredGroups core a end told log
+  pub survived : IsTrue store.before.told → AllOf (λ k (g : GroupRun). SurvivedIn k core g.policy g.first g.last a.outcomes store) 0 a.groups
+  pub failed : RoseBy (faults_in a.outcomes) store.before.faults store.after.faults
+
+-- Groups were opened, and nothing was served: of each journal every crash leaves what recovers its history.
+pub record UnservedGroups {F S : Type 0} (cube : RuledFiles) (more : List (List ℕ)) (files : Seen FolderState F) (store : Seen StoreState S) : Type 0 where
+  pub core : Core
+  pub facts : List ℕ
+  pub groups : List GroupRun
+  pub opened : AreOpen cube more files store core facts groups
+  pub passed : AllRecover core 0 (ruled groups) store
+  pub exact : IsTrue store.before.told → AllOf (λ k (g : GroupRun). IsExact core g.policy g.first (store.after.logs k).state) 0 groups
+
+-- the connections of a wire were served, by at most so many asks
+pub record ServedGroupConnections {F S W : Type 0} (cube : RuledFiles) (stated : ℕ) (files : Seen FolderState F) (store : Seen StoreState S) (wire : Seen WireState W) (r : Report) : Type 0 where
+  pub asking : GroupsAsking
+  pub stated_is : asking.stated ≡ stated
+  pub outcomes_are : r.outcomes ≡ asking.outcomes
+  pub end : Result (Unit {0}) ServeFault
+  pub served : ServedGroups cube [] files store asking end wire.before.told wire.after.log
+  pub status : r.status ≡ served_status end
+  pub text : r.text ≡ served_text end
+
+-- a run over groups ends before they are open, or where it is to listen; or it serves the connections of the wire
+abbrev pub GroupsServeEnds : {F S W : Type 0} → RuledFiles → ℕ → Seen FolderState F → Seen StoreState S → Seen WireState W → Report → Type 0
+GroupsServeEnds cube stated files store wire r =
+    (EndsClosedGroups cube [] files store r × Unused wire)
+    ⊎ (UnservedGroups cube [] files store × Unheard wire r × (IsTrue wire.before.told → wire.after.log ≡ []))
+    ⊎ ServedGroupConnections cube stated files store wire r
+
+-- where the files and the journals are accepted, no count rose and less was taken than is taken at most, all is done
+abbrev pub GroupsServeComplete : {F S W : Type 0} → RuledFiles → Seen FolderState F → Seen StoreState S → Seen WireState W → Report → Type 0
+GroupsServeComplete cube files store wire r = HasGroups cube files.before → HaveJournals cube files.before store.before → r.status ≢ 10
+    → ¬ Rose files.before.faults files.after.faults → (r.outcomes ≡ [] → ¬ Rose store.before.faults store.after.faults) → ¬ Rose wire.before.faults wire.after.faults → IsDone r

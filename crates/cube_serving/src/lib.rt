@@ -1,6 +1,7 @@
 //! A cube behind its journal: the journal is opened, and the cube is served over connections, or to a script of them.
 #![tactic(auto)]
 
+mod commands;
 mod gathering;
 mod groups;
 mod housing;
@@ -9,6 +10,7 @@ mod replaying;
 mod serving;
 mod starting;
 
+pub use commands::{replay_grouped, serve_grouped};
 pub use gathering::open_groups;
 pub use groups::Groups;
 pub use housing::serve_groups;

@@ -15,9 +15,8 @@ ghost use Rattle.cube_serving.specs.Starting.{AsksStore, OnlyJournal};
 
 use crate::serving::{report_serving, serve_engine};
 use crate::starting::open_engine;
-use cube_engine::Engine;
 use cube_io::{Failed, Folder, Sink, Store};
-use cube_model::Text;
+use cube_model::{Outcomes, Text};
 use cube_opening::{CubeFiles, Opened, Report, Room, open_guarded, read_bytes};
 use cube_script::{ScriptFault, ScriptWire};
 use cube_server::{Pool, ServeFault};
@@ -41,8 +40,8 @@ fn make_wire(alloc: Global, room: Room, bytes: &Text) -> Result<Opened<ScriptWir
     }
 }
 
-// Reads the script.
-fn open_script<F: Folder>(
+/// Reads the script.
+pub(crate) fn open_script<F: Folder>(
     alloc: Global,
     room: Room,
     name: &Text,
@@ -73,27 +72,27 @@ fn overrun_room(room: Room, requests: u64, events: u64) -> Room
         .with(b" events\n")
 }
 
-// The report on how a play ended.
-fn report_play(
+/// The report on how a play ended.
+pub(crate) fn report_play(
     room: Room,
     end: Result<(), ServeFault>,
     written: Result<(), Failed>,
     wire: &ScriptWire,
-    engine: Engine,
+    outcomes: Outcomes,
 ) -> Report
     requires { room ≡ [] }
-    ensures put { OnOk written ((result.status ≡ played_status (has_torn wire.now.log) end) × (result.text ≡ played_text (has_torn wire.now.log) end engine.outcomes wire.now.log)) }
+    ensures put { OnOk written ((result.status ≡ played_status (has_torn wire.now.log) end) × (result.text ≡ played_text (has_torn wire.now.log) end outcomes wire.now.log)) }
     ensures unput { is_err written ≡ true → (result.status ≡ 6) × (result.text ≡ codes "output failed\n") }
-    ensures outcomes { result.outcomes ≡ engine.outcomes }
+    ensures outcomes { result.outcomes ≡ outcomes }
 {
     if written.is_err() {
-        return room.with(b"output failed\n").close_with(6, engine.finish());
+        return room.with(b"output failed\n").close_with(6, outcomes);
     }
     if !wire.overrun() {
-        return report_serving(room, end, engine);
+        return report_serving(room, end, outcomes);
     }
-    let requests = engine.outcomes().len() as u64;
-    overrun_room(room, requests, wire.taken()).close_with(10, engine.finish())
+    let requests = outcomes.len() as u64;
+    overrun_room(room, requests, wire.taken()).close_with(10, outcomes)
 }
 
 /// Plays a script to the cube of the files, from the history on that the journal holds, and writes the log of what was sent.
@@ -145,5 +144,5 @@ pub fn replay_cube<F: Folder, S: Store, O: Sink>(
     let end = serve_engine(alloc, &mut engine, store, &mut wire, &mut pool);
     let _taken = wire.taken();
     let written = wire.write_log(out);
-    report_play(started.room, end, written, &wire, engine)
+    report_play(started.room, end, written, &wire, engine.finish())
 }

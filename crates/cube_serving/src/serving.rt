@@ -14,7 +14,7 @@ ghost use Rattle.cube_serving.specs.Starting.{AsksStore, OnlyJournal};
 use crate::starting::open_engine;
 use cube_engine::Engine;
 use cube_io::{Folder, Store, Wire};
-use cube_model::Text;
+use cube_model::{Outcomes, Text};
 use cube_opening::{CubeFiles, Report, Room, open_guarded, spent_room};
 use cube_server::{Pool, ServeFault, serve};
 use std::alloc::Global;
@@ -52,17 +52,17 @@ pub(crate) fn serve_engine<S: Store, W: Wire>(
 }
 
 // The report on how a serving ended.
-pub(crate) fn report_serving(room: Room, end: Result<(), ServeFault>, engine: Engine) -> Report
+pub(crate) fn report_serving(room: Room, end: Result<(), ServeFault>, outcomes: Outcomes) -> Report
     requires { room ≡ [] }
     ensures status { result.status ≡ served_status end }
     ensures text { result.text ≡ served_text end }
-    ensures outcomes { result.outcomes ≡ engine.outcomes }
+    ensures outcomes { result.outcomes ≡ outcomes }
 {
     match end {
-        Ok(()) => room.close_with(0, engine.finish()),
-        Err(ServeFault::WireFailed) => room.with(b"wire failed\n").close_with(8, engine.finish()),
+        Ok(()) => room.close_with(0, outcomes),
+        Err(ServeFault::WireFailed) => room.with(b"wire failed\n").close_with(8, outcomes),
         Err(ServeFault::Spent { requests, events }) => {
-            spent_room(room, requests, events).close_with(10, engine.finish())
+            spent_room(room, requests, events).close_with(10, outcomes)
         }
     }
 }
@@ -115,5 +115,5 @@ pub fn serve_cube<F: Folder, S: Store, W: Wire>(
     }
     let mut engine = started.value;
     let end = serve_engine(alloc, &mut engine, store, wire, &mut pool);
-    report_serving(started.room, end, engine)
+    report_serving(started.room, end, engine.finish())
 }

@@ -133,7 +133,7 @@ returns-clause-answers g c =
         wire = wire;
         asking = asking e last;
         stated_is = ap (λ (v : Engine). v.left) y.engine;
-        outcomes_are = c.report_play.ensures.outcomes;
+        outcomes_are = c.report_play.ensures.outcomes ∙ c.finish.ensures;
         end = end;
         said = subst (λ (fs : Option (List (List ℕ × List ℕ))). IfSome fs (λ known. FileSays script_said c.args.script_name.now known (Ok script.0))) files.reads.files script.3;
         plays = (plays, same_room wire.most room_for_sends (ap (λ (p : Plan). p.sends) plan ∙ ap (λ (w : Playing). w.most.sends) script.1) (ap (λ (p : Plan). p.bytes) plan ∙ ap (λ (w : Playing). w.most.bytes) script.1));
@@ -146,7 +146,7 @@ returns-clause-answers g c =
             whole script.0 some.0 wire.log (playing.events).0 (sym plays ∙ (playing.events).1) script.2 some.1);
         unfailed = unfailed wire script.0 end playing plays (ap (λ (p : Plan). p.refused) plan ∙ ap (λ (w : Playing). w.spilled) script.1)
             (λ failed. rose_from begun.faults wire.faults (ap (λ (w : Playing). w.faults) script.1) (x.failed failed)) (ends_none end _ _ wire.log x.wired.ended);
-        writes = writes c.write_log-written.result end wire.log last.outcomes out c.report_play.result c.report_play.ensures.outcomes c.write_log-written.ensures.ok c.write_log-written.ensures.err c.report_play.ensures.put c.report_play.ensures.unput;
+        writes = writes c.write_log-written.result end wire.log c.finish.result out c.report_play.result c.report_play.ensures.outcomes c.write_log-written.ensures.ok c.write_log-written.ensures.err c.report_play.ensures.put c.report_play.ensures.unput;
       },
       record { asked = asked_then (names_of c.args.cube.now) (c.args.script_name.now ∷ []) g.F.Folder.state c.args.files.now c.open_guarded.new.files c.open_script.new.files files.behind.asked z.asks; steady = z.reads.steady ∙ files.behind.steady },
     )))

@@ -10,5 +10,5 @@ returns-clause-put c =
     let torn : has_torn log ≡ true = sym c.overrun.ensures.overrun ∙ c.if-not-overrun.false in
     on_ok c.args.written (
       c.close_with-2.ensures.status ∙ sym (ap (λ (b : Bool). played_status b c.args.end) torn),
-      c.close_with-2.ensures.text ∙ c.overrun_room.ensures ∙ rw (torn, c.taken.ensures.taken, c.outcomes.ensures) refl,
+      c.close_with-2.ensures.text ∙ c.overrun_room.ensures ∙ rw (torn, c.taken.ensures.taken, c.len-requests.ensures) refl,
     )

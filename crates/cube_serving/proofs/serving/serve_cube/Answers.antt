@@ -28,7 +28,7 @@ returns-clause-answers g c =
       record {
         asking = asking e last;
         stated_is = ap (λ (z : Engine). z.left) y.engine;
-        outcomes_are = c.report_serving.ensures.outcomes;
+        outcomes_are = c.report_serving.ensures.outcomes ∙ c.finish.ensures;
         end = end;
         served = served c.args.cube.now (g.F.Folder.state c.args.files.now) (tells mid) (seen tells c.args.store.now new) end (g.W.Wire.state c.args.wire.now).told (g.W.Wire.state c.listen.new.self).told (g.W.Wire.state c.serve_engine-end.new.wire).log guarded.core guarded.policy guarded.facts e last c.args.stated
             (still_open c.args.cube.now (g.F.Folder.state c.args.files.now) tells c.args.store.now mid new guarded.core guarded.policy guarded.facts e.history (λ told. x.others (subst IsTrue (sym y.opens.told) told) SEAL_LOG (λ zero. cc)) at_start)

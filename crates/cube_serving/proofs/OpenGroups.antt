@@ -1,0 +1,175 @@
+-- What is known of groups that were opened, seen as runs.
+use Rattle.std.proofs.Common.{◌≡◌, ◌∙◌, ◌≤◌, refl, sym, ap, ap₂, subst, ℕ, suc, Bool, List, [], ◌∷◌, ◌++◌, length, map, inr, IsTrue, Ok, arith}
+use Rattle.std.specs.Prelude.{Result}
+use Rattle.cube_model.specs.declared.entry.Entry.{Entry}
+use Rattle.cube_model.specs.declared.policy.Policy.{Policy}
+use Rattle.cube_model.specs.Cores.{Core, shown}
+use Rattle.cube_model.specs.Cubes.{Each}
+use Rattle.cube_model.specs.Verdicts.{IsAdmissible}
+use Rattle.cube_groups.specs.declared.group.GroupFile.{GroupFile}
+use Rattle.cube_io.specs.Causes.{RoseBy}
+use Rattle.cube_io.specs.Desks.{faults_in}
+use Rattle.cube_io.specs.Seen.{FolderState, StoreState, Seen, seen}
+use Rattle.cube_io.specs.Wires.{LogEntry}
+use Rattle.cube_server.specs.declared.serving.ServeFault.{ServeFault}
+use Rattle.cube_model.specs.declared.outcome.Outcome.{Outcome}
+use Rattle.cube_io.specs.States.{Log, Gained}
+use Rattle.cube_io.specs.declared.store.TheConstants.{SEAL_LOG}
+use Rattle.cube_engine.specs.Kept.{history_of, IsExact}
+use Rattle.cube_engine.specs.Worlds.{IsRuled}
+use Rattle.cube_opening.specs.Opening.{IsDigestOf, GotBehind}
+use Rattle.cube_opening.specs.Ruling.{MakeGroups, ruled_names}
+use Rattle.cube_opening.specs.declared.cube_files.RuledFiles.{RuledFiles}
+use Rattle.cube_opening.specs.declared.ruling.RuledGroup.{RuledGroup}
+use Rattle.cube_seal.specs.Seals.{Agrees, IsSealed, IsSealable}
+use Rattle.cube_serving.specs.Grouping.{GroupRun, AllOf, AllRecover, AreOpen, AreStarted, OnlyFrom, OnlyFirst, ruled, ruled_by}
+use Rattle.cube_serving.specs.NamedBooks.{Groups}
+use Rattle.cube_serving.specs.ServedGroups.{AreRunsOf, ServeWire, ServedGroups, UnservedGroups, WiredGroups}
+use Rattle.cube_serving.specs.Starting.{RecoversIn, Seals, SurvivedIn}
+use Rattle.cube_serving.specs.declared.named.NamedBook.{NamedBook}
+
+-- a group by its name and its policy
+group_of : List ℕ → Policy → RuledGroup
+group_of name policy = record { name = name; policy = policy }
+
+-- books that were opened, as runs that were asked nothing
+still : NamedBook → GroupRun
+still b = record { name = b.name; policy = b.book.policy; first = b.book.history; last = b.book.history }
+
+pub runs_at : List NamedBook → List GroupRun
+runs_at bs = map still bs
+
+pub still_runs : (bs : List NamedBook) → AreRunsOf bs (runs_at bs)
+unfolding runs_at still
+still_runs [] = tt
+still_runs (b ∷ bs) = ((refl, refl, refl), still_runs bs)
+
+-- the runs are of the groups that the files say
+pub runs_ruled : {S : Type 0} (core : Core) (store : Seen StoreState S) (k : ℕ) (gs : List RuledGroup) (bs : List NamedBook) (rs : List GroupRun) → AreStarted core store k gs bs → AreRunsOf bs rs → ruled rs ≡ gs
+unfolding group_of
+runs_ruled core store k [] [] [] a r = refl
+runs_ruled core store k [] [] (x ∷ rs) a r = absurd r
+runs_ruled core store k [] (b ∷ bs) rs a r = absurd a
+runs_ruled core store k (g ∷ gs) [] rs a r = absurd a
+runs_ruled core store k (g ∷ gs) (b ∷ bs) [] a r = absurd r
+runs_ruled core store k (g ∷ gs) (b ∷ bs) (x ∷ rs) (s, a) (is, r) = ap₂ (λ (y : RuledGroup) (ys : List RuledGroup). y ∷ ys)
+    (ap₂ group_of (sym is.0 ∙ s.name) (sym is.1 ∙ s.policy))
+    (runs_ruled core store (suc k) gs bs rs a r)
+
+-- their histories are those that the logs recover
+pub runs_recovered : {S : Type 0} (core : Core) (store : Seen StoreState S) (k : ℕ) (gs : List RuledGroup) (bs : List NamedBook) (rs : List GroupRun) → AreStarted core store k gs bs → AreRunsOf bs rs → IsTrue store.before.told
+    → AllOf (λ log (g : GroupRun). history_of core g.policy (store.before.logs log).state.now ≡ Ok g.first) k rs
+runs_recovered core store k [] [] [] a r told = tt
+runs_recovered core store k [] [] (x ∷ rs) a r told = absurd r
+runs_recovered core store k [] (b ∷ bs) rs a r told = absurd a
+runs_recovered core store k (g ∷ gs) [] rs a r told = absurd a
+runs_recovered core store k (g ∷ gs) (b ∷ bs) [] a r told = absurd r
+runs_recovered core store k (g ∷ gs) (b ∷ bs) (x ∷ rs) (s, a) (is, r) told = (
+  subst (λ (p : Policy). history_of core p (store.before.logs k).state.now ≡ Ok x.first) (sym s.policy ∙ is.1)
+      (subst (λ (h : List Entry). history_of core g.policy (store.before.logs k).state.now ≡ Ok h) is.2 (s.history told)),
+  runs_recovered core store (suc k) gs bs rs a r told,
+)
+
+-- and every crash leaves just these
+pub runs_exact : {S : Type 0} (core : Core) (store : Seen StoreState S) (k : ℕ) (gs : List RuledGroup) (bs : List NamedBook) (rs : List GroupRun) → AreStarted core store k gs bs → AreRunsOf bs rs → IsTrue store.before.told
+    → AllOf (λ log (g : GroupRun). IsExact core g.policy g.first (store.after.logs log).state) k rs
+runs_exact core store k [] [] [] a r told = tt
+runs_exact core store k [] [] (x ∷ rs) a r told = absurd r
+runs_exact core store k [] (b ∷ bs) rs a r told = absurd a
+runs_exact core store k (g ∷ gs) [] rs a r told = absurd a
+runs_exact core store k (g ∷ gs) (b ∷ bs) [] a r told = absurd r
+runs_exact core store k (g ∷ gs) (b ∷ bs) (x ∷ rs) (s, a) (is, r) told = (
+  subst (λ (p : Policy). IsExact core p x.first (store.after.logs k).state) (sym s.policy ∙ is.1)
+      (subst (λ (h : List Entry). IsExact core g.policy h (store.after.logs k).state) is.2 (s.exact told)),
+  runs_exact core store (suc k) gs bs rs a r told,
+)
+
+pub runs_admissible : (core : Core) (bs : List NamedBook) (rs : List GroupRun) → AreRunsOf bs rs → Each (λ b. b.book.core ≡ core) bs → Each (λ b. IsRuled b.book) bs → Each (λ (g : GroupRun). IsAdmissible (shown core g.policy) g.first) rs
+runs_admissible core [] [] r over rules = tt
+runs_admissible core [] (x ∷ rs) r over rules = absurd r
+runs_admissible core (b ∷ bs) [] r over rules = absurd r
+runs_admissible core (b ∷ bs) (x ∷ rs) (is, r) over rules = (
+  subst (λ (c : Core). IsAdmissible (shown c x.policy) x.first) over.0
+      (subst (λ (p : Policy). IsAdmissible (shown b.book.core p) x.first) is.1 (subst (λ (h : List Entry). IsAdmissible (shown b.book.core b.book.policy) h) is.2 (rules.0).admissible)),
+  runs_admissible core bs rs r over.1 rules.1,
+)
+
+-- ---- lists of them
+
+all_unmap : {X Y : Type 0} (P : ℕ → Y → Type 0) (f : X → Y) (k : ℕ) (xs : List X) → AllOf P k (map f xs) → AllOf (λ n x. P n (f x)) k xs
+all_unmap P f k [] a = tt
+all_unmap P f k (x ∷ xs) a = (a.0, all_unmap P f (suc k) xs a.1)
+
+all_three : {X : Type 0} (P Q R : ℕ → X → Type 0) (k : ℕ) (xs : List X) → AllOf (λ n x. P n x → Q n x → R n x) k xs → AllOf P k xs → AllOf Q k xs → AllOf R k xs
+all_three P Q R k [] f a b = tt
+all_three P Q R k (x ∷ xs) f a b = (f.0 a.0 b.0, all_three P Q R (suc k) xs f.1 a.1 b.1)
+
+pub started_few : {S : Type 0} (core : Core) (store : Seen StoreState S) (k : ℕ) (gs : List RuledGroup) (bs : List NamedBook) → AreStarted core store k gs bs → length bs ≡ length gs
+started_few core store k [] [] a = refl
+started_few core store k [] (b ∷ bs) a = absurd a
+started_few core store k (g ∷ gs) [] a = absurd a
+started_few core store k (g ∷ gs) (b ∷ bs) a = ap suc (started_few core store (suc k) gs bs a.1)
+
+-- ---- open groups
+
+module _ {F S : Type 0} (cube : RuledFiles) (more : List (List ℕ)) (files : Seen FolderState F) (fs : List GroupFile) (core : Core) (facts : List ℕ) (gs : List RuledGroup) (tells : S → StoreState) (old mid : S) (bs : List NamedBook)
+    (make : MakeGroups cube files.before core fs gs) (digest : IsDigestOf cube.facts files.before facts) (behind : GotBehind (ruled_names cube fs ++ more) files) (started : AreStarted core (seen tells old mid) 0 gs bs)
+    (over : Each (λ b. b.book.core ≡ core) bs) (rules : Each (λ b. IsRuled b.book) bs) (agreed : IsTrue (tells old).told → Agrees facts ((tells old).logs SEAL_LOG).state.now) (sealed : IsTrue (tells old).told → IsSealed facts ((tells mid).logs SEAL_LOG).state) (seals : Seals facts (seen tells old mid)) where
+  -- while the log of the seal is left alone
+  pub are_open : (new : S) (rs : List GroupRun) → AreRunsOf bs rs → (IsTrue (tells old).told → (tells new).logs SEAL_LOG ≡ (tells mid).logs SEAL_LOG) → AreOpen cube more files (seen tells old new) core facts rs
+  are_open new rs runs stays = record {
+    listed = fs;
+    files_make = subst (MakeGroups cube files.before core fs) (sym (runs_ruled core (seen tells old mid) 0 gs bs rs started runs)) make;
+    digest = digest;
+    behind = behind;
+    recovered = λ told. runs_recovered core (seen tells old mid) 0 gs bs rs started runs told;
+    admissible = runs_admissible core bs rs runs over rules;
+    agreed = agreed;
+    sealed = λ told. subst (λ (l : Log). IsSealed facts l.state) (sym (stays told)) (sealed told);
+    seals = λ told able. subst (λ (l : Log). Gained (IsSealable facts) ((tells old).logs SEAL_LOG) l) (sym (stays told)) (seals told able);
+  }
+
+  -- at each moment of the opening their logs recovered the same
+  pub run_recovers : (rs : List GroupRun) → AreRunsOf bs rs → AllRecover core 0 gs (seen tells old mid) → AllRecover core 0 (ruled rs) (seen tells old mid)
+  run_recovers rs runs passed = subst (λ (l : List RuledGroup). AllRecover core 0 l (seen tells old mid)) (sym (runs_ruled core (seen tells old mid) 0 gs bs rs started runs)) passed
+
+  -- nothing was asked
+  pub unserved : AllRecover core 0 gs (seen tells old mid) → UnservedGroups cube more files (seen tells old mid)
+  unserved passed = record {
+    core = core;
+    facts = facts;
+    groups = runs_at bs;
+    opened = are_open mid (runs_at bs) (still_runs bs) (λ told. refl);
+    passed = run_recovers (runs_at bs) (still_runs bs) passed;
+    exact = λ told. runs_exact core (seen tells old mid) 0 gs bs (runs_at bs) started (still_runs bs) told;
+  }
+
+  -- a wire was served
+  pub served : (new : S) (e last : Groups) (end : Result (Unit {0}) ServeFault) (told heard_told : Bool) (log : List LogEntry) → bs ≡ e.books → heard_told ≡ told → (IsTrue (tells old).told → (tells new).logs SEAL_LOG ≡ (tells mid).logs SEAL_LOG) → (tells mid).told ≡ (tells old).told → (tells mid).faults ≡ (tells old).faults
+      → AllRecover core 0 gs (seen tells old mid) → (w : ServeWire tells core e last end heard_told log mid new) → RoseBy (faults_in last.outcomes) (tells mid).faults (tells new).faults → ServedGroups cube more files (seen tells old new) w.asking end told log
+  served new e last end told heard_told log is same_heard stays told_same steady passed w failed =
+      let runs : AreRunsOf bs w.asking.groups = subst (λ (xs : List NamedBook). AreRunsOf xs w.asking.groups) (sym is) w.runs in
+      record {
+        core = core;
+        facts = facts;
+        opened = are_open new w.asking.groups runs stays;
+        wired = subst (λ (b : Bool). WiredGroups core w.asking end b log) same_heard w.wired;
+        survived = λ are. all_three (λ k (g : GroupRun). IsExact core g.policy g.first ((tells mid).logs k).state) (λ k (g : GroupRun). RecoversIn k core g.policy (seen tells old mid)) (λ k (g : GroupRun). SurvivedIn k core g.policy g.first g.last w.asking.outcomes (seen tells old new)) 0 w.asking.groups
+            (w.survived (subst IsTrue (sym told_same) are) old (sym told_same))
+            (runs_exact core (seen tells old mid) 0 gs bs w.asking.groups started runs are)
+            (all_unmap (λ k (g : RuledGroup). RecoversIn k core g.policy (seen tells old mid)) ruled_by 0 w.asking.groups (run_recovers w.asking.groups runs passed));
+        failed = subst (λ (n : ℕ). RoseBy (faults_in w.asking.outcomes) n (tells new).faults) steady (subst (λ (os : List Outcome). RoseBy (faults_in os) (tells mid).faults (tells new).faults) (sym w.outcomes) failed);
+      }
+
+-- ---- what a serving leaves alone
+
+module _ {S : Type 0} (core : Core) (tells : S → StoreState) (old mid new : S) (gs : List RuledGroup) (bs : List NamedBook) (few : length gs ≤ 16) (started : AreStarted core (seen tells old mid) 0 gs bs) (told_same : (tells mid).told ≡ (tells old).told) where
+  -- the log of the seal
+  pub seal_left : OnlyFrom 0 (length bs) (tells mid) (tells new) → IsTrue (tells old).told → (tells new).logs SEAL_LOG ≡ (tells mid).logs SEAL_LOG
+  seal_left frame told = let long = started_few core (seen tells old mid) 0 gs bs started in frame (subst IsTrue (sym told_same) told) SEAL_LOG (inr (omega (arith, few, long)))
+
+  -- and each log behind the first sixteen
+  pub only_sixteen : OnlyFirst (length gs) (tells old) (tells mid) → OnlyFrom 0 (length bs) (tells mid) (tells new) → OnlyFirst 16 (tells old) (tells new)
+  only_sixteen opened frame told k far seal =
+      let long = started_few core (seen tells old mid) 0 gs bs started in
+      frame (subst IsTrue (sym told_same) told) k (inr (omega (arith, far, few, long))) ∙ opened told k (omega (arith, far, few)) seal

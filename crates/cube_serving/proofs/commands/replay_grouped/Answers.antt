@@ -1,0 +1,290 @@
+use Rattle.std.proofs.Common.{◌≡◌, ◌∙◌, ◌++◌, ◌∷◌, [], ℕ, List, Option, true, Ok, inl, inr, ap, sym, subst, refl, IsTrue, arith}
+use Rattle.std.specs.Prelude.{IfSome, codes}
+use Rattle.cube_io.specs.Causes.{Rose}
+use Rattle.cube_io.specs.Seen.{seen}
+use Rattle.cube_io.specs.Wires.{Plan}
+use Rattle.cube_opening.specs.Opening.{FileSays, GotBehind}
+use Rattle.cube_opening.specs.Ruling.{ruled_names}
+use Rattle.cube_opening.proofs.Behind.{asked_then, ends_behind}
+use Rattle.cube_script.specs.Playing.{Playing, has_torn}
+use Rattle.cube_serving.specs.Replaying.{script_said, wire_of, room_for_sends}
+use Rattle.cube_serving.proofs.OpenGroups.{only_sixteen, seal_left, served, unserved}
+use Rattle.cube_serving.proofs.Played.{whole, unfailed, writes, finished, no_wire_failed, ends_none, ends_whole, rose_from, same_room}
+use Rattle.cube_serving.proofs.Unruled as unruled
+use Rattle.cube_serving.proofs.Unstarted as unstarted
+use Rattle.cube_serving.proofs.commands.replay_grouped.Goals as goal
+
+pub returns-in-Err-clause-answers : goal.returns-in-Err-clause-answers
+returns-in-Err-clause-answers g c = inr (inl (inl (c.in-Err.ensures.err, refl), refl))
+
+pub returns-in-Err-clause-complete : goal.returns-in-Err-clause-complete
+returns-in-Err-clause-complete g c = λ all has kept some files store out. inr (unruled.all_accepted c.args.cube.now (seen g.F.Folder.state c.args.files.now c.open_ruled.new.files) c.in-Err.report c.in-Err.ensures.err all files)
+
+pub returns-clause-names : goal.returns-clause-names
+returns-clause-names g c = inr (λ told. inl (c.serve_groups-end.ensures.stored (subst IsTrue (sym c.in-Ok-open_groups.ensures.told) told) ∙ c.in-Ok-open_groups.ensures.names told))
+
+pub returns-clause-complete : goal.returns-clause-complete
+returns-clause-complete g c = λ all has kept some files store out.
+    let script = c.in-Ok-open_script.ensures.ok.1 in
+    let begun = c.in-Ok-open_script.played.value in
+    let wire = c.serve_groups-end.new.wire in
+    let end = c.serve_groups-end.result in
+    let plan = c.serve_groups-end.ensures.plays.plan in
+    let w = c.serve_groups-end.ensures.served c.in-Ok.opened.value.core c.in-Ok-open_groups.ensures.over in
+    let none = unfailed wire script.0 end c.taken-taken.ensures.playing (ap (λ (p : Plan). p.events) plan ∙ ap (λ (v : Playing). v.script) script.1) (ap (λ (p : Plan). p.refused) plan ∙ ap (λ (v : Playing). v.spilled) script.1)
+    (λ failed. rose_from begun.faults wire.faults (ap (λ (v : Playing). v.faults) script.1) (c.serve_groups-end.ensures.failed failed)) (ends_none end _ _ wire.log w.wired.ended) in
+    finished c.write_log-written.result (has_torn wire.log) end c.report_play.result _ _ c.report_play.ensures.put c.write_log-written.ensures.cause.failed out some none
+
+pub returns-clause-wire : goal.returns-clause-wire
+returns-clause-wire g c =
+    let script = c.in-Ok-open_script.ensures.ok.1 in
+    let begun = c.in-Ok-open_script.played.value in
+    let wire = c.serve_groups-end.new.wire in
+    let end = c.serve_groups-end.result in
+    let plan = c.serve_groups-end.ensures.plays.plan in
+    let w = c.serve_groups-end.ensures.served c.in-Ok.opened.value.core c.in-Ok-open_groups.ensures.over in
+    let none = unfailed wire script.0 end c.taken-taken.ensures.playing (ap (λ (p : Plan). p.events) plan ∙ ap (λ (v : Playing). v.script) script.1) (ap (λ (p : Plan). p.refused) plan ∙ ap (λ (v : Playing). v.spilled) script.1)
+    (λ failed. rose_from begun.faults wire.faults (ap (λ (v : Playing). v.faults) script.1) (c.serve_groups-end.ensures.failed failed)) (ends_none end _ _ wire.log w.wired.ended) in
+    no_wire_failed c.write_log-written.result (has_torn wire.log) end c.report_play.result _ _ c.report_play.ensures.put c.report_play.ensures.unput none
+
+pub returns-in-Err-open_script-clause-answers : goal.returns-in-Err-open_script-clause-answers
+returns-in-Err-open_script-clause-answers g c =
+    let x = c.in-Ok.ensures in
+    inl (
+      record {
+        core = c.in-Ok.opened.value.core;
+        listed = x.ok.0;
+        groups = c.in-Ok.opened.value.groups;
+        files_make = x.ok.1;
+        ends = ends_behind (ruled_names c.args.cube.now x.ok.0) script_said c.args.script_name.now g.F.Folder.state c.args.files.now c.open_ruled.new.files c.open_script.new.files c.in-Err-open_script.report x.ok.2.asked x.reads.files x.ok.2.steady c.in-Err-open_script.ensures.err;
+      },
+      refl,
+      refl,
+    )
+
+pub returns-in-Err-open_groups-clause-answers : goal.returns-in-Err-open_groups-clause-answers
+returns-in-Err-open_groups-clause-answers g c =
+    let ruled = c.in-Ok.opened.value in
+    let x = c.in-Ok.ensures in
+    let z = c.in-Ok-open_script.ensures in
+    inr (inl (
+      inr (record {
+        core = ruled.core;
+        listed = x.ok.0;
+        groups = ruled.groups;
+        facts = ruled.facts;
+        files_make = x.ok.1;
+        digest = x.digest;
+        behind = record { asked = asked_then (ruled_names c.args.cube.now x.ok.0) (c.args.script_name.now ∷ []) g.F.Folder.state c.args.files.now c.open_ruled.new.files c.open_script.new.files x.ok.2.asked z.asks; steady = z.reads.steady ∙ x.ok.2.steady };
+        unstarted = c.in-Err-open_groups.ensures.err;
+        passed = c.in-Err-open_groups.ensures.passed;
+        seals = c.in-Err-open_groups.ensures.seals;
+      }),
+      refl,
+    ))
+
+pub returns-in_default-clause-answers : goal.returns-in_default-clause-answers
+returns-in_default-clause-answers g c =
+    let cube = c.args.cube.now in
+    let ruled = c.in-Ok.opened.value in
+    let x = c.in-Ok.ensures in
+    let z = c.in-Ok-open_script.ensures in
+    let y = c.in-Ok-open_groups.ensures in
+    let e = c.close.ensures in
+    let files = seen g.F.Folder.state c.args.files.now c.open_script.new.files in
+    let behind : GotBehind (ruled_names cube x.ok.0 ++ c.args.script_name.now ∷ []) files = record { asked = asked_then (ruled_names cube x.ok.0) (c.args.script_name.now ∷ []) g.F.Folder.state c.args.files.now c.open_ruled.new.files c.open_script.new.files x.ok.2.asked z.asks; steady = z.reads.steady ∙ x.ok.2.steady } in
+    inr (inr (inl (
+      unserved cube (c.args.script_name.now ∷ []) files x.ok.0 ruled.core ruled.facts ruled.groups g.S.Store.state c.args.store.now c.open_groups.new.store c.in-Ok-open_groups.started.value.books x.ok.1 x.digest behind y.ok y.over y.rules y.agreed y.sealed y.seals y.passed,
+      (e.0, e.1, e.2 ∙ c.with.ensures ∙ ap (λ (t : List ℕ). t ++ codes "no memory\n") y.room),
+      refl,
+    )))
+
+pub returns-clause-answers : goal.returns-clause-answers
+returns-clause-answers g c =
+    let cube = c.args.cube.now in
+    let ruled = c.in-Ok.opened.value in
+    let f = c.in-Ok.ensures in
+    let s = c.in-Ok-open_script.ensures in
+    let y = c.in-Ok-open_groups.ensures in
+    let e = c.in-Ok-open_groups.started.value in
+    let last = c.serve_groups-end.new.groups in
+    let tells = g.S.Store.state in
+    let old = c.args.store.now in
+    let mid = c.open_groups.new.store in
+    let new = c.serve_groups-end.new.store in
+    let out = seen g.O.Sink.state c.args.out.now c.write_log-written.new.out in
+    let script = s.ok.1 in
+    let begun = c.in-Ok-open_script.played.value in
+    let wire = c.serve_groups-end.new.wire in
+    let end = c.serve_groups-end.result in
+    let z = c.serve_groups-end.ensures in
+    let w = z.served ruled.core y.over in
+    let plan = z.plays.plan in
+    let playing = c.taken-taken.ensures.playing in
+    let plays : wire.script ≡ (wire_of script.0).script = ap (λ (p : Plan). p.events) plan ∙ ap (λ (v : Playing). v.script) script.1 in
+    let files = seen g.F.Folder.state c.args.files.now c.open_script.new.files in
+    let behind : GotBehind (ruled_names cube f.ok.0 ++ c.args.script_name.now ∷ []) files = record { asked = asked_then (ruled_names cube f.ok.0) (c.args.script_name.now ∷ []) g.F.Folder.state c.args.files.now c.open_ruled.new.files c.open_script.new.files f.ok.2.asked s.asks; steady = s.reads.steady ∙ f.ok.2.steady } in
+    inr (inr (inr (record {
+      script = script.0;
+      wire = wire;
+      asking = w.asking;
+      stated_is = w.stated ∙ y.outcomes.1;
+      outcomes_are = c.report_play.ensures.outcomes ∙ c.finish.ensures ∙ sym w.outcomes;
+      end = end;
+      said = subst (λ (fs : Option (List (List ℕ × List ℕ))). IfSome fs (λ known. FileSays script_said c.args.script_name.now known (Ok script.0))) f.reads.files script.3;
+      plays = (plays, same_room wire.most room_for_sends (ap (λ (p : Plan). p.sends) plan ∙ ap (λ (v : Playing). v.most.sends) script.1) (ap (λ (p : Plan). p.bytes) plan ∙ ap (λ (v : Playing). v.most.bytes) script.1));
+      playing = playing;
+      served = served cube (c.args.script_name.now ∷ []) files f.ok.0 ruled.core ruled.facts ruled.groups tells old mid e.books f.ok.1 f.digest behind y.ok y.over y.rules y.agreed y.sealed y.seals new e last end
+          true true wire.log refl refl (seal_left ruled.core tells old mid new ruled.groups e.books f.rules.few y.ok y.told z.others) y.told y.steady y.passed w z.asks;
+      whole = λ u is. (
+          let some = ends_whole end u _ _ wire.log w.wired.ended is in
+          whole script.0 some.0 wire.log (playing.events).0 (sym plays ∙ (playing.events).1) script.2 some.1);
+      unfailed = unfailed wire script.0 end playing plays (ap (λ (p : Plan). p.refused) plan ∙ ap (λ (v : Playing). v.spilled) script.1)
+          (λ failed. rose_from begun.faults wire.faults (ap (λ (v : Playing). v.faults) script.1) (z.failed failed)) (ends_none end _ _ wire.log w.wired.ended);
+      writes = writes c.write_log-written.result end wire.log c.finish.result out c.report_play.result c.report_play.ensures.outcomes c.write_log-written.ensures.ok c.write_log-written.ensures.err c.report_play.ensures.put c.report_play.ensures.unput;
+    })))
+
+pub returns-clause-others : goal.returns-clause-others
+returns-clause-others g c =
+    let y = c.in-Ok-open_groups.ensures in
+    only_sixteen c.in-Ok.opened.value.core g.S.Store.state c.args.store.now c.open_groups.new.store c.serve_groups-end.new.store c.in-Ok.opened.value.groups c.in-Ok-open_groups.started.value.books c.in-Ok.ensures.rules.few y.ok y.told y.others c.serve_groups-end.ensures.others
+
+pub returns-in-Err-clause-unkept : goal.returns-in-Err-clause-unkept
+returns-in-Err-clause-unkept g c = λ nine. absurd (unruled.not_nine c.args.cube.now (seen g.F.Folder.state c.args.files.now c.open_ruled.new.files) c.in-Err.report c.in-Err.ensures.err nine)
+
+pub returns-in-Err-clause-names : goal.returns-in-Err-clause-names
+returns-in-Err-clause-names g c = inl refl
+
+pub returns-in-Err-clause-others : goal.returns-in-Err-clause-others
+returns-in-Err-clause-others g c = λ told k far seal. refl
+
+pub returns-in-Err-clause-calls : goal.returns-in-Err-clause-calls
+returns-in-Err-clause-calls g c = λ nine. absurd (unruled.not_nine c.args.cube.now (seen g.F.Folder.state c.args.files.now c.open_ruled.new.files) c.in-Err.report c.in-Err.ensures.err nine)
+
+pub returns-in-Err-clause-unreadable : goal.returns-in-Err-clause-unreadable
+returns-in-Err-clause-unreadable g c = λ five. unruled.unreadable c.args.cube.now (seen g.F.Folder.state c.args.files.now c.open_ruled.new.files) c.in-Err.report c.in-Err.ensures.err five
+
+pub returns-in-Err-clause-steady : goal.returns-in-Err-clause-steady
+returns-in-Err-clause-steady g c = λ no. c.in-Err.ensures.reads.steady_err no
+
+pub returns-in-Err-clause-words : goal.returns-in-Err-clause-words
+returns-in-Err-clause-words g c = λ two. unruled.not_two c.args.cube.now (seen g.F.Folder.state c.args.files.now c.open_ruled.new.files) c.in-Err.report c.in-Err.ensures.err two
+
+pub returns-in-Err-open_groups-clause-names : goal.returns-in-Err-open_groups-clause-names
+returns-in-Err-open_groups-clause-names g c = inr c.in-Err-open_groups.ensures.names_err
+
+pub returns-in-Err-open_groups-clause-others : goal.returns-in-Err-open_groups-clause-others
+returns-in-Err-open_groups-clause-others g c = λ told k far seal. c.in-Err-open_groups.ensures.others told k (omega (arith, far, c.in-Ok.ensures.rules.few)) seal
+
+pub returns-in-Err-open_groups-clause-unkept : goal.returns-in-Err-open_groups-clause-unkept
+returns-in-Err-open_groups-clause-unkept g c = λ nine. (unstarted.failed c.in-Ok.opened.value.core c.in-Ok.opened.value.groups c.in-Ok.opened.value.facts (seen g.S.Store.state c.args.store.now c.open_groups.new.store) c.in-Err-open_groups.report c.in-Err-open_groups.ensures.err nine, unstarted.unasked c.in-Ok.opened.value.core c.in-Ok.opened.value.groups c.in-Ok.opened.value.facts (seen g.S.Store.state c.args.store.now c.open_groups.new.store) c.in-Err-open_groups.report c.in-Err-open_groups.ensures.err)
+
+pub returns-in-Err-open_groups-clause-calls : goal.returns-in-Err-open_groups-clause-calls
+returns-in-Err-open_groups-clause-calls g c = λ nine told. omega (arith, c.in-Err-open_groups.ensures.calls told, c.in-Ok.ensures.rules.few)
+
+pub returns-in-Err-open_groups-clause-unreadable : goal.returns-in-Err-open_groups-clause-unreadable
+returns-in-Err-open_groups-clause-unreadable g c = λ five. absurd (unstarted.not_five c.in-Ok.opened.value.core c.in-Ok.opened.value.groups c.in-Ok.opened.value.facts (seen g.S.Store.state c.args.store.now c.open_groups.new.store) c.in-Err-open_groups.report c.in-Err-open_groups.ensures.err five)
+
+pub returns-in-Err-open_groups-clause-words : goal.returns-in-Err-open_groups-clause-words
+returns-in-Err-open_groups-clause-words g c = λ two. unstarted.not_two c.in-Ok.opened.value.core c.in-Ok.opened.value.groups c.in-Ok.opened.value.facts (seen g.S.Store.state c.args.store.now c.open_groups.new.store) c.in-Err-open_groups.report c.in-Err-open_groups.ensures.err two
+
+pub returns-in_default-clause-names : goal.returns-in_default-clause-names
+returns-in_default-clause-names g c = inr (λ told. inl (c.in-Ok-open_groups.ensures.names told))
+
+pub returns-in_default-clause-others : goal.returns-in_default-clause-others
+returns-in_default-clause-others g c = λ told k far seal. c.in-Ok-open_groups.ensures.others told k (omega (arith, far, c.in-Ok.ensures.rules.few)) seal
+
+pub returns-in_default-clause-unkept : goal.returns-in_default-clause-unkept
+returns-in_default-clause-unkept g c = λ nine. absurd (omega (arith, c.close.ensures.0, nine))
+
+pub returns-in_default-clause-calls : goal.returns-in_default-clause-calls
+returns-in_default-clause-calls g c = λ nine. absurd (omega (arith, c.close.ensures.0, nine))
+
+pub returns-in_default-clause-unreadable : goal.returns-in_default-clause-unreadable
+returns-in_default-clause-unreadable g c = λ five. absurd (omega (arith, c.close.ensures.0, five))
+
+pub returns-in_default-clause-words : goal.returns-in_default-clause-words
+returns-in_default-clause-words g c = λ two. omega (arith, c.close.ensures.0, two)
+
+pub returns-in-Err-clause-output : goal.returns-in-Err-clause-output
+returns-in-Err-clause-output g c = λ six. absurd (unruled.not_six c.args.cube.now (seen g.F.Folder.state c.args.files.now c.open_ruled.new.files) c.in-Err.report c.in-Err.ensures.err six)
+
+pub returns-in-Err-clause-output_steady : goal.returns-in-Err-clause-output_steady
+returns-in-Err-clause-output_steady g c = λ no. refl
+
+pub returns-in-Err-clause-memory : goal.returns-in-Err-clause-memory
+returns-in-Err-clause-memory g c = λ seven. (unruled.unasked c.args.cube.now (seen g.F.Folder.state c.args.files.now c.open_ruled.new.files) c.in-Err.report c.in-Err.ensures.err, refl)
+
+pub returns-in-Err-clause-wire : goal.returns-in-Err-clause-wire
+returns-in-Err-clause-wire g c = λ eight. unruled.not_eight c.args.cube.now (seen g.F.Folder.state c.args.files.now c.open_ruled.new.files) c.in-Err.report c.in-Err.ensures.err eight
+
+pub returns-in-Err-open_groups-clause-output : goal.returns-in-Err-open_groups-clause-output
+returns-in-Err-open_groups-clause-output g c = λ six. absurd (unstarted.not_six c.in-Ok.opened.value.core c.in-Ok.opened.value.groups c.in-Ok.opened.value.facts (seen g.S.Store.state c.args.store.now c.open_groups.new.store) c.in-Err-open_groups.report c.in-Err-open_groups.ensures.err six)
+
+pub returns-in-Err-open_groups-clause-output_steady : goal.returns-in-Err-open_groups-clause-output_steady
+returns-in-Err-open_groups-clause-output_steady g c = λ no. refl
+
+pub returns-in-Err-open_groups-clause-steady : goal.returns-in-Err-open_groups-clause-steady
+returns-in-Err-open_groups-clause-steady g c = λ no. c.in-Ok-open_script.ensures.reads.steady ∙ c.in-Ok.ensures.reads.steady
+
+pub returns-in-Err-open_groups-clause-memory : goal.returns-in-Err-open_groups-clause-memory
+returns-in-Err-open_groups-clause-memory g c = λ seven. (unstarted.unasked c.in-Ok.opened.value.core c.in-Ok.opened.value.groups c.in-Ok.opened.value.facts (seen g.S.Store.state c.args.store.now c.open_groups.new.store) c.in-Err-open_groups.report c.in-Err-open_groups.ensures.err, refl)
+
+pub returns-in-Err-open_groups-clause-wire : goal.returns-in-Err-open_groups-clause-wire
+returns-in-Err-open_groups-clause-wire g c = λ eight. unstarted.not_eight c.in-Ok.opened.value.core c.in-Ok.opened.value.groups c.in-Ok.opened.value.facts (seen g.S.Store.state c.args.store.now c.open_groups.new.store) c.in-Err-open_groups.report c.in-Err-open_groups.ensures.err eight
+
+pub returns-in-Err-open_groups-clause-complete : goal.returns-in-Err-open_groups-clause-complete
+returns-in-Err-open_groups-clause-complete g c = λ all has kept some files store out.
+    let x = c.in-Ok.ensures in
+    inr (unstarted.accepted c.in-Ok.opened.value.core c.in-Ok.opened.value.groups c.in-Ok.opened.value.facts (seen g.S.Store.state c.args.store.now c.open_groups.new.store) c.in-Err-open_groups.report kept.told (kept.recover c.in-Ok.opened.value.core x.ok.0 c.in-Ok.opened.value.groups x.ok.1) (kept.agrees c.in-Ok.opened.value.facts x.digest) (store (unstarted.unasked c.in-Ok.opened.value.core c.in-Ok.opened.value.groups c.in-Ok.opened.value.facts (seen g.S.Store.state c.args.store.now c.open_groups.new.store) c.in-Err-open_groups.report c.in-Err-open_groups.ensures.err)) c.in-Err-open_groups.ensures.err)
+
+pub returns-in_default-clause-output : goal.returns-in_default-clause-output
+returns-in_default-clause-output g c = λ six. absurd (omega (arith, c.close.ensures.0, six))
+
+pub returns-in_default-clause-output_steady : goal.returns-in_default-clause-output_steady
+returns-in_default-clause-output_steady g c = λ no. refl
+
+pub returns-in_default-clause-steady : goal.returns-in_default-clause-steady
+returns-in_default-clause-steady g c = λ no. c.in-Ok-open_script.ensures.reads.steady ∙ c.in-Ok.ensures.reads.steady
+
+pub returns-in_default-clause-memory : goal.returns-in_default-clause-memory
+returns-in_default-clause-memory g c = λ seven. (c.close.ensures.1, refl)
+
+pub returns-in_default-clause-wire : goal.returns-in_default-clause-wire
+returns-in_default-clause-wire g c = λ eight. omega (arith, c.close.ensures.0, eight)
+
+pub returns-in_default-clause-complete : goal.returns-in_default-clause-complete
+returns-in_default-clause-complete g c = λ all has kept some files store out. inr c.close.ensures.0
+
+pub returns-in-Err-open_script-clause-names : goal.returns-in-Err-open_script-clause-names
+returns-in-Err-open_script-clause-names g c = inl refl
+
+pub returns-in-Err-open_script-clause-others : goal.returns-in-Err-open_script-clause-others
+returns-in-Err-open_script-clause-others g c = λ told k far seal. refl
+
+pub returns-in-Err-open_script-clause-unkept : goal.returns-in-Err-open_script-clause-unkept
+returns-in-Err-open_script-clause-unkept g c = λ nine. absurd (unruled.other c.in-Err-open_script.report.status 9 (λ k. omega (arith, k)) (λ k. omega (arith, k)) (λ k. omega (arith, k)) (unruled.one_status script_said c.args.script_name.now (seen g.F.Folder.state c.open_ruled.new.files c.open_script.new.files) c.in-Err-open_script.report c.in-Err-open_script.ensures.err.unopened) nine)
+
+pub returns-in-Err-open_script-clause-calls : goal.returns-in-Err-open_script-clause-calls
+returns-in-Err-open_script-clause-calls g c = λ nine. absurd (unruled.other c.in-Err-open_script.report.status 9 (λ k. omega (arith, k)) (λ k. omega (arith, k)) (λ k. omega (arith, k)) (unruled.one_status script_said c.args.script_name.now (seen g.F.Folder.state c.open_ruled.new.files c.open_script.new.files) c.in-Err-open_script.report c.in-Err-open_script.ensures.err.unopened) nine)
+
+pub returns-in-Err-open_script-clause-unreadable : goal.returns-in-Err-open_script-clause-unreadable
+returns-in-Err-open_script-clause-unreadable g c = λ five. subst (λ (n : ℕ). Rose n (g.F.Folder.state c.open_script.new.files).faults) c.in-Ok.ensures.reads.steady (unruled.one_unreadable script_said c.args.script_name.now (seen g.F.Folder.state c.open_ruled.new.files c.open_script.new.files) c.in-Err-open_script.report c.in-Err-open_script.ensures.err.unopened five)
+
+pub returns-in-Err-open_script-clause-output : goal.returns-in-Err-open_script-clause-output
+returns-in-Err-open_script-clause-output g c = λ six. absurd (unruled.other c.in-Err-open_script.report.status 6 (λ k. omega (arith, k)) (λ k. omega (arith, k)) (λ k. omega (arith, k)) (unruled.one_status script_said c.args.script_name.now (seen g.F.Folder.state c.open_ruled.new.files c.open_script.new.files) c.in-Err-open_script.report c.in-Err-open_script.ensures.err.unopened) six)
+
+pub returns-in-Err-open_script-clause-output_steady : goal.returns-in-Err-open_script-clause-output_steady
+returns-in-Err-open_script-clause-output_steady g c = λ no. refl
+
+pub returns-in-Err-open_script-clause-steady : goal.returns-in-Err-open_script-clause-steady
+returns-in-Err-open_script-clause-steady g c = λ no. c.in-Err-open_script.ensures.reads.steady_err no ∙ c.in-Ok.ensures.reads.steady
+
+pub returns-in-Err-open_script-clause-memory : goal.returns-in-Err-open_script-clause-memory
+returns-in-Err-open_script-clause-memory g c = λ seven. (unruled.one_unasked script_said c.args.script_name.now (seen g.F.Folder.state c.open_ruled.new.files c.open_script.new.files) c.in-Err-open_script.report c.in-Err-open_script.ensures.err.unopened, refl)
+
+pub returns-in-Err-open_script-clause-wire : goal.returns-in-Err-open_script-clause-wire
+returns-in-Err-open_script-clause-wire g c = λ eight. unruled.other c.in-Err-open_script.report.status 8 (λ k. omega (arith, k)) (λ k. omega (arith, k)) (λ k. omega (arith, k)) (unruled.one_status script_said c.args.script_name.now (seen g.F.Folder.state c.open_ruled.new.files c.open_script.new.files) c.in-Err-open_script.report c.in-Err-open_script.ensures.err.unopened) eight
+
+pub returns-in-Err-open_script-clause-words : goal.returns-in-Err-open_script-clause-words
+returns-in-Err-open_script-clause-words g c = λ two. unruled.other c.in-Err-open_script.report.status 2 (λ k. omega (arith, k)) (λ k. omega (arith, k)) (λ k. omega (arith, k)) (unruled.one_status script_said c.args.script_name.now (seen g.F.Folder.state c.open_ruled.new.files c.open_script.new.files) c.in-Err-open_script.report c.in-Err-open_script.ensures.err.unopened) two
