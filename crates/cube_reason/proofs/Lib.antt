@@ -12,3 +12,8 @@ pub mod Named
 pub mod Refusals
 pub mod Few
 pub mod Together
+pub mod Feeds
+pub mod Placed
+pub mod Lines
+pub mod Following
+pub mod Only

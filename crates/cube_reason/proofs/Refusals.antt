@@ -38,7 +38,8 @@ use Rattle.cube_model.proofs.Walks.{any_from}
 use Rattle.cube_source.specs.Blocks.{bare}
 use Rattle.cube_reason.specs.Found.{HasWalk, HasBlocks, Refuses, WouldSource, Fixes, IsAbout}
 use Rattle.cube_reason.specs.Given.{AreAllowed}
-use Rattle.cube_reason.specs.ReasonText.{IsNamed, EndsThere}
+use Rattle.cube_answers.specs.VerdictText.{CellFits}
+use Rattle.cube_reason.specs.ReasonText.{EndsThere}
 use Rattle.cube_reason.specs.Views.{origin_view, steps_view, end_view}
 use Rattle.cube_reason.specs.declared.reasons.End.{End}
 use Rattle.cube_reason.specs.declared.reasons.Reason.TheVariants as ofProgram
@@ -81,8 +82,8 @@ all_in P [] h k d l = absurd (omega (arith, l))
 all_in P (x ∷ xs) h zero d l = h x (inl refl)
 all_in P (x ∷ xs) h (suc k) d l = all_in P xs (λ y i. h y (inr i)) k d (omega (arith, l))
 
-pub blocks_told : (c : Core) (ls : List ℕ) (t : Cell) (blocks : List Cell) → IsCore c → are_levels (plains c.dims) ls ≡ true → blocks ≡ blocks_of (bare c) ls t → All (IsNamed c.dims) blocks
-blocks_told c ls t blocks ok e is = subst (All (IsNamed c.dims)) (sym is) (all_in (IsNamed c.dims) (blocks_of (bare c) ls t) (λ b k.
+pub blocks_told : (c : Core) (ls : List ℕ) (t : Cell) (blocks : List Cell) → IsCore c → are_levels (plains c.dims) ls ≡ true → blocks ≡ blocks_of (bare c) ls t → All (CellFits c.dims) blocks
+blocks_told c ls t blocks ok e is = subst (All (CellFits c.dims)) (sym is) (all_in (CellFits c.dims) (blocks_of (bare c) ls t) (λ b k.
     let a = IsIn-map (λ (key : List ℕ). record { levels = ls; key = key }) b (in_order (map (key_at (bare c) ls) (covered (bare c) t))) k in
     let i = IsIn-map (key_at (bare c) ls) a.0 (covered (bare c) t) (IsIn-in_order a.0 (map (key_at (bare c) ls) (covered (bare c) t)) a.1) in
     let p = IsIn-filter (covers (bare c) t) i.0 (places (bare c)) i.1 in

@@ -1,13 +1,12 @@
 -- A walk that is found is a walk.
 use Rattle.std.specs.List.{list_any}
-use Rattle.std.proofs.Common.{◌≡◌, ℕ, zero, suc, ◌^◌, ◌<◌, ◌≤◌, ◌⊎◌, inl, inr, true, ◌&&◌, List, [], length, get_or, Option, Some, None, refl, sym, ap, ◌∙◌, subst, arith, eqb, ⊎_elim}
+use Rattle.std.proofs.Common.{◌≡◌, ℕ, zero, suc, ◌<◌, ◌≤◌, ◌⊎◌, inl, inr, true, ◌&&◌, List, [], length, get_or, Option, Some, None, refl, sym, ap, ◌∙◌, subst, arith, eqb, ⊎_elim}
 use Rattle.std.proofs.lemmas.Bool.{false≢true, and_parts, and_from, or_cases, eq-eqb, eqb-true}
 use Rattle.cube_model.specs.declared.entry.Entry.{Entry}
 use Rattle.cube_model.specs.declared.link.Link.{Link}
 use Rattle.cube_model.specs.declared.link.Link.TheVariants.{Pair, Single}
 use Rattle.cube_model.specs.declared.request.Request.{Request}
 use Rattle.cube_model.specs.Cubes.{Public, IsIn}
-use Rattle.cube_model.specs.Links.{links}
 use Rattle.cube_model.specs.LinkLaws.{IsOfPlaces}
 use Rattle.cube_model.specs.Protection.{listed, guarded}
 use Rattle.cube_model.specs.Reasons.{joins, is_at, are_steps, led_to, is_odd, is_end, is_walk, links_by}
@@ -17,23 +16,15 @@ use Rattle.cube_model.proofs.Walks.{any_has, listed_from}
 use Rattle.cube_reason.specs.Found.{AreSingles, EndsAt, HasWalk, CanWalk, WalksTo}
 use Rattle.cube_reason.specs.Searched.{visit_at, AreWithin, HasSearched}
 use Rattle.cube_reason.specs.Tied.{tied, bringer_view, led_by, AreTies, OfPlaces, AreJoints}
-use Rattle.cube_reason.specs.Trails.{IsFew}
 use Rattle.cube_reason.specs.Views.{origin_view, steps_view, end_view}
 use Rattle.cube_reason.specs.declared.joints.Joint.{Joint}
 use Rattle.cube_reason.specs.declared.reasons.End.{End}
 use Rattle.cube_reason.specs.declared.reasons.WalkStep.{WalkStep}
 use Rattle.cube_reason.specs.declared.searching.Visit.{Visit}
 use Rattle.cube_reason.specs.declared.ties.Bringer.{Bringer}
-use Rattle.cube_reason.specs.declared.ties.Bringer.TheVariants as bringers
 use Rattle.cube_reason.specs.declared.ties.Tie.{Tie}
-use Rattle.cube_reason.proofs.Numbers.{brought, own_at, within}
 use Rattle.cube_reason.proofs.Reaching.{all_joined, some_last}
 use Rattle.cube_reason.proofs.Steps.{led_from, beyond}
-
--- a number that names a link is small
-few_of : (g : Public) (h : List Entry) (r : Request) (m : ℕ) → length h < 2 ^ 32 → length (links g r) < 2 ^ 32 → (b : Bringer) (l : Link) → IsIn l (links_by g h r m (bringer_view b)) → IsFew b
-few_of g h r m a o (bringers.Entry n) l k = let b = brought g h m n l k in let w = within h n b.entry b.at in omega (arith, a, w)
-few_of g h r m a o (bringers.Own n) l k = let w = within (links g r) n l (own_at (links g r) n l k).at in omega (arith, o, w)
 
 places_of : (n a c : ℕ) (l : Link) → joins a c l ≡ true → IsOfPlaces n l → (a < n) × (c < n)
 places_of n a c (Single i) e p = absurd (false≢true e)
@@ -43,7 +34,7 @@ places_of n a c (Pair i j) e p = ⊎_elim
     (or_cases (eqb i a && eqb j c) (eqb i c && eqb j a) e)
 
 -- the tie that a joint comes from
-record OfTie (ties : List Tie) (a : ℕ) (x : Joint) : Type 0 where
+pub record OfTie (ties : List Tie) (a : ℕ) (x : Joint) : Type 0 where
   pub tie : Tie
   pub among : IsIn tie ties
   pub pair : joins a x.to tie.link ≡ true
@@ -64,25 +55,21 @@ module _ (n : ℕ) (ties : List Tie) (joints : List (List Joint)) (of_ties : OfP
       either zero (suc n) = inr (omega arith)
       either (suc a) (suc n) = ⊎_elim (λ e. inl (omega (arith, e))) (λ e. inr (omega (arith, e))) (either a n)
 
+  pub joint_tie : (a : ℕ) (x : Joint) → IsIn x (get_or joints a []) → OfTie ties a x
+  joint_tie a x k = of_tie a x k
+
   pub joints_within : AreWithin joints
   joints_within a x k = let t = of_tie a x k in let p = places_of n a x.to t.tie.link t.pair (of_ties t.tie t.among) in let long = joint.long in let b = p.1 in omega (arith, long, b)
 
-module _ (g : Public) (h : List Entry) (r : Request) (m place : ℕ) (ties : List Tie) (joints : List (List Joint)) (visits : List Visit) (singles : List (Option Bringer)) (few : length h < 2 ^ 32) (few_own : length (links g r) < 2 ^ 32)
+module _ (g : Public) (h : List Entry) (r : Request) (m place : ℕ) (ties : List Tie) (joints : List (List Joint)) (visits : List Visit) (singles : List (Option Bringer))
     (are : AreTies (links_by g h r m) ties) (of_ties : OfPlaces (length g.shape.points) ties) (joint : AreJoints (length g.shape.points) ties joints) (alone : AreSingles (length g.shape.points) ties singles) (s : HasSearched joints place visits) where
-  tie_few : (t : Tie) → IsIn t ties → IsFew t.by
-  tie_few t k = few_of g h r m few few_own t.by t.link (are.sound t k)
-
   visit_below : (k : ℕ) → k < length visits → (visit_at visits k).place < length g.shape.points
   visit_below k l = let a = s.there k l in let long = joint.long in omega (arith, a, long)
 
   pub can_walk : HasWalk g h r m place → CanWalk visits singles place
   can_walk w = record {
     below = λ k l. let a = visit_below k l in let long = alone.long in omega (arith, a, long);
-    back = λ k some l. (
-        let c = s.trail k some l in
-        let t = of_tie (length g.shape.points) ties joints of_ties joint (visit_at visits (visit_at visits k).back).place (record { to = (visit_at visits k).place; by = (visit_at visits k).by }) c.joint in
-        record { before = c.before; few = subst IsFew (sym t.by) (tie_few t.tie t.among) });
-    few = λ k l b e. tie_few (tied (Single (visit_at visits k).place) b) (alone.sound (visit_at visits k).place b (visit_below k l) e);
+    back = λ k some l. (s.trail k some l).before;
     some = λ never. (
         let p = and_parts (listed place (guarded g m) && are_steps (links_by g h r m) place w.steps) (is_end (links_by g h r m) place w.steps w.end) w.is in
         let q = and_parts (listed place (guarded g m)) (are_steps (links_by g h r m) place w.steps) p.0 in

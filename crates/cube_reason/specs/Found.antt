@@ -19,7 +19,7 @@ use Rattle.cube_reason.specs.declared.ties.Bringer.{Bringer}
 use Rattle.cube_reason.specs.declared.ties.Tie.{Tie}
 use Rattle.cube_reason.specs.Tied.{tied, bringer_view}
 use Rattle.cube_reason.specs.Searched.{visit_at}
-use Rattle.cube_reason.specs.Trails.{IsFew, AreBack, AreJoined, LeadsTo}
+use Rattle.cube_reason.specs.Trails.{AreBack, AreJoined, LeadsTo}
 use Rattle.cube_reason.specs.declared.reasons.WalkStep.{WalkStep}
 use Rattle.cube_reason.specs.Views.{origin_view}
 use Rattle.cube_reason.specs.declared.reasons.End.{End}
@@ -41,10 +41,6 @@ pub record AreSingles (n : ℕ) (ties : List Tie) (singles : List (Option Bringe
 -- a walk to the visit ends there
 abbrev pub is_last : ℕ → List (Option Bringer) → Visit → Bool
 is_last start singles v = (v.odd && v.place == start) || is_some (slice_index_or singles v.place None)
-
--- a reason can name where the place alone comes from
-abbrev pub AreFewAt : List (Option Bringer) → ℕ → Type 0
-AreFewAt singles a = (b : Bringer) → slice_index_or singles a None ≡ Some b → IsFew b
 
 -- an end at a place alone
 pub record EndsAlone (singles : List (Option Bringer)) (v : Visit) (e : End) : Type 0 where
@@ -108,7 +104,6 @@ Fixes (verdicts.Single k i t) p = t ≡ p
 pub record CanWalk (visits : List Visit) (singles : List (Option Bringer)) (start : ℕ) : Type 0 where
   pub below : (k : ℕ) → k < length visits → (visit_at visits k).place < length singles
   pub back : AreBack visits
-  pub few : (k : ℕ) → k < length visits → AreFewAt singles (visit_at visits k).place
   pub some : ((k : ℕ) → k < length visits → is_last start singles (visit_at visits k) ≡ false) → ⊥
 
 -- the steps lead to a visit where the walk ends

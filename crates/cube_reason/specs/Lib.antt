@@ -7,4 +7,6 @@ pub mod Searched
 pub mod Trails
 pub mod Found
 pub mod ReasonText
+pub mod Read
+pub mod Showing
 pub mod Examples

@@ -1,29 +1,18 @@
 -- The steps that led a search to a visit.
 use Rattle.std.specs.List.{list_any}
-use Rattle.std.specs.Prelude.{◌≡◌, ℕ, ◌^◌, ◌<◌, true, false, not, List, length}
+use Rattle.std.specs.Prelude.{◌≡◌, ℕ, ◌<◌, true, false, not, List, length}
 use Rattle.cube_model.specs.declared.link.Link.{Link}
 use Rattle.cube_model.specs.Reasons as said
 use Rattle.cube_model.specs.Reasons.{joins, are_steps, led_to, is_odd}
 use Rattle.cube_reason.specs.declared.reasons.WalkStep.{WalkStep}
 use Rattle.cube_reason.specs.declared.searching.Visit.{Visit}
-use Rattle.cube_reason.specs.declared.ties.Bringer.{Bringer}
-use Rattle.cube_reason.specs.declared.ties.Bringer.TheVariants.{Entry, Own}
 use Rattle.cube_reason.specs.Searched.{visit_at}
 use Rattle.cube_reason.specs.Tied.{bringer_view}
 use Rattle.cube_reason.specs.Views.{steps_view}
 
--- a reason can name the number
-abbrev pub IsFew : Bringer → Type 0
-IsFew (Entry n) = n < 2 ^ 32
-IsFew (Own k) = k < 2 ^ 32
-
--- a visit but the first has one before it, and comes from where a reason can name
-pub record IsBack (visits : List Visit) (k : ℕ) : Type 0 where
-  pub before : (visit_at visits k).back < k
-  pub few : IsFew (visit_at visits k).by
-
+-- a visit but the first has one before it
 abbrev pub AreBack : List Visit → Type 0
-AreBack visits = (k : ℕ) → 0 < k → k < length visits → IsBack visits k
+AreBack visits = (k : ℕ) → 0 < k → k < length visits → (visit_at visits k).back < k
 
 -- a pair that the origin names leads to the visit, at one step more
 pub record IsJoined (named : said.Origin → List Link) (visits : List Visit) (k : ℕ) : Type 0 where

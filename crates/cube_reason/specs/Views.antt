@@ -9,10 +9,16 @@ use Rattle.cube_reason.specs.declared.reasons.Origin.TheVariants.{Entry, Own}
 use Rattle.cube_reason.specs.declared.reasons.Reason.{Reason}
 use Rattle.cube_reason.specs.declared.reasons.Reason.TheVariants.{Blocks, Walk}
 use Rattle.cube_reason.specs.declared.reasons.WalkStep.{WalkStep}
+use Rattle.cube_reason.specs.declared.ties.Bringer.{Bringer}
+use Rattle.cube_reason.specs.declared.ties.Bringer.TheVariants as bringers
 
 abbrev pub origin_view : Origin → said.Origin
 origin_view (Entry n) = By n
 origin_view (Own k) = OwnLink k
+
+abbrev pub origin_by : Bringer → Origin
+origin_by (bringers.Entry n) = Entry n
+origin_by (bringers.Own k) = Own k
 
 abbrev pub step_view : WalkStep → said.WalkStep
 step_view s = record { from = s.from; to = s.to; by = origin_view s.by }

@@ -1,7 +1,7 @@
 // A walk that shows why a place is fixed.
 ghost use Rattle.std.specs.Prelude.{◌≡◌, ◌<◌, ℕ, true, false, length, replicate, None, IfOk, IfSome};
 ghost use Rattle.cube_model.specs.LinkLaws.{IsOfPlaces};
-ghost use Rattle.cube_reason.specs.Found.{AreSingles, AreFewAt, EndsAt, set_single, is_last};
+ghost use Rattle.cube_reason.specs.Found.{AreSingles, EndsAt, set_single, is_last};
 ghost use Rattle.cube_reason.specs.Searched.{visit_at};
 ghost use Rattle.cube_reason.specs.Tied.{OfPlaces};
 
@@ -72,7 +72,6 @@ pub(crate) fn first_end(visits: &[Visit], start: u32, singles: &[Option<Bringer>
 pub(crate) fn end_at(visit: Visit, start: u32, singles: &[Option<Bringer>]) -> Option<End>
     requires place { visit.place < length singles.now }
     requires last { is_last start singles.now visit ≡ true }
-    requires few { AreFewAt singles.now visit.place }
     ensures { EndsAt start singles.now visit result }
 {
     if visit.odd && visit.place == start {

@@ -1,5 +1,5 @@
 // The reason for a refusal.
-ghost use Rattle.std.specs.Prelude.{◌≡◌, ◌<◌, ◌^◌, true, length, IfOk};
+ghost use Rattle.std.specs.Prelude.{◌≡◌, ◌<◌, true, length, IfOk};
 ghost use Rattle.std.specs.List.{All};
 ghost use Rattle.cube_model.specs.declared.request.What.TheVariants as what;
 ghost use Rattle.cube_model.specs.Cores.{shown};
@@ -9,7 +9,8 @@ ghost use Rattle.cube_model.specs.Requests.{grain, is_valid};
 ghost use Rattle.cube_model.specs.Verdicts.{narrowed, source, verdict as verdict_of, IsAdmissible};
 ghost use Rattle.cube_reason.specs.Found.{HasBlocks, WouldSource, Fixes, Refuses, IsAbout};
 ghost use Rattle.cube_reason.specs.Given.{AreAllowed};
-ghost use Rattle.cube_reason.specs.ReasonText.{IsNamed, CanBeTold};
+ghost use Rattle.cube_answers.specs.VerdictText.{CellFits};
+ghost use Rattle.cube_reason.specs.ReasonText.{CanBeTold};
 ghost use Rattle.cube_reason.specs.Views.{reason_view};
 
 use crate::Reason;
@@ -45,7 +46,7 @@ fn find_blocks(
     requires valid { is_valid (shown core.now policy.now) request.now ≡ true }
     requires blocks { HasBlocks (shown core.now policy.now) history.now request.now measure cell.now }
     ensures blocks { IfOk result (λ blocks. said.are_blocks (shown core.now policy.now) measure (narrowed (source history.now measure) (grain request.now)) cell.now blocks ≡ true) }
-    ensures told { IfOk result (All (IsNamed core.now.dims)) }
+    ensures told { IfOk result (All (CellFits core.now.dims)) }
 {
     let _rules = core.dims();
     let levels = next_source(alloc, core, policy, history, request, measure)?;
@@ -92,7 +93,6 @@ fn reason_by_walk(
 ) -> Result<Reason, NoMemory>
     requires policy { IsPolicy core.now.dims policy.now }
     requires admissible { IsAdmissible (shown core.now policy.now) history.now }
-    requires few { length history.now < 2 ^ 32 }
     requires valid { is_valid (shown core.now policy.now) request.now ≡ true }
     requires what { request.now.what ≡ what.Measure measure }
     requires verdict { verdict.now ≡ verdict_of (shown core.now policy.now) history.now request.now }
@@ -118,7 +118,6 @@ fn reason_on(
 ) -> Result<Reason, NoMemory>
     requires policy { IsPolicy core.now.dims policy.now }
     requires admissible { IsAdmissible (shown core.now policy.now) history.now }
-    requires few { length history.now < 2 ^ 32 }
     requires valid { is_valid (shown core.now policy.now) request.now ≡ true }
     requires what { request.now.what ≡ what.Measure measure }
     requires verdict { verdict.now ≡ verdict_of (shown core.now policy.now) history.now request.now }
@@ -155,7 +154,6 @@ pub fn reason(
 ) -> Result<Reason, NoMemory>
     requires policy { IsPolicy core.now.dims policy.now }
     requires admissible { IsAdmissible (shown core.now policy.now) history.now }
-    requires few { length history.now < 2 ^ 32 }
     requires valid { is_valid (shown core.now policy.now) request.now ≡ true }
     requires verdict { verdict.now ≡ verdict_of (shown core.now policy.now) history.now request.now }
     requires refuses { Refuses verdict.now }

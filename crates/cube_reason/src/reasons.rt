@@ -5,9 +5,9 @@ use cube_model::{Cell, Cells, Items};
 #[derive(Clone, Copy, Debug, PartialEq, Eq)]
 pub enum Origin {
     /// The entry of the history with this number.
-    Entry(u32),
+    Entry(u64),
     /// The request's own link with this number.
-    Own(u32),
+    Own(u64),
 }
 
 /// A step from a place to another, along a pair of the two.

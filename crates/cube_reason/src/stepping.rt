@@ -16,10 +16,10 @@ fn is_from(bringer: Bringer, origin: Origin) -> bool
     ensures { result ≡ stepped.is_from bringer origin }
 {
     match (bringer, origin) {
-        (Bringer::Entry(number), Origin::Entry(named)) => number == u64::from(named),
+        (Bringer::Entry(number), Origin::Entry(named)) => number == named,
         (Bringer::Entry(_), Origin::Own(_)) => false,
         (Bringer::Own(_), Origin::Entry(_)) => false,
-        (Bringer::Own(number), Origin::Own(named)) => number == u64::from(named),
+        (Bringer::Own(number), Origin::Own(named)) => number == named,
     }
 }
 
@@ -69,7 +69,7 @@ pub(crate) fn led(joints: &[Items<Joint>], from: u32, steps: &[WalkStep]) -> Opt
 }
 
 /// Whether a link is the place alone.
-fn is_at(link: Link, place: u32) -> bool
+pub(crate) fn is_at(link: Link, place: u32) -> bool
     ensures { result ≡ said.is_at place link }
 {
     match link {

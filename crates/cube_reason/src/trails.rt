@@ -1,11 +1,11 @@
 // The steps that led a search to a visit.
-ghost use Rattle.std.specs.Prelude.{◌≡◌, ◌<◌, ◌^◌, ℕ, List, length, reverse, IfOk};
+ghost use Rattle.std.specs.Prelude.{◌≡◌, ◌<◌, ℕ, List, length, reverse, IfOk};
 ghost use Rattle.cube_model.specs.declared.link.Link.{Link};
 ghost use Rattle.cube_model.specs.Reasons as said;
 ghost use Rattle.cube_reason.specs.Searched.{visit_at};
 ghost use Rattle.cube_reason.specs.Tied.{bringer_view};
-ghost use Rattle.cube_reason.specs.Trails.{IsFew, AreBack, AreJoined, LeadsTo};
-ghost use Rattle.cube_reason.specs.Views.{origin_view};
+ghost use Rattle.cube_reason.specs.Trails.{AreBack, AreJoined, LeadsTo};
+ghost use Rattle.cube_reason.specs.Views.{origin_by, origin_view};
 
 use crate::searching::{Visit, visit_with};
 use crate::ties::Bringer;
@@ -15,18 +15,17 @@ use std::alloc::{AllocError, Global};
 
 /// Where a link comes from, as a reason names it.
 pub(crate) fn origin(by: Bringer) -> Origin
-    requires { IsFew by }
-    ensures { origin_view result ≡ bringer_view by }
+    ensures is { result ≡ origin_by by }
+    ensures view { origin_view result ≡ bringer_view by }
 {
     match by {
-        Bringer::Entry(number) => Origin::Entry(number as u32),
-        Bringer::Own(number) => Origin::Own(number as u32),
+        Bringer::Entry(number) => Origin::Entry(number),
+        Bringer::Own(number) => Origin::Own(number),
     }
 }
 
 /// The step that led to a visit.
 fn step(from: Visit, to: Visit) -> WalkStep
-    requires { IsFew to.by }
     ensures from { result.from ≡ from.place }
     ensures to { result.to ≡ to.place }
     ensures by { origin_view result.by ≡ bringer_view to.by }

@@ -1,5 +1,5 @@
 // A walk that shows why a place is fixed.
-ghost use Rattle.std.specs.Prelude.{◌≡◌, ◌<◌, ◌^◌, true, length, IfOk};
+ghost use Rattle.std.specs.Prelude.{◌≡◌, true, IfOk};
 ghost use Rattle.cube_model.specs.Cores.{shown};
 ghost use Rattle.cube_model.specs.Reasons as said;
 ghost use Rattle.cube_model.specs.Requests.{is_valid};
@@ -50,7 +50,6 @@ pub(crate) fn find_walk(
     place: u32,
 ) -> Result<(StepList, Option<End>), NoMemory>
     requires allowed { AreAllowed (shown core.now policy.now) history.now }
-    requires few { length history.now < 2 ^ 32 }
     requires valid { is_valid (shown core.now policy.now) request.now ≡ true }
     requires walk { HasWalk (shown core.now policy.now) history.now request.now measure place }
     ensures { IfOk result (λ found. said.is_walk (shown core.now policy.now) history.now request.now measure place (steps_view found.0) (end_view found.1) ≡ true) }

@@ -9,7 +9,7 @@ use Rattle.cube_reason.proofs.trails.steps_to.Goals as goal
 pub loop-at-preserved : goal.loop-at-preserved
 loop-at-preserved c =
     let below = c.loop-at.invariant.below in
-    let before = (c.requires.back c.loop-at.at c.loop-at-test.true c.loop-at.invariant.below).before in
+    let before = c.requires.back c.loop-at.at c.loop-at-test.true c.loop-at.invariant.below in
     record {
       below = subst (λ (v : Visit). v.back < length c.args.visits.now) (sym c.visit_with-to.ensures) (omega (arith, before, below));
       leads = λ named joined. subst (λ (v : Visit). Leads named c.args.visits.now v.back c.args.number (reverse c.push.new.self.items)) (sym c.visit_with-to.ensures)

@@ -1,8 +1,7 @@
-use Rattle.std.proofs.Common.{◌≡◌, ◌^◌, ◌<◌, true, List, length, Option, sym, subst, arith}
+use Rattle.std.proofs.Common.{◌≡◌, true, List, length, Option, sym, subst}
 use Rattle.std.proofs.lemmas.Result.{IfOk-weaker}
 use Rattle.cube_model.specs.Cores.{shown}
 use Rattle.cube_model.specs.Cubes.{IsIn}
-use Rattle.cube_model.specs.Links.{links}
 use Rattle.cube_model.specs.LinkLaws.{IsOfPlaces}
 use Rattle.cube_model.specs.Reasons.{is_walk}
 use Rattle.cube_reason.specs.Found.{AreSingles, WalksTo}
@@ -10,7 +9,6 @@ use Rattle.cube_reason.specs.Searched.{HasSearched}
 use Rattle.cube_reason.specs.Views.{steps_view, end_view}
 use Rattle.cube_reason.specs.declared.reasons.End.{End}
 use Rattle.cube_reason.specs.declared.reasons.WalkStep.{WalkStep}
-use Rattle.cube_reason.proofs.Few.{links_few}
 use Rattle.cube_reason.proofs.Together.{gathered, gathered_start, gathered_within, can_walk, walks}
 use Rattle.cube_reason.proofs.walking.find_walk.Goals as goal
 
@@ -39,10 +37,7 @@ walk_by-requires c =
     let a = gathered g h r m _ _ _ _ _ c.in_ok-ties.ensures.ties c.in_ok-ties.ensures.places c.len-many.ensures.len c.as_slice-all.ensures.value c.in_ok-joints.ensures c.as_slice-pairs.ensures.value in
     let alone : AreSingles (length g.shape.points) c.as_slice-all.result.now c.as_slice-2.result.now = subst (AreSingles (length g.shape.points) c.as_slice-all.result.now) (sym c.as_slice-2.ensures.value) (subst (λ n. AreSingles n c.as_slice-all.result.now c.in_ok-singles.singles.items) c.len-many.ensures.len c.in_ok-singles.ensures) in
     let found : HasSearched c.as_slice-pairs.result.now c.args.place c.as_slice.result.now = subst (HasSearched c.as_slice-pairs.result.now c.args.place) (sym c.as_slice.ensures.value) c.in_ok-visits.ensures in
-    let few = links_few g r in
-    let points = c.len-many.ensures.rules.few_points in
-    let own : length (links g r) < 2 ^ 32 = omega (arith, few, points) in
-    can_walk g h r m c.args.place c.as_slice-all.result.now c.as_slice-pairs.result.now c.as_slice.result.now c.as_slice-2.result.now c.requires.few own a.are a.of_ties a.joint alone found c.requires.walk
+    can_walk g h r m c.args.place c.as_slice-all.result.now c.as_slice-pairs.result.now c.as_slice.result.now c.as_slice-2.result.now a.are a.of_ties a.joint alone found c.requires.walk
 
 pub returns : goal.returns
 returns c =
@@ -53,10 +48,7 @@ returns c =
     let a = gathered g h r m _ _ _ _ _ c.in_ok-ties.ensures.ties c.in_ok-ties.ensures.places c.len-many.ensures.len c.as_slice-all.ensures.value c.in_ok-joints.ensures c.as_slice-pairs.ensures.value in
     let alone : AreSingles (length g.shape.points) c.as_slice-all.result.now c.as_slice-2.result.now = subst (AreSingles (length g.shape.points) c.as_slice-all.result.now) (sym c.as_slice-2.ensures.value) (subst (λ n. AreSingles n c.as_slice-all.result.now c.in_ok-singles.singles.items) c.len-many.ensures.len c.in_ok-singles.ensures) in
     let found : HasSearched c.as_slice-pairs.result.now c.args.place c.as_slice.result.now = subst (HasSearched c.as_slice-pairs.result.now c.args.place) (sym c.as_slice.ensures.value) c.in_ok-visits.ensures in
-    let few = links_few g r in
-    let points = c.len-many.ensures.rules.few_points in
-    let own : length (links g r) < 2 ^ 32 = omega (arith, few, points) in
     IfOk-weaker c.walk_by.result
     (λ (w : List WalkStep × Option End). WalksTo c.as_slice.result.now c.as_slice-2.result.now c.args.place w.0 w.1)
     (λ (w : List WalkStep × Option End). is_walk g h r m c.args.place (steps_view w.0) (end_view w.1) ≡ true)
-    (λ w e. walks g h r m c.args.place c.as_slice-all.result.now c.as_slice-pairs.result.now c.as_slice.result.now c.as_slice-2.result.now c.requires.few own a.are a.of_ties a.joint alone found w.0 w.1 c.requires.walk e) c.walk_by.ensures
+    (λ w e. walks g h r m c.args.place c.as_slice-all.result.now c.as_slice-pairs.result.now c.as_slice.result.now c.as_slice-2.result.now a.are a.of_ties a.joint alone found w.0 w.1 c.requires.walk e) c.walk_by.ensures

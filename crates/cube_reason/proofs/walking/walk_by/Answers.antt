@@ -1,15 +1,10 @@
-use Rattle.std.proofs.Common.{rules, ◌<◌, length, sym, subst}
-use Rattle.cube_reason.specs.Found.{AreFewAt, EndsAt}
+use Rattle.std.proofs.Common.{rules, ◌<◌, length, subst}
+use Rattle.cube_reason.specs.Found.{EndsAt}
 use Rattle.cube_reason.specs.declared.searching.Visit.{Visit}
 use Rattle.cube_reason.proofs.walking.walk_by.Goals as goal
 
 pub unreachable-requires : goal.unreachable-requires
 unreachable-requires c = c.requires.some (c.first_end.ensures.none c.in-None.is)
-
-pub end_at-end-requires-clause-few : goal.end_at-end-requires-clause-few
-end_at-end-requires-clause-few c =
-    let below : c.in-Some.number < length c.args.visits.now = search rules in
-    subst (λ (v : Visit). AreFewAt c.args.singles.now v.place) (sym c.visit_with-visit.ensures) (c.requires.few c.in-Some.number below)
 
 pub returns : goal.returns
 returns c =

@@ -1,5 +1,0 @@
-use Rattle.std.proofs.Common.{◌≡◌, map, take}
-use Rattle.cube_reason.proofs.texts.finest.Given as goal
-
-abbrev pub invariant-dimensions : goal.invariant-dimensions
-invariant-dimensions l = l.levels ≡ map (λ d. 0) (take l._dimension-index l._dimension-items)
