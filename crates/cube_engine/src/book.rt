@@ -1,13 +1,15 @@
 // One cube with its policy, its history, and the log that keeps it.
-ghost use Rattle.std.specs.Prelude.{◌≡◌, ◌≤◌, ◌+◌, ◌^◌, ◌++◌, None, Ok, length, IsTrue, IfOk, OnOk, IfErr, OnErr, if◌then◌else◌};
+ghost use Rattle.std.specs.Prelude.{◌≡◌, ◌≤◌, ◌+◌, ◌^◌, ◌++◌, true, None, Ok, length, IsTrue, IfOk, OnOk, IfErr, OnErr, if◌then◌else◌};
 ghost use Rattle.cube_model.specs.declared.ask.Question.TheVariants as asked;
 ghost use Rattle.cube_model.specs.Cores.{shown, world};
 ghost use Rattle.cube_model.specs.Policies.{IsPolicy};
+ghost use Rattle.cube_model.specs.Verdicts.{verdict as verdict_of};
 ghost use Rattle.cube_admit.specs.States.{StandsFor};
 ghost use Rattle.cube_io.specs.Causes.{HasCause};
 ghost use Rattle.cube_io.specs.States.{Gained};
 ghost use Rattle.cube_io.specs.Told.{Works, OthersStay};
 ghost use Rattle.cube_journal.specs.Keeping.{IsInRecovery};
+ghost use Rattle.cube_query.specs.Canonical.{is_request};
 ghost use Rattle.cube_engine.specs.Books.{IsWaiting, entry_waiting, with_waiting};
 ghost use Rattle.cube_engine.specs.Changes.{Refuses, changes_for, text_of, twin_for};
 ghost use Rattle.cube_engine.specs.Compacting.{compacted_text};
@@ -26,7 +28,7 @@ use cube_admit::State;
 use cube_core::{Core, Steps};
 use cube_io::{Failed, Store};
 use cube_journal::{Journal, Line};
-use cube_model::{NoMemory, Policy, Question, Text};
+use cube_model::{NoMemory, Policy, Question, Request, Text, Verdict};
 use std::alloc::Global;
 use std::marker::Model;
 use std::sync::ledger::Ledger;
@@ -107,6 +109,16 @@ impl Book {
         ensures stands { StandsFor (shown self.now.core self.now.policy) result.now }
     {
         self.holding.state()
+    }
+
+    /// The verdict on a request behind the history, which it doesn't enter.
+    pub fn verdict(&mut self, alloc: Global, request: &Request) -> Result<Verdict, NoMemory>
+        requires none { self.old.waiting ≡ None }
+        requires request { is_request self.old.core.dims request.now ≡ true }
+        ensures verdict { IfOk result (λ verdict. verdict ≡ verdict_of (shown self.old.core self.old.policy) self.old.history request.now) }
+        ensures same { self.new ≡ self.old }
+    {
+        self.holding.verdict(alloc, request)
     }
 
     /// The changes that hide the cell that a text names, in words.

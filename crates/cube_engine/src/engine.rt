@@ -1,16 +1,19 @@
 // A book that counts what became of its asks.
-ghost use Rattle.std.specs.Prelude.{◌≡◌, ◌≢◌, ◌≤◌, ◌<◌, ◌+◌, ◌-◌, ◌++◌, ◌∷◌, ℕ, List, [], None, Some, Ok, IsTrue, IfOk, IfErr};
+ghost use Rattle.std.specs.Prelude.{◌≡◌, ◌≢◌, ◌≤◌, ◌<◌, ◌+◌, ◌-◌, ◌++◌, ◌∷◌, ℕ, List, [], true, None, Some, Ok, IsTrue, IfOk, IfErr};
 ghost use Rattle.cube_model.specs.declared.outcome.Outcome.TheVariants as outcome;
 ghost use Rattle.cube_model.specs.Cores.{shown, world};
 ghost use Rattle.cube_model.specs.Cubes.{same};
 ghost use Rattle.cube_model.specs.Dims.{Dims};
 ghost use Rattle.cube_model.specs.Policies.{IsPolicy};
 ghost use Rattle.cube_model.specs.Rooms.{aim};
+ghost use Rattle.cube_model.specs.Verdicts.{verdict as verdict_of};
 ghost use Rattle.cube_admit.specs.States.{StandsFor};
+ghost use Rattle.cube_answers.specs.VerdictText.{IsVerdict};
 ghost use Rattle.cube_io.specs.Desks.{Answered};
 ghost use Rattle.cube_io.specs.States.{Gained};
 ghost use Rattle.cube_io.specs.Told.{Works, OthersStay};
 ghost use Rattle.cube_journal.specs.Keeping.{IsInRecovery};
+ghost use Rattle.cube_query.specs.Canonical.{is_request};
 ghost use Rattle.cube_engine.specs.Books.{book_rooms, with_waiting, StaysExact};
 ghost use Rattle.cube_engine.specs.Changes.{Refuses, changes_for, text_of, twin_for};
 ghost use Rattle.cube_engine.specs.Compacting.{compacted_text};
@@ -28,7 +31,9 @@ use crate::{Book, EngineFault, NoChanges, SharedCore};
 use cube_admit::State;
 use cube_core::{Core, Steps};
 use cube_io::Store;
-use cube_model::{Ask, Fixed, Kind, NoMemory, Outcome, Outcomes, Policy, Reply, Text};
+use cube_model::{
+    Ask, Fixed, Kind, NoMemory, Outcome, Outcomes, Policy, Reply, Request, Text, Verdict,
+};
 use std::alloc::Global;
 use std::marker::Model;
 use std::sync::ledger::{Blank, Ledger};
@@ -186,6 +191,17 @@ impl Engine {
         ensures stands { StandsFor (shown self.now.core self.now.policy) result.now }
     {
         self.book.state()
+    }
+
+    /// The verdict on a request behind the history, which it doesn't enter.
+    pub fn verdict(&mut self, alloc: Global, request: &Request) -> Result<Verdict, NoMemory>
+        requires { is_request self.old.core.dims request.now ≡ true }
+        ensures verdict { IfOk result (λ verdict. verdict ≡ verdict_of (shown self.old.core self.old.policy) self.old.history request.now) }
+        ensures there { IfOk result (IsVerdict self.old.core) }
+        ensures same { self.new ≡ self.old }
+    {
+        let _rules = self.book.core();
+        self.book.verdict(alloc, request)
     }
 
     /// The changes that hide the cell that a text names, in words: those for the history as it stands. The text is that of

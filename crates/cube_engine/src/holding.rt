@@ -131,6 +131,20 @@ impl Holding {
         Ok(verdict)
     }
 
+    /// The verdict on a request behind the history. It doesn't wait.
+    pub(crate) fn verdict(&mut self, alloc: Global, request: &Request) -> Result<Verdict, NoMemory>
+        requires none { self.old.waiting ≡ None }
+        requires request { is_request self.old.core.dims request.now ≡ true }
+        ensures verdict { IfOk result (λ verdict. verdict ≡ verdict_of (shown self.old.core self.old.policy) self.old.history request.now) }
+        ensures same { self.new ≡ self.old }
+    {
+        let verdict = self
+            .state
+            .verdict(alloc, self.core.get(), &self.policy, request);
+        self.state.drop_pending();
+        verdict
+    }
+
     /// Lets the request that waits enter the history.
     pub(crate) fn commit(&mut self)
         ensures { self.new ≡ record { core = self.old.core; policy = self.old.policy; history = self.old.history ++ entry_of self.old.waiting; waiting = None } }
