@@ -1,5 +1,4 @@
 -- What a compacted history keeps that is told of an engine.
-use Rattle.std.proofs.Common.{◌≡◌}
 use Rattle.cube_engine.specs.Engines.{Engine, book_of}
 use Rattle.cube_engine.specs.Worlds.{IsRuled}
 use Rattle.cube_engine.proofs.KeepsAll.{compaction_keeps_all}

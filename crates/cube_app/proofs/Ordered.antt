@@ -1,10 +1,13 @@
 -- A run of some orders, and a run in which nothing is done.
-use Rattle.std.proofs.Common.{◌≡◌, ◌⊎◌, List, ℕ, inl, inr, sym, subst}
+use Rattle.std.proofs.Common.{◌≡◌, ◌⊎◌, List, ℕ, inl, inr, sym, subst, arith}
 use Rattle.std.specs.Prelude.{IfOk, IfErr}
 use Rattle.std.specs.declared.result.Result.{Result}
 use Rattle.std.specs.declared.result.Result.TheVariants.{Ok, Err}
+use Rattle.cube_io.specs.Seen.{StoreState}
 use Rattle.cube_opening.specs.Reports.{IsReport, NoRoom}
 use Rattle.cube_opening.specs.declared.report.Report.{Report}
+use Rattle.cube_serving.specs.Grouping.{OnlyFirst}
+use Rattle.cube_serving.specs.Starting.{OnlyJournal}
 use Rattle.cube_words.specs.declared.ordered.Orders.{Orders}
 use Rattle.cube_words.specs.declared.words.Usage.{Usage}
 use Rattle.cube_app.specs.Runs.{Outside, Obeyed, Untouched, CalmStatus, Runs}
@@ -14,6 +17,10 @@ use Rattle.cube_app.proofs.Statuses.{calm_end}
 -- what was obeyed, by another name of the orders
 pub obeyed_as : {F S I O W : Type 0} {objects : Outside F S I O W} {r : Report} (o o' : Orders) → o ≡ o' → Obeyed o' objects r → Obeyed o objects r
 obeyed_as {F} {S} {I} {O} {W} {objects} {r} o o' same x = subst (λ (x : Orders). Obeyed x objects r) (sym same) x
+
+-- one journal is the first log
+pub only_first : (old new : StoreState) → OnlyJournal old new → OnlyFirst 1 old new
+only_first old new only told k far seal = only told k (λ zero. omega (arith, far, zero)) seal
 
 each_ok : {T E : Type 0} (r : Result T E) (P : T → Type 0) → ((x : T) → P x) → IfOk r P
 each_ok (Ok x) P f = f x

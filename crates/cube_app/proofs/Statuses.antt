@@ -1,5 +1,5 @@
 -- The statuses of a run, and those of one in which no count of faults rose.
-use Rattle.std.proofs.Common.{◌≡◌, ◌⊎◌, inl, inr, ℕ, Bool, true, false, List, []}
+use Rattle.std.proofs.Common.{◌≡◌, ◌⊎◌, inl, inr, ℕ, suc, Bool, true, false, List, [], ◌∷◌, Option, Some, None}
 use Rattle.std.specs.declared.result.Result.{Result}
 use Rattle.std.specs.declared.result.Result.TheVariants.{Ok, Err}
 use Rattle.cube_model.specs.declared.policy.Policy.{Policy}
@@ -9,18 +9,30 @@ use Rattle.cube_io.specs.Seen.{FolderState, SourceState, SinkState, StoreState, 
 use Rattle.cube_opening.specs.Opening.{dims_said, facts_said, policy_said, flat_said, Unopened, EndsUnopened, names_of}
 use Rattle.cube_opening.specs.Reports.{Prints}
 use Rattle.cube_opening.specs.declared.cube_files.CubeFiles.{CubeFiles}
+use Rattle.cube_opening.specs.declared.cube_files.RuledFiles.{RuledFiles}
+use Rattle.cube_opening.specs.declared.ruling.RuledGroup.{RuledGroup}
 use Rattle.cube_opening.specs.declared.report.Report.{Report}
 use Rattle.cube_script.specs.Playing.{has_torn}
 use Rattle.cube_server.specs.declared.serving.ServeFault.{ServeFault}
 use Rattle.cube_server.specs.declared.serving.ServeFault.TheVariants.{WireFailed, Spent as SpentAll}
+use Rattle.cube_serving.specs.Grouping.{EndsClosedGroups, IsRefusedAt, UnstartedGroups}
+use Rattle.cube_serving.specs.ReplayedGroups.{GroupsReplayEnds}
+use Rattle.cube_serving.specs.ServedGroups.{GroupsServeEnds}
 use Rattle.cube_serving.specs.Replaying.{script_said, all_names, played_status, Writes, ReplayEnds}
 use Rattle.cube_serving.specs.Serving.{served_status, ServeEnds, Unheard}
 use Rattle.cube_serving.specs.Starting.{Unstarted, EndsClosed}
+use Rattle.cube_serving.proofs.Unruled.{IsOfFiles, status as files_status}
 use Rattle.cube_talk.specs.declared.talk.Ending.{Ending}
 use Rattle.cube_talk.specs.declared.talk.Ending.TheVariants.{Ended, InputFailed, OutputFailed, NoMemory, Spent}
 use Rattle.cube_words.specs.declared.ordered.Making.{Making}
 use Rattle.cube_words.specs.declared.ordered.Orders.{Orders}
-use Rattle.cube_words.specs.declared.ordered.Orders.TheVariants.{Help, Version, Sum, Check, Ask, Witness, Twin, Compact, Serve, Replay, Demo}
+use Rattle.cube_words.specs.declared.ordered.Orders.TheVariants.{Help, Version, Sum, Check, Ask, Witness, Twin, Compact, Why, Audit, Advise, Serve, ServeGroups, Replay, ReplayGroups, Demo}
+use Rattle.cube_advise.specs.Telling.{first_text, later_text}
+use Rattle.cube_audit.specs.Audits.{audited}
+use Rattle.cube_audit.specs.AuditText.{audited_text}
+use Rattle.cube_app.specs.Advising.{workload_said, EndsUnread, Puts, FirstEnds, LaterEnds}
+use Rattle.cube_app.specs.Auditing.{transcript_said, PrintsAudit, AuditEnds}
+use Rattle.cube_app.specs.Reasons.{reason_said, IsWhyOf, IsWhetherOf, Says, SaysOne, WhyEnds, WhetherEnds}
 use Rattle.cube_app.specs.Cells.{Tells, TellEnds, told_text}
 use Rattle.cube_app.specs.declared.cells.Telling.{Telling}
 use Rattle.cube_app.specs.declared.cells.Telling.TheVariants as telling
@@ -147,9 +159,91 @@ replays cube script stated files store out r (inr (inr (inr e))) = written e.0.w
     written (inl w) = played r.status (has_torn e.0.wire.log) e.0.end w.0
     written (inr w) = unput w.0
 
+-- a run over groups that ended at its files has one of three statuses
+of_files : {n : ℕ} → IsOfFiles n → Known n
+of_files (inl e) = refused e
+of_files (inr (inl e)) = unreadable e
+of_files (inr (inr e)) = no_memory e
+
+refused_at : (core : Core) (k : ℕ) (gs : List RuledGroup) (store : StoreState) (r : Report) → IsRefusedAt core k gs store r → Known r.status
+refused_at core k [] store r e = absurd e
+refused_at core k (g ∷ gs) store r (inl (fault, e)) = unopened e.1.0
+refused_at core k (g ∷ gs) store r (inr (some, e)) = refused_at core (suc k) gs store r e
+
+journals : {S : Type 0} (core : Core) (gs : List RuledGroup) (facts : List ℕ) (store : Seen StoreState S) (r : Report) → UnstartedGroups core gs facts store r → Known r.status
+journals core gs facts store r (inl e) = no_memory e.0.0
+journals core gs facts store r (inr (inl e)) = no_memory e.0.0
+journals core gs facts store r (inr (inr (inl e))) = unkept e.0.0
+journals core gs facts store r (inr (inr (inr (inl e)))) = refused_at core 0 gs store.before r e.0
+journals core gs facts store r (inr (inr (inr (inr (fault, e, calm))))) = unopened e.1.0
+
+closed_groups : {F S : Type 0} (cube : RuledFiles) (more : List (List ℕ)) (files : Seen FolderState F) (store : Seen StoreState S) (r : Report) → EndsClosedGroups cube more files store r → Known r.status
+closed_groups cube more files store r (inl e) = of_files (files_status cube files r e.0)
+closed_groups cube more files store r (inr e) = journals e.core e.groups e.facts store r e.unstarted
+
+serves_groups : {F S W : Type 0} (cube : RuledFiles) (stated : ℕ) (files : Seen FolderState F) (store : Seen StoreState S) (wire : Seen WireState W) (r : Report) → GroupsServeEnds cube stated files store wire r → Known r.status
+serves_groups cube stated files store wire r (inl e) = closed_groups cube [] files store r e.0
+serves_groups cube stated files store wire r (inr (inl (unserved, e, quiet))) = unheard_by wire r e
+serves_groups cube stated files store wire r (inr (inr e)) = served r.status e.end e.status
+
+replays_groups : {F S O : Type 0} (cube : RuledFiles) (script : List ℕ) (stated : ℕ) (files : Seen FolderState F) (store : Seen StoreState S) (out : Seen SinkState O) (r : Report) → GroupsReplayEnds cube script stated files store out r → Known r.status
+replays_groups cube script stated files store out r (inl e) = one_file script_said script files r e.0.ends.unopened
+replays_groups cube script stated files store out r (inr (inl e)) = closed_groups cube (script ∷ []) files store r e.0
+replays_groups cube script stated files store out r (inr (inr (inl e))) = no_memory e.1.0
+replays_groups cube script stated files store out r (inr (inr (inr e))) = written e.writes
+  where
+    written : Writes e.end e.wire.log out r → Known r.status
+    written (inl w) = played r.status (has_torn e.wire.log) e.end w.0
+    written (inr w) = unput w.0
+
 told : {F S O : Type 0} (what : Telling) (cube : CubeFiles) (name : List ℕ) (files : Seen FolderState F) (store : Seen StoreState S) (out : Seen SinkState O) (r : Report) → TellEnds what cube name files store out r → Known r.status
 told what cube name files store out r (inl e) = closed cube (names_of cube) files store r e.0
 told what cube name files store out r (inr e) = tells (told_text what e.0.core e.0.policy e.0.history name) out r e.0.tells
+
+says : {O : Type 0} (said : Result (List ℕ) (List ℕ)) (out : Seen SinkState O) (r : Report) → Says said out r → Known r.status
+says (Ok text) out r e = prints text out r e
+says (Err line) out r (inl e, same) = refused e.0
+says (Err line) out r (inr e, same) = no_memory e.0
+
+says_one : {O : Type 0} (Is : Result (List ℕ) (List ℕ) → Type 0) (out : Seen SinkState O) (r : Report) → SaysOne Is out r → Known r.status
+says_one Is out r (inl (said, is, e)) = says said out r e
+says_one Is out r (inr e) = no_memory e.0.0
+
+whys : {F S O : Type 0} (cube : CubeFiles) (query : List ℕ) (files : Seen FolderState F) (store : Seen StoreState S) (out : Seen SinkState O) (r : Report) → WhyEnds cube query files store out r → Known r.status
+whys cube query files store out r (inl e) = closed cube (names_of cube) files store r e.0
+whys cube query files store out r (inr e) = says_one (IsWhyOf e.0.core e.0.policy e.0.history query) out r e.0.says
+
+whethers : {F S O : Type 0} (cube : CubeFiles) (query name : List ℕ) (files : Seen FolderState F) (store : Seen StoreState S) (out : Seen SinkState O) (r : Report) → WhetherEnds cube query name files store out r → Known r.status
+whethers cube query name files store out r (inl e) = one_file reason_said name files r e.0.ends.unopened
+whethers cube query name files store out r (inr (inl e)) = closed cube (all_names cube name) files store r e.0
+whethers cube query name files store out r (inr (inr e)) = says_one (IsWhetherOf e.0.core e.0.policy e.0.history query e.0.reason) out r e.0.says
+
+unread : {F : Type 0} (cube : CubeFiles) (workload : Option (List ℕ)) (files : Seen FolderState F) (r : Report) → EndsUnread cube workload files r → Known r.status
+unread cube workload files r (inl e) = all_files cube files r e
+unread cube None files r (inr e) = absurd e.ends
+unread cube (Some name) files r (inr e) = one_file workload_said name files r e.ends.unopened
+
+puts : {O : Type 0} (text : List ℕ) (out : Seen SinkState O) (r : Report) → Puts text out r → Known r.status
+puts text out r (inl e) = prints text out r e
+puts text out r (inr e) = no_memory e.0.0
+
+audits : {F O : Type 0} (cube : CubeFiles) (transcript : List ℕ) (files : Seen FolderState F) (out : Seen SinkState O) (r : Report) → AuditEnds cube transcript files out r → Known r.status
+audits cube transcript files out r (inl e) = all_files cube files r e.0
+audits cube transcript files out r (inr (inl e)) = one_file transcript_said transcript files r e.0.ends.unopened
+audits cube transcript files out r (inr (inr e)) = printed e.0.printed
+  where
+    printed : PrintsAudit e.0.core e.0.policy e.0.items out r → Known r.status
+    printed (inl p) = prints (audited_text e.0.core.dims (audited e.0.core e.0.policy e.0.items)) out r p
+    printed (inr p) = no_memory p.0.0
+
+advises : {F O : Type 0} (cube : CubeFiles) (workload : Option (List ℕ)) (files : Seen FolderState F) (out : Seen SinkState O) (r : Report) → FirstEnds cube workload files out r → Known r.status
+advises cube workload files out r (inl e) = unread cube workload files r e.0
+advises cube workload files out r (inr e) = puts (first_text e.0.core e.0.policy e.0.bytes) out r e.0.puts
+
+advises_later : {F S O : Type 0} (cube : CubeFiles) (workload : Option (List ℕ)) (files : Seen FolderState F) (store : Seen StoreState S) (out : Seen SinkState O) (r : Report) → LaterEnds cube workload files store out r → Known r.status
+advises_later cube workload files store out r (inl e) = unread cube workload files r e.0
+advises_later cube workload files store out r (inr (inl e)) = journal e.0.core e.0.policy e.0.facts store r e.0.unstarted
+advises_later cube workload files store out r (inr (inr e)) = puts (later_text e.0.core e.0.policy e.0.history e.0.bytes) out r e.0.puts
 
 made : {O : Type 0} (making : Making) (out : Seen SinkState O) (r : Report) → DemoRun making out r → Known r.status
 made making out r (inl e) = done e.0.0
@@ -168,8 +262,15 @@ known (Ask cube name stated) objects r d = asks cube stated objects.files object
 known (Witness cube name text) objects r d = told telling.Changes cube text objects.files objects.store objects.out r d.answers
 known (Twin cube name text) objects r d = told telling.Twin cube text objects.files objects.store objects.out r d.answers
 known (Compact cube name out) objects r d = told telling.Compacted cube [] objects.files objects.store objects.out r d.answers
+known (Why cube name query None) objects r d = whys cube query objects.files objects.store objects.out r d.answers
+known (Why cube name query (Some reason)) objects r d = whethers cube query reason objects.files objects.store objects.out r d.answers
+known (Audit cube transcript) objects r d = audits cube transcript objects.files objects.out r d.answers
+known (Advise cube None workload) objects r d = advises cube workload objects.files objects.out r d.answers.0
+known (Advise cube (Some name) workload) objects r d = advises_later cube workload objects.files objects.store objects.out r d.answers
 known (Serve cube name address stated idle) objects r d = serves cube stated objects.files objects.store objects.wire r d.answers
+known (ServeGroups cube name address stated idle) objects r d = serves_groups cube stated objects.files objects.store objects.wire r d.answers
 known (Replay cube name script stated) objects r d = replays cube script stated objects.files objects.store objects.out r d.answers
+known (ReplayGroups cube name script stated) objects r d = replays_groups cube script stated objects.files objects.store objects.out r d.answers
 known (Demo making) objects r d = made making objects.out r d
 
 -- ---- where no count rose

@@ -2,7 +2,6 @@
 use Rattle.std.proofs.Common.{◌≡◌, ◌≢◌, ◌∙◌, refl, sym, ap, subst, ℕ, ◌<◌, List, [], length, ℤ, Some, None, Ok, Err, inl, inr, arith}
 use Rattle.std.specs.Prelude.{IsSomeAnd, Result, nat_lt, slice_set, slice_index_or, codes}
 use Rattle.std.specs.declared.option.Option.{Option}
-use Rattle.cube_model.specs.declared.entry.Entry.{Entry}
 use Rattle.cube_model.specs.declared.outcome.Outcome.{Outcome}
 use Rattle.cube_model.specs.declared.policy.Policy.{Policy}
 use Rattle.cube_model.specs.declared.shape.Shape.{Shape}

@@ -6,7 +6,7 @@ use Rattle.cube_opening.specs.Opening.{dims_said, facts_said, policy_said, Unope
 use Rattle.cube_opening.specs.declared.cube_files.CubeFiles.{CubeFiles}
 use Rattle.cube_opening.specs.declared.report.Report.{Report}
 
-one_file : {X F : Type 0} (said : List ℕ → Result X (List ℕ)) (name : List ℕ) (folder : Seen FolderState F) (r : Report) → Unopened said name folder r → r.outcomes ≡ []
+pub one_file : {X F : Type 0} (said : List ℕ → Result X (List ℕ)) (name : List ℕ) (folder : Seen FolderState F) (r : Report) → Unopened said name folder r → r.outcomes ≡ []
 one_file said name folder r (inl e) = e.1
 one_file said name folder r (inr (inl e)) = e.1
 one_file said name folder r (inr (inr (inl e))) = e.0.1

@@ -1,3 +1,5 @@
+pub mod Advising
+pub mod Auditing
 pub mod Cells
 pub mod Ends
 pub mod Making
@@ -7,3 +9,4 @@ pub mod Summary
 pub mod Talks
 pub mod Texts
 pub mod TwinFiles
+pub mod Reasons

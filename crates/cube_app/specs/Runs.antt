@@ -1,17 +1,20 @@
 -- What a run of the program does: all that is promised of the top call.
-use Rattle.std.specs.Prelude.{◌≡◌, ◌≢◌, ◌⊎◌, ℕ, true, false, List, [], Result, IfOk, IfErr}
+use Rattle.std.specs.Prelude.{◌≡◌, ◌≢◌, ◌⊎◌, ℕ, List, [], Result, IfOk, IfErr}
 use Rattle.cube_io.specs.Causes.{Rose}
 use Rattle.cube_io.specs.Seen.{FolderState, SourceState, SinkState, StoreState, WireState, Seen, Unused}
 use Rattle.cube_opening.specs.Reports.{IsReport, NoRoom, Prints}
 use Rattle.cube_opening.specs.declared.report.Report.{Report}
-use Rattle.cube_serving.specs.Starting.{OnlyJournal}
+use Rattle.cube_serving.specs.Grouping.{OnlyFirst}
 use Rattle.cube_words.specs.declared.ordered.Orders.{Orders}
-use Rattle.cube_words.specs.declared.ordered.Orders.TheVariants.{Help, Version, Sum, Check, Ask, Witness, Twin, Compact, Serve, Replay, Demo}
+use Rattle.cube_words.specs.declared.ordered.Orders.TheVariants.{Help, Version, Sum, Check, Ask, Witness, Twin, Compact, Why, Audit, Advise, Serve, ServeGroups, Replay, ReplayGroups, Demo}
 use Rattle.cube_words.specs.declared.words.Usage.{Usage}
+use Rattle.cube_app.specs.Advising.{AdviseRun}
+use Rattle.cube_app.specs.Auditing.{AuditRun}
 use Rattle.cube_app.specs.Cells.{TellRun}
 use Rattle.cube_app.specs.declared.cells.Telling.TheVariants as telling
 use Rattle.cube_app.specs.Making.{DemoRun}
-use Rattle.cube_app.specs.Serves.{ServeRun, ReplayRun}
+use Rattle.cube_app.specs.Reasons.{ReasonRun}
+use Rattle.cube_app.specs.Serves.{ServeRun, ServeGroupsRun, ReplayRun, ReplayGroupsRun}
 use Rattle.cube_app.specs.Summary.{CheckRun}
 use Rattle.cube_app.specs.Talks.{SumRun, AskRun}
 use Rattle.cube_app.specs.Texts.{usage_text, help_text, version_text}
@@ -37,8 +40,13 @@ Does (Ask cube journal stated) objects r = AskRun cube journal stated objects.fi
 Does (Witness cube journal cell) objects r = TellRun telling.Changes cube journal cell objects.files objects.store objects.out r
 Does (Twin cube journal cell) objects r = TellRun telling.Twin cube journal cell objects.files objects.store objects.out r
 Does (Compact cube journal out) objects r = TellRun telling.Compacted cube journal [] objects.files objects.store objects.out r
+Does (Why cube journal query reason) objects r = ReasonRun cube journal query reason objects.files objects.store objects.out r
+Does (Audit cube transcript) objects r = AuditRun cube transcript objects.files objects.out r
+Does (Advise cube journal workload) objects r = AdviseRun cube journal workload objects.files objects.store objects.out r
 Does (Serve cube journal address stated idle) objects r = ServeRun cube journal address stated objects.files objects.store objects.wire r
+Does (ServeGroups cube journal address stated idle) objects r = ServeGroupsRun cube journal address stated objects.files objects.store objects.wire r
 Does (Replay cube journal script stated) objects r = ReplayRun cube journal script stated objects.files objects.store objects.out r
+Does (ReplayGroups cube journal script stated) objects r = ReplayGroupsRun cube journal script stated objects.files objects.store objects.out r
 Does (Demo making) objects r = DemoRun making objects.out r
 
 -- What it leaves as it was. Only `ask`, `serve` and `replay` report what became of asks.
@@ -51,8 +59,13 @@ Leaves (Ask cube journal stated) objects r = Unused objects.wire
 Leaves (Witness cube journal cell) objects r = Unused objects.input × Unused objects.wire × (r.outcomes ≡ [])
 Leaves (Twin cube journal cell) objects r = Unused objects.input × Unused objects.wire × (r.outcomes ≡ [])
 Leaves (Compact cube journal out) objects r = Unused objects.input × Unused objects.wire × (r.outcomes ≡ [])
+Leaves (Why cube journal query reason) objects r = Unused objects.input × Unused objects.wire × (r.outcomes ≡ [])
+Leaves (Audit cube transcript) objects r = Unused objects.store × Unused objects.input × Unused objects.wire × (r.outcomes ≡ [])
+Leaves (Advise cube journal workload) objects r = Unused objects.input × Unused objects.wire × (r.outcomes ≡ [])
 Leaves (Serve cube journal address stated idle) objects r = Unused objects.input × Unused objects.out
+Leaves (ServeGroups cube journal address stated idle) objects r = Unused objects.input × Unused objects.out
 Leaves (Replay cube journal script stated) objects r = Unused objects.input × Unused objects.wire
+Leaves (ReplayGroups cube journal script stated) objects r = Unused objects.input × Unused objects.wire
 Leaves (Demo making) objects r = Unused objects.files × Unused objects.store × Unused objects.input × Unused objects.wire × (r.outcomes ≡ [])
 
 -- ---- what every command keeps to
@@ -68,13 +81,19 @@ pub record HasCauses {F S I O W : Type 0} (objects : Outside F S I O W) (r : Rep
   pub output_steady : r.status ≢ 6 → objects.out.after.faults ≡ objects.out.before.faults
   pub wire_steady : r.status ≢ 8 → objects.wire.after.faults ≡ objects.wire.before.faults
 
--- These orders were obeyed. Status 2 is for wrong words alone, and no log of the store changed but the journal's and its seal's.
+-- how many journals a run may have
+abbrev pub journals_of : Orders → ℕ
+journals_of (ServeGroups cube journal address stated idle) = 16
+journals_of (ReplayGroups cube journal script stated) = 16
+journals_of other = 1
+
+-- These orders were obeyed. Status 2 is for wrong words alone, and no log of the store changed but those of its journals and their seal.
 pub record Obeyed {F S I O W : Type 0} (orders : Orders) (objects : Outside F S I O W) (r : Report) : Type 0 where
   pub does : Does orders objects r
   pub leaves : Leaves orders objects r
   pub causes : HasCauses objects r
   pub ordered : r.status ≢ 2
-  pub others : OnlyJournal objects.store.before objects.store.after
+  pub others : OnlyFirst (journals_of orders) objects.store.before objects.store.after
 
 -- ---- where nothing outside failed
 

@@ -2,9 +2,12 @@
 use Rattle.std.specs.Prelude.{◌≡◌, ◌⊎◌, ◌≤◌, ◌+◌, ℕ, IsTrue, List, []}
 use Rattle.cube_io.specs.Seen.{FolderState, SinkState, StoreState, WireState, Seen, Unused}
 use Rattle.cube_opening.specs.declared.cube_files.CubeFiles.{CubeFiles}
+use Rattle.cube_opening.specs.declared.cube_files.RuledFiles.{RuledFiles}
 use Rattle.cube_opening.specs.declared.report.Report.{Report}
 use Rattle.cube_serving.specs.Serving.{Hears, ServeEnds, ServeCompletes}
+use Rattle.cube_serving.specs.ServedGroups.{GroupsServeEnds, GroupsServeComplete}
 use Rattle.cube_serving.specs.Replaying.{ReplayEnds, ReplayCompletes}
+use Rattle.cube_serving.specs.ReplayedGroups.{GroupsReplayEnds, GroupsReplayComplete}
 use Rattle.cube_app.specs.Ends.{AsksJournal}
 
 -- All that `serve` does with these files, this journal and this wire: it ends before its cube is open, or where it is to listen; or it
@@ -27,3 +30,22 @@ pub record ReplayRun {F S O : Type 0} (cube : CubeFiles) (journal script : List 
   pub few_calls : r.status ≡ 9 → IsTrue store.before.told → store.after.calls ≤ store.before.calls + 11
   pub memory : r.status ≡ 7 → (r.outcomes ≡ []) × Unused out
   pub complete : ReplayCompletes cube script files store out r
+
+-- ---- groups
+
+-- All that `serve` does with the files of groups, as `ServeRun` says it of one cube.
+pub record ServeGroupsRun {F S W : Type 0} (cube : RuledFiles) (journal address : List ℕ) (stated : ℕ) (files : Seen FolderState F) (store : Seen StoreState S) (wire : Seen WireState W) (r : Report) : Type 0 where
+  pub answers : GroupsServeEnds cube stated files store wire r
+  pub named : AsksJournal journal store r
+  pub few_calls : r.status ≡ 9 → IsTrue store.before.told → store.after.calls ≤ store.before.calls + 101
+  pub listened : Unused wire ⊎ Hears address wire r
+  pub memory : r.status ≡ 7 → (r.outcomes ≡ []) × (IsTrue wire.before.told → wire.after.log ≡ [])
+  pub complete : GroupsServeComplete cube files store wire r
+
+-- All that `replay` does with the files of groups, as `ReplayRun` says it of one cube.
+pub record ReplayGroupsRun {F S O : Type 0} (cube : RuledFiles) (journal script : List ℕ) (stated : ℕ) (files : Seen FolderState F) (store : Seen StoreState S) (out : Seen SinkState O) (r : Report) : Type 0 where
+  pub answers : GroupsReplayEnds cube script stated files store out r
+  pub named : AsksJournal journal store r
+  pub few_calls : r.status ≡ 9 → IsTrue store.before.told → store.after.calls ≤ store.before.calls + 101
+  pub memory : r.status ≡ 7 → (r.outcomes ≡ []) × Unused out
+  pub complete : GroupsReplayComplete cube script files store out r

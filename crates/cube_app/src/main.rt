@@ -1,15 +1,18 @@
 //! The program: it makes the real objects, runs, prints the text on standard error and ends with the status.
 #![tactic(auto)]
 
+mod advising;
+mod auditing;
 mod cells;
 mod making;
+mod reasons;
 mod run;
 mod summary;
 #[cfg(test)]
 mod tests;
 
 ghost use Rattle.std.specs.Prelude.{◌≡◌, IfOk};
-ghost use Rattle.cube_words.specs.Words.{orders_of as orders_in};
+ghost use Rattle.cube_words.specs.Words.{orders_of as orders_in, out_of as out_ordered};
 ghost use Rattle.cube_app.specs.Ends.{out_in};
 
 use cube_edge::{
@@ -17,7 +20,7 @@ use cube_edge::{
     TcpSockets, WriterSink, hold_streams,
 };
 use cube_model::{Items, NoMemory, Text, Texts};
-use cube_words::orders_of;
+use cube_words::{Orders, orders_of};
 use run::run;
 use std::alloc::Global;
 use std::env::{Env, FillError};
@@ -45,6 +48,16 @@ fn words_of(rt: &HostRuntime) -> Option<Texts> {
     None
 }
 
+// The file that the orders name for the output.
+fn out_of(alloc: Global, orders: &Orders) -> Result<Option<Text>, NoMemory>
+    ensures { IfOk result (λ path. path ≡ out_ordered orders.now) }
+{
+    match orders.out() {
+        None => Ok(None),
+        Some(path) => Ok(Some(path.copied(alloc)?)),
+    }
+}
+
 // The file that the words name for the output.
 fn out_named(alloc: Global, words: &[Text]) -> Result<Option<Text>, NoMemory>
     ensures { IfOk result (λ path. path ≡ out_in (orders_in words.now)) }
@@ -52,10 +65,7 @@ fn out_named(alloc: Global, words: &[Text]) -> Result<Option<Text>, NoMemory>
     let Ok(orders) = orders_of(alloc, words)? else {
         return Ok(None);
     };
-    match orders.out() {
-        None => Ok(None),
-        Some(path) => Ok(Some(path.copied(alloc)?)),
-    }
+    out_of(alloc, &orders)
 }
 
 // What a person may want to know behind the text of a report.

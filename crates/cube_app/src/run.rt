@@ -12,8 +12,11 @@ ghost use Rattle.cube_app.specs.Talks.{SumEnds, SumCompletes, AskEnds, AskComple
 ghost use Rattle.cube_app.specs.TwinFiles.{TwinFilesMakeTwins, TwinTalksAreTheSame, TwinLogsAreTheSame};
 ghost use Rattle.cube_app.specs.Texts.{usage_text as usage_words, status_of as status_in, ending_text};
 
+use crate::advising::advise;
+use crate::auditing::audit;
 use crate::cells::{Telling, tell};
 use crate::making::show;
+use crate::reasons::say_why;
 use crate::summary::check_text;
 use cube_engine::Engine;
 use cube_io::{Folder, Sink, Source, Store, Wire};
@@ -21,13 +24,13 @@ use cube_model::{NoMemory, Text};
 use cube_opening::{
     CubeFiles, Report, Room, no_room, open_flat, open_guarded, spent_room, with_text,
 };
-use cube_serving::{open_engine, replay_cube, serve_cube};
+use cube_serving::{open_engine, replay_cube, replay_grouped, serve_cube, serve_grouped};
 use cube_talk::{Carry, Ending, TalkEnd, converse_by_asks, converse_by_sums};
 use cube_words::{Orders, Usage, orders_of};
 use std::alloc::Global;
 
 const HELP: &[u8] =
-    b"cube sum --facts FILE\n    answers each line of the input by a sum over the file\ncube check --dims FILE --facts FILE --policy FILE\n    says what the files hold\ncube ask --dims FILE --facts FILE --policy FILE --journal FILE [--requests N]\n    answers each line of the input as a query, or as `shape` or `witness CELL`\ncube witness --dims FILE --facts FILE --policy FILE --journal FILE --cell CELL\n    prints the changes that hide a cell\ncube twin --dims FILE --facts FILE --policy FILE --journal FILE --cell CELL\n    prints the fact file of the cube with these changes\ncube compact --dims FILE --facts FILE --policy FILE --journal FILE [--out FILE]\n    prints the journal written down as what it holds, or puts it into a file, whole\ncube serve --dims FILE --facts FILE --policy FILE --journal FILE --address ADDRESS [--requests N] [--idle SECONDS]\n    answers asks over HTTP, until it is stopped; closes a connection that is still for so long\ncube replay --dims FILE --facts FILE --policy FILE --journal FILE --script FILE [--requests N]\n    plays a script of connections and writes what was sent\ncube demo --number N --size S\n    makes a cube of 20,000 S facts and says how 200 S queries on it are judged\ncube --help\n    prints this text\ncube --version\n    prints the version\n--requests N: answers at most N asks, refused ones too, and ends behind them with status 10\n    1 to 16777216; without it 1000000, under serve 16777216. What was answered is in the journal\n--idle SECONDS: 0 to 86400, where 0 is for ever; without it 60\n";
+    b"cube sum --facts FILE\n    answers each line of the input by a sum over the file\ncube check --dims FILE --facts FILE --policy FILE\n    says what the files hold\ncube ask --dims FILE --facts FILE --policy FILE --journal FILE [--requests N]\n    answers each line of the input as a query, or as `shape` or `witness CELL`\ncube witness --dims FILE --facts FILE --policy FILE --journal FILE --cell CELL\n    prints the changes that hide a cell\ncube twin --dims FILE --facts FILE --policy FILE --journal FILE --cell CELL\n    prints the fact file of the cube with these changes\ncube compact --dims FILE --facts FILE --policy FILE --journal FILE [--out FILE]\n    prints the journal written down as what it holds, or puts it into a file, whole\ncube why --dims FILE --facts FILE --policy FILE --journal FILE --query QUERY [--reason FILE]\n    prints why a query is refused, for anybody to check, or says whether a file is such a reason\ncube audit --dims FILE --facts FILE --policy FILE --transcript FILE\n    says whether what some server replied is exact and keeps each protected cell hidden\ncube advise --dims FILE --facts FILE --policy FILE [--journal FILE] [--workload FILE]\n    prints what can be released, and what becomes of each query of a file\ncube serve --dims FILE --facts FILE (--policy FILE | --groups FILE) --journal FILE --address ADDRESS [--requests N] [--idle SECONDS]\n    answers asks over HTTP, until it is stopped; closes a connection that is still for so long\ncube replay --dims FILE --facts FILE (--policy FILE | --groups FILE) --journal FILE --script FILE [--requests N]\n    plays a script of connections and writes what was sent\ncube demo --number N --size S\n    makes a cube of 20,000 S facts and says how 200 S queries on it are judged\ncube --help\n    prints this text\ncube --version\n    prints the version\n--groups FILE: in the place of one policy groups of users, each with a policy and a journal of its own,\n    asked under /g/NAME/. Group k from 0 is kept in the file JOURNAL.k, the first in JOURNAL\n--requests N: answers at most N asks, refused ones too, and ends behind them with status 10\n    1 to 16777216; without it 1000000, under serve 16777216. What was answered is in the journal\n--idle SECONDS: 0 to 86400, where 0 is for ever; without it 60\n";
 
 const VERSION: &[u8] = b"cube 0.1.0\n";
 
@@ -315,6 +318,23 @@ fn obey<F: Folder, S: Store, I: Source, O: Sink, W: Wire>(
                 out,
             )
         }
+        Orders::Why {
+            files: cube,
+            journal,
+            query,
+            reason,
+        } => say_why(
+            alloc, room, &cube, &journal, &query, &reason, files, store, out,
+        ),
+        Orders::Audit {
+            files: cube,
+            transcript,
+        } => audit(alloc, room, &cube, &transcript, files, out),
+        Orders::Advise {
+            files: cube,
+            journal,
+            workload,
+        } => advise(alloc, room, &cube, &journal, &workload, files, store, out),
         Orders::Serve {
             files: cube,
             journal,
@@ -324,12 +344,29 @@ fn obey<F: Folder, S: Store, I: Source, O: Sink, W: Wire>(
         } => serve_cube(
             alloc, room, &cube, &journal, &address, stated, idle, files, store, wire,
         ),
+        Orders::ServeGroups {
+            files: cube,
+            journal,
+            address,
+            stated,
+            idle,
+        } => serve_grouped(
+            alloc, room, &cube, &journal, &address, stated, idle, files, store, wire,
+        ),
         Orders::Replay {
             files: cube,
             journal,
             script,
             stated,
         } => replay_cube(
+            alloc, room, &cube, &journal, &script, stated, files, store, out,
+        ),
+        Orders::ReplayGroups {
+            files: cube,
+            journal,
+            script,
+            stated,
+        } => replay_grouped(
             alloc, room, &cube, &journal, &script, stated, files, store, out,
         ),
         Orders::Demo { making } => show(alloc, room, making, out),

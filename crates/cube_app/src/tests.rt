@@ -2,6 +2,7 @@
 ghost use Rattle.std.specs.Prelude.{◌≡◌, [], IsTrue};
 
 mod ask;
+mod audit;
 mod cells;
 mod check;
 mod journal;
@@ -182,7 +183,7 @@ fn a_refused_file_is_named_with_its_fault(rt: HostRuntime) -> Result<(), Fail> {
 
 #[test]
 fn wrong_words_are_named(rt: HostRuntime) -> Result<(), Fail> {
-    let cases: [(&[&[u8]], &[u8]); 26] = [
+    let cases: [(&[&[u8]], &[u8]); 31] = [
         (&[], b"usage: no command\n"),
         (&[b"ask", b"--dims"], b"usage: --dims\n"),
         (&[b"ask", b"--facts", b"f"], b"usage: missing --dims\n"),
@@ -239,6 +240,23 @@ fn wrong_words_are_named(rt: HostRuntime) -> Result<(), Fail> {
                 b"l",
             ],
             b"usage: missing --script\n",
+        ),
+        (&[b"ask", b"--groups", b"g"], b"usage: --groups\n"),
+        (
+            &[b"serve", b"--groups", b"g", b"--policy", b"p"],
+            b"usage: --policy\n",
+        ),
+        (
+            &[b"replay", b"--policy", b"p", b"--groups", b"g"],
+            b"usage: --groups\n",
+        ),
+        (
+            &[b"replay", b"--dims", b"d", b"--facts", b"f"],
+            b"usage: missing --policy\n",
+        ),
+        (
+            &[b"serve", b"--groups", b"g", b"--dims", b"d"],
+            b"usage: missing --facts\n",
         ),
         (&[b"demo", b"--size", b"21"], b"usage: 21\n"),
         (

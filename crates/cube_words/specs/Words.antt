@@ -1,5 +1,5 @@
 -- The words of a command line: a command, and pairs of an option and its value in any order, each option once.
-use Rattle.std.specs.Prelude.{◌≡◌, ◌≤◌, ℕ, ◌+◌, Bool, not, ◌||◌, ◌&&◌, nat_le, nat_lt, length, List, [], ◌∷◌, ◌++◌, find, codes, unwrap_or, if◌then◌else◌, Option, Some, None, Result, Ok, Err}
+use Rattle.std.specs.Prelude.{◌≡◌, ◌≤◌, ℕ, ◌+◌, Bool, true, false, not, ◌||◌, ◌&&◌, nat_le, nat_lt, length, List, [], ◌∷◌, ◌++◌, find, codes, unwrap_or, if◌then◌else◌, Option, Some, None, Result, Ok, Err}
 use Rattle.std.specs.List.{list_any}
 use Rattle.std.specs.Str.{bytes_eq}
 use Rattle.std.specs.Str.Parse.{digits_value}
@@ -7,12 +7,14 @@ use Rattle.cube_text.specs.Units.{is_digits}
 use Rattle.cube_words.specs.declared.words.Command.{Command}
 use Rattle.cube_words.specs.declared.words.Command.TheVariants as command
 use Rattle.cube_opening.specs.declared.cube_files.CubeFiles.{CubeFiles}
+use Rattle.cube_opening.specs.declared.cube_files.RuledFiles.{RuledFiles}
+use Rattle.cube_opening.specs.declared.cube_files.Rules.TheVariants as rules
 use Rattle.cube_words.specs.declared.ordered.Making.{Making}
 use Rattle.cube_words.specs.declared.ordered.Orders.{Orders}
 use Rattle.cube_words.specs.declared.ordered.Orders.TheVariants as orders
 use Rattle.cube_words.specs.declared.words.TheConstants.{MAX_REQUESTS, USUAL_REQUESTS, MAX_IDLE, USUAL_IDLE, MAX_DIGITS, OVER, MAX_SIZE}
 use Rattle.cube_words.specs.declared.words.Setting.{Setting}
-use Rattle.cube_words.specs.declared.words.Setting.TheVariants.{Dims, Facts, Policy, Journal, Cell, Out, Address, Script, Requests, Idle, Number, Size}
+use Rattle.cube_words.specs.declared.words.Setting.TheVariants.{Dims, Facts, Policy, Groups, Journal, Cell, Query, Reason, Transcript, Workload, Out, Address, Script, Requests, Idle, Number, Size}
 use Rattle.cube_words.specs.declared.words.Usage.{Usage}
 use Rattle.cube_words.specs.declared.words.Usage.TheVariants.{NoCommand, Wrong, Missing}
 
@@ -25,16 +27,26 @@ command_word command.Ask = codes "ask"
 command_word command.Witness = codes "witness"
 command_word command.Twin = codes "twin"
 command_word command.Compact = codes "compact"
+command_word command.Why = codes "why"
+command_word command.Audit = codes "audit"
+command_word command.Advise = codes "advise"
 command_word command.Serve = codes "serve"
+command_word command.ServeGroups = codes "serve"
 command_word command.Replay = codes "replay"
+command_word command.ReplayGroups = codes "replay"
 command_word command.Demo = codes "demo"
 
 abbrev pub option_word : Setting → List ℕ
 option_word Dims = codes "--dims"
 option_word Facts = codes "--facts"
 option_word Policy = codes "--policy"
+option_word Groups = codes "--groups"
 option_word Journal = codes "--journal"
 option_word Cell = codes "--cell"
+option_word Query = codes "--query"
+option_word Reason = codes "--reason"
+option_word Transcript = codes "--transcript"
+option_word Workload = codes "--workload"
 option_word Out = codes "--out"
 option_word Address = codes "--address"
 option_word Script = codes "--script"
@@ -44,7 +56,7 @@ option_word Number = codes "--number"
 option_word Size = codes "--size"
 
 abbrev pub commands : List Command
-commands = command.Help ∷ command.Version ∷ command.Sum ∷ command.Check ∷ command.Ask ∷ command.Witness ∷ command.Twin ∷ command.Compact ∷ command.Serve ∷ command.Replay ∷ command.Demo ∷ []
+commands = command.Help ∷ command.Version ∷ command.Sum ∷ command.Check ∷ command.Ask ∷ command.Witness ∷ command.Twin ∷ command.Compact ∷ command.Why ∷ command.Audit ∷ command.Advise ∷ command.Serve ∷ command.Replay ∷ command.Demo ∷ []
 
 -- the options that a command needs, in the order in which a missing one is named
 abbrev pub needed : Command → List Setting
@@ -56,8 +68,13 @@ needed command.Ask = Dims ∷ Facts ∷ Policy ∷ Journal ∷ []
 needed command.Witness = Dims ∷ Facts ∷ Policy ∷ Journal ∷ Cell ∷ []
 needed command.Twin = Dims ∷ Facts ∷ Policy ∷ Journal ∷ Cell ∷ []
 needed command.Compact = Dims ∷ Facts ∷ Policy ∷ Journal ∷ []
+needed command.Why = Dims ∷ Facts ∷ Policy ∷ Journal ∷ Query ∷ []
+needed command.Audit = Dims ∷ Facts ∷ Policy ∷ Transcript ∷ []
+needed command.Advise = Dims ∷ Facts ∷ Policy ∷ []
 needed command.Serve = Dims ∷ Facts ∷ Policy ∷ Journal ∷ Address ∷ []
+needed command.ServeGroups = Dims ∷ Facts ∷ Groups ∷ Journal ∷ Address ∷ []
 needed command.Replay = Dims ∷ Facts ∷ Policy ∷ Journal ∷ Script ∷ []
+needed command.ReplayGroups = Dims ∷ Facts ∷ Groups ∷ Journal ∷ Script ∷ []
 needed command.Demo = Number ∷ Size ∷ []
 
 -- the options that it may have
@@ -70,8 +87,13 @@ allowed command.Ask = Dims ∷ Facts ∷ Policy ∷ Journal ∷ Requests ∷ []
 allowed command.Witness = Dims ∷ Facts ∷ Policy ∷ Journal ∷ Cell ∷ []
 allowed command.Twin = Dims ∷ Facts ∷ Policy ∷ Journal ∷ Cell ∷ []
 allowed command.Compact = Dims ∷ Facts ∷ Policy ∷ Journal ∷ Out ∷ []
+allowed command.Why = Dims ∷ Facts ∷ Policy ∷ Journal ∷ Query ∷ Reason ∷ []
+allowed command.Audit = Dims ∷ Facts ∷ Policy ∷ Transcript ∷ []
+allowed command.Advise = Dims ∷ Facts ∷ Policy ∷ Journal ∷ Workload ∷ []
 allowed command.Serve = Dims ∷ Facts ∷ Policy ∷ Journal ∷ Address ∷ Requests ∷ Idle ∷ []
+allowed command.ServeGroups = Dims ∷ Facts ∷ Groups ∷ Journal ∷ Address ∷ Requests ∷ Idle ∷ []
 allowed command.Replay = Dims ∷ Facts ∷ Policy ∷ Journal ∷ Script ∷ Requests ∷ []
+allowed command.ReplayGroups = Dims ∷ Facts ∷ Groups ∷ Journal ∷ Script ∷ Requests ∷ []
 allowed command.Demo = Number ∷ Size ∷ []
 
 -- the command of a word
@@ -91,6 +113,17 @@ abbrev pub options_in : List (List ℕ) → List (List ℕ)
 options_in [] = []
 options_in (option ∷ []) = option ∷ []
 options_in (option ∷ value ∷ more) = option ∷ options_in more
+
+-- of the two options that name what rules the users, the first one names groups
+abbrev pub begin_with_groups : List (List ℕ) → Bool
+begin_with_groups [] = false
+begin_with_groups (option ∷ more) = not (bytes_eq option (codes "--policy")) && (bytes_eq option (codes "--groups") || begin_with_groups more)
+
+-- the command, where the options behind it do that or not
+abbrev pub ruled_as : Command → Bool → Command
+ruled_as command.Serve true = command.ServeGroups
+ruled_as command.Replay true = command.ReplayGroups
+ruled_as c groups = c
 
 -- decimal digits that write a number of asks
 abbrev pub is_requests : List ℕ → Bool
@@ -145,6 +178,9 @@ value_of s words = unwrap_or (value_behind (option_word s) words) []
 abbrev pub files_of : List (List ℕ) → CubeFiles
 files_of words = record { dims = value_of Dims words; facts = value_of Facts words; policy = value_of Policy words }
 
+abbrev pub grouped_files_of : List (List ℕ) → RuledFiles
+grouped_files_of words = record { dims = value_of Dims words; facts = value_of Facts words; rules = rules.Groups (value_of Groups words) }
+
 -- the number that is stated, or the usual one
 abbrev pub stated_by : ℕ → Option (List ℕ) → ℕ
 stated_by usual None = usual
@@ -174,8 +210,13 @@ orders_with command.Ask words = orders.Ask (files_of words) (value_of Journal wo
 orders_with command.Witness words = orders.Witness (files_of words) (value_of Journal words) (value_of Cell words)
 orders_with command.Twin words = orders.Twin (files_of words) (value_of Journal words) (value_of Cell words)
 orders_with command.Compact words = orders.Compact (files_of words) (value_of Journal words) (value_behind (option_word Out) words)
+orders_with command.Why words = orders.Why (files_of words) (value_of Journal words) (value_of Query words) (value_behind (option_word Reason) words)
+orders_with command.Audit words = orders.Audit (files_of words) (value_of Transcript words)
+orders_with command.Advise words = orders.Advise (files_of words) (value_behind (option_word Journal) words) (value_behind (option_word Workload) words)
 orders_with command.Serve words = orders.Serve (files_of words) (value_of Journal words) (value_of Address words) (stated MAX_REQUESTS words) (idle words)
+orders_with command.ServeGroups words = orders.ServeGroups (grouped_files_of words) (value_of Journal words) (value_of Address words) (stated MAX_REQUESTS words) (idle words)
 orders_with command.Replay words = orders.Replay (files_of words) (value_of Journal words) (value_of Script words) (stated USUAL_REQUESTS words)
+orders_with command.ReplayGroups words = orders.ReplayGroups (grouped_files_of words) (value_of Journal words) (value_of Script words) (stated USUAL_REQUESTS words)
 orders_with command.Demo words = orders.Demo (making_of words)
 
 abbrev pub unless_missing : Command → List (List ℕ) → Option Setting → Result Orders Usage
@@ -186,9 +227,12 @@ abbrev pub unless_wrong : Command → List (List ℕ) → Option ℕ → Result 
 unless_wrong c words None = unless_missing c words (first_missing c words)
 unless_wrong c words (Some n) = Err (Wrong n)
 
+abbrev pub with_rules : List (List ℕ) → Command → Result Orders Usage
+with_rules words c = unless_wrong c words (first_wrong c [] words)
+
 abbrev pub with_command : List (List ℕ) → Option Command → Result Orders Usage
 with_command words None = Err (Wrong 0)
-with_command words (Some c) = unless_wrong c words (first_wrong c [] words)
+with_command words (Some c) = with_rules words (ruled_as c (begin_with_groups (options_in words)))
 
 -- What the words order, with the values of the options; or what is wrong with them: no word, the first wrong word by its number
 -- from 0, or the first option that is missing.
@@ -214,6 +258,8 @@ IsMade m = (1 ≤ m.size) × (m.size ≤ MAX_SIZE)
 abbrev pub Fits : Orders → Type 0
 Fits (orders.Ask files journal stated) = 1 ≤ stated
 Fits (orders.Serve files journal address stated idle) = 1 ≤ stated
+Fits (orders.ServeGroups files journal address stated idle) = 1 ≤ stated
 Fits (orders.Replay files journal script stated) = 1 ≤ stated
+Fits (orders.ReplayGroups files journal script stated) = 1 ≤ stated
 Fits (orders.Demo making) = IsMade making
 Fits other = Unit {0}

@@ -4,15 +4,15 @@ ghost use Rattle.std.specs.Str.Parse.{digits_value};
 ghost use Rattle.cube_model.specs.Cubes.{IsIn};
 ghost use Rattle.cube_words.specs.declared.words.Command.TheVariants as command;
 ghost use Rattle.cube_words.specs.declared.words.Setting.TheVariants as setting;
-ghost use Rattle.cube_words.specs.declared.words.TheConstants.{MAX_SIZE};
-ghost use Rattle.cube_words.specs.Words.{option_word, needed as needed_by, value_behind as value_in, value_of, files_of as files_in, stated as stated_in, idle as idle_in_words, making_of as making_in, orders_with as orders_behind, out_of, IsRight, IsMade, Fits};
+ghost use Rattle.cube_words.specs.declared.words.TheConstants.{MAX_REQUESTS, MAX_SIZE};
+ghost use Rattle.cube_words.specs.Words.{option_word, needed as needed_by, value_behind as value_in, value_of, files_of as files_in, grouped_files_of as grouped_files_in, stated as stated_in, idle as idle_in_words, making_of as making_in, orders_with as orders_behind, out_of, IsRight, IsMade, Fits};
 
 use crate::words::{
     Command, MAX_REQUESTS, Setting, USUAL_IDLE, USUAL_REQUESTS, idle_in, number_in, requests_in,
     size_in, value_behind,
 };
 use cube_model::{NoMemory, Text};
-use cube_opening::CubeFiles;
+use cube_opening::{CubeFiles, RuledFiles, Rules};
 use std::alloc::Global;
 
 /// What a cube is made of.
@@ -63,6 +63,26 @@ pub enum Orders {
         journal: Text,
         out: Option<Text>,
     },
+    /// Say why a query is refused behind the history of the journal; or, where the file of a reason is named, whether that
+    /// is one.
+    Why {
+        files: CubeFiles,
+        journal: Text,
+        query: Text,
+        reason: Option<Text>,
+    },
+    /// Check what some server replied against a cube.
+    Audit {
+        files: CubeFiles,
+        transcript: Text,
+    },
+    /// Say what can be released, behind the history of a journal where one is named, and the word for each line of a workload
+    /// where one is.
+    Advise {
+        files: CubeFiles,
+        journal: Option<Text>,
+        workload: Option<Text>,
+    },
     /// Answer asks over the network, at most as many as are stated. A connection may be still for so many seconds.
     Serve {
         files: CubeFiles,
@@ -71,9 +91,24 @@ pub enum Orders {
         stated: u64,
         idle: u32,
     },
+    /// Answer the asks of groups over the network, as under `Serve`.
+    ServeGroups {
+        files: RuledFiles,
+        journal: Text,
+        address: Text,
+        stated: u64,
+        idle: u32,
+    },
     /// Play a script of connections, and answer at most as many asks as are stated.
     Replay {
         files: CubeFiles,
+        journal: Text,
+        script: Text,
+        stated: u64,
+    },
+    /// Play a script of connections to groups, as under `Replay`.
+    ReplayGroups {
+        files: RuledFiles,
         journal: Text,
         script: Text,
         stated: u64,
@@ -142,6 +177,21 @@ fn files_of(alloc: Global, words: &[Text], command: Command) -> Result<CubeFiles
     })
 }
 
+// The files of a cube whose users are in groups.
+fn grouped_files_of(alloc: Global, words: &[Text], command: Command) -> Result<RuledFiles, NoMemory>
+    requires right { IsRight command words.now }
+    requires dims { IsIn setting.Dims (needed_by command) }
+    requires facts { IsIn setting.Facts (needed_by command) }
+    requires groups { IsIn setting.Groups (needed_by command) }
+    ensures { IfOk result (λ files. files ≡ grouped_files_in words.now) }
+{
+    Ok(RuledFiles {
+        dims: needed_text(alloc, words, command, Setting::Dims)?,
+        facts: needed_text(alloc, words, command, Setting::Facts)?,
+        rules: Rules::Groups(needed_text(alloc, words, command, Setting::Groups)?),
+    })
+}
+
 // The stated number of asks, or the usual one.
 fn stated(words: &[Text], command: Command, usual: u64) -> u64
     requires right { IsRight command words.now }
@@ -159,11 +209,21 @@ fn stated(words: &[Text], command: Command, usual: u64) -> u64
     }
 }
 
+// The stated number of asks of a server, or the most.
+fn stated_to_serve(words: &[Text], command: Command) -> u64
+    requires { IsRight command words.now }
+    ensures number { result ≡ stated_in MAX_REQUESTS words.now }
+    ensures some { 1 ≤ result }
+{
+    stated(words, command, MAX_REQUESTS)
+}
+
 // For how many seconds a connection may be still.
-fn idle_of(words: &[Text]) -> u32
-    requires { IsRight command.Serve words.now }
+fn idle_of(words: &[Text], command: Command) -> u32
+    requires { IsRight command words.now }
     ensures { result ≡ idle_in_words words.now }
 {
+    let _command = command;
     match value_given(words, Setting::Idle) {
         None => USUAL_IDLE,
         Some(text) => match idle_in(text.as_slice()) {
@@ -271,6 +331,45 @@ fn compact_with(alloc: Global, words: &[Text]) -> Result<Orders, NoMemory>
     })
 }
 
+fn why_with(alloc: Global, words: &[Text]) -> Result<Orders, NoMemory>
+    requires { IsRight command.Why words.now }
+    ensures orders { IfOk result (λ orders. orders ≡ orders_behind command.Why words.now) }
+    ensures fits { IfOk result Fits }
+{
+    let command = Command::Why;
+    Ok(Orders::Why {
+        files: files_of(alloc, words, command)?,
+        journal: needed_text(alloc, words, command, Setting::Journal)?,
+        query: needed_text(alloc, words, command, Setting::Query)?,
+        reason: given_text(alloc, words, Setting::Reason)?,
+    })
+}
+
+fn audit_with(alloc: Global, words: &[Text]) -> Result<Orders, NoMemory>
+    requires { IsRight command.Audit words.now }
+    ensures orders { IfOk result (λ orders. orders ≡ orders_behind command.Audit words.now) }
+    ensures fits { IfOk result Fits }
+{
+    let command = Command::Audit;
+    Ok(Orders::Audit {
+        files: files_of(alloc, words, command)?,
+        transcript: needed_text(alloc, words, command, Setting::Transcript)?,
+    })
+}
+
+fn advise_with(alloc: Global, words: &[Text]) -> Result<Orders, NoMemory>
+    requires { IsRight command.Advise words.now }
+    ensures orders { IfOk result (λ orders. orders ≡ orders_behind command.Advise words.now) }
+    ensures fits { IfOk result Fits }
+{
+    let command = Command::Advise;
+    Ok(Orders::Advise {
+        files: files_of(alloc, words, command)?,
+        journal: given_text(alloc, words, Setting::Journal)?,
+        workload: given_text(alloc, words, Setting::Workload)?,
+    })
+}
+
 fn serve_with(alloc: Global, words: &[Text]) -> Result<Orders, NoMemory>
     requires { IsRight command.Serve words.now }
     ensures orders { IfOk result (λ orders. orders ≡ orders_behind command.Serve words.now) }
@@ -281,8 +380,23 @@ fn serve_with(alloc: Global, words: &[Text]) -> Result<Orders, NoMemory>
         files: files_of(alloc, words, command)?,
         journal: needed_text(alloc, words, command, Setting::Journal)?,
         address: needed_text(alloc, words, command, Setting::Address)?,
-        stated: stated(words, command, MAX_REQUESTS),
-        idle: idle_of(words),
+        stated: stated_to_serve(words, command),
+        idle: idle_of(words, command),
+    })
+}
+
+fn serve_groups_with(alloc: Global, words: &[Text]) -> Result<Orders, NoMemory>
+    requires { IsRight command.ServeGroups words.now }
+    ensures orders { IfOk result (λ orders. orders ≡ orders_behind command.ServeGroups words.now) }
+    ensures fits { IfOk result Fits }
+{
+    let command = Command::ServeGroups;
+    Ok(Orders::ServeGroups {
+        files: grouped_files_of(alloc, words, command)?,
+        journal: needed_text(alloc, words, command, Setting::Journal)?,
+        address: needed_text(alloc, words, command, Setting::Address)?,
+        stated: stated_to_serve(words, command),
+        idle: idle_of(words, command),
     })
 }
 
@@ -294,6 +408,20 @@ fn replay_with(alloc: Global, words: &[Text]) -> Result<Orders, NoMemory>
     let command = Command::Replay;
     Ok(Orders::Replay {
         files: files_of(alloc, words, command)?,
+        journal: needed_text(alloc, words, command, Setting::Journal)?,
+        script: needed_text(alloc, words, command, Setting::Script)?,
+        stated: stated(words, command, USUAL_REQUESTS),
+    })
+}
+
+fn replay_groups_with(alloc: Global, words: &[Text]) -> Result<Orders, NoMemory>
+    requires { IsRight command.ReplayGroups words.now }
+    ensures orders { IfOk result (λ orders. orders ≡ orders_behind command.ReplayGroups words.now) }
+    ensures fits { IfOk result Fits }
+{
+    let command = Command::ReplayGroups;
+    Ok(Orders::ReplayGroups {
+        files: grouped_files_of(alloc, words, command)?,
         journal: needed_text(alloc, words, command, Setting::Journal)?,
         script: needed_text(alloc, words, command, Setting::Script)?,
         stated: stated(words, command, USUAL_REQUESTS),
@@ -319,8 +447,13 @@ pub fn orders_with(alloc: Global, command: Command, words: &[Text]) -> Result<Or
         Command::Witness => witness_with(alloc, words),
         Command::Twin => twin_with(alloc, words),
         Command::Compact => compact_with(alloc, words),
+        Command::Why => why_with(alloc, words),
+        Command::Audit => audit_with(alloc, words),
+        Command::Advise => advise_with(alloc, words),
         Command::Serve => serve_with(alloc, words),
+        Command::ServeGroups => serve_groups_with(alloc, words),
         Command::Replay => replay_with(alloc, words),
+        Command::ReplayGroups => replay_groups_with(alloc, words),
         Command::Demo => Ok(Orders::Demo {
             making: making_of(words),
         }),

@@ -4,7 +4,7 @@ ghost use Rattle.std.specs.Char.{is_ascii_digit};
 ghost use Rattle.std.specs.List.{list_all};
 ghost use Rattle.std.specs.Str.{bytes_eq};
 ghost use Rattle.std.specs.Str.Parse.{digits_value};
-ghost use Rattle.cube_words.specs.Words.{command_word, option_word, needed as needed_by, allowed as allowed_by, is_requests, is_idle, is_number, is_size, is_wrong_value as is_wrong, command_of as command_in, is_option as is_option_of, stands_in, options_in, first_wrong as first_wrong_behind, orders_of as orders_in, value_behind as value_in, Fits};
+ghost use Rattle.cube_words.specs.Words.{command_word, option_word, needed as needed_by, allowed as allowed_by, is_requests, is_idle, is_number, is_size, is_wrong_value as is_wrong, command_of as command_in, is_option as is_option_of, stands_in, options_in, begin_with_groups, ruled_as, first_wrong as first_wrong_behind, with_rules, orders_of as orders_in, value_behind as value_in, Fits};
 
 use crate::ordered::{Orders, orders_with};
 use cube_model::{NoMemory, Text};
@@ -30,10 +30,20 @@ pub enum Command {
     Twin,
     /// Write the journal down as what its history holds.
     Compact,
+    /// Say why a query is refused, or whether a reason that was told holds.
+    Why,
+    /// Check what some server replied against a cube.
+    Audit,
+    /// Say what can be released.
+    Advise,
     /// Answer asks over the network.
     Serve,
+    /// Answer the asks of groups over the network: `serve` with a groups file.
+    ServeGroups,
     /// Play a script of connections.
     Replay,
+    /// Play a script of connections to groups: `replay` with a groups file.
+    ReplayGroups,
     /// Say what a made cube answers to made queries.
     Demo,
 }
@@ -47,10 +57,20 @@ pub enum Setting {
     Facts,
     /// The policy file.
     Policy,
+    /// The groups file, in the place of the policy file.
+    Groups,
     /// The journal.
     Journal,
     /// The cell of a measure.
     Cell,
+    /// The query of which a reason is told.
+    Query,
+    /// The file of a reason that was told.
+    Reason,
+    /// The file of what some server replied.
+    Transcript,
+    /// The file of queries that are to be judged.
+    Workload,
     /// The file that the output is put into.
     Out,
     /// The address that is listened on.
@@ -78,7 +98,7 @@ pub enum Usage {
     Missing(Setting),
 }
 
-const COMMANDS: [Command; 11] = [
+const COMMANDS: [Command; 14] = [
     Command::Help,
     Command::Version,
     Command::Sum,
@@ -87,6 +107,9 @@ const COMMANDS: [Command; 11] = [
     Command::Witness,
     Command::Twin,
     Command::Compact,
+    Command::Why,
+    Command::Audit,
+    Command::Advise,
     Command::Serve,
     Command::Replay,
     Command::Demo,
@@ -126,8 +149,11 @@ impl Command {
             Command::Witness => b"witness",
             Command::Twin => b"twin",
             Command::Compact => b"compact",
-            Command::Serve => b"serve",
-            Command::Replay => b"replay",
+            Command::Why => b"why",
+            Command::Audit => b"audit",
+            Command::Advise => b"advise",
+            Command::Serve | Command::ServeGroups => b"serve",
+            Command::Replay | Command::ReplayGroups => b"replay",
             Command::Demo => b"demo",
         }
     }
@@ -139,7 +165,22 @@ impl Command {
             Command::Help => &[],
             Command::Version => &[],
             Command::Sum => &[Setting::Facts],
-            Command::Check => &[Setting::Dims, Setting::Facts, Setting::Policy],
+            Command::Check | Command::Advise => {
+                &[Setting::Dims, Setting::Facts, Setting::Policy]
+            }
+            Command::Audit => &[
+                Setting::Dims,
+                Setting::Facts,
+                Setting::Policy,
+                Setting::Transcript,
+            ],
+            Command::Why => &[
+                Setting::Dims,
+                Setting::Facts,
+                Setting::Policy,
+                Setting::Journal,
+                Setting::Query,
+            ],
             Command::Ask | Command::Compact => &[
                 Setting::Dims,
                 Setting::Facts,
@@ -160,10 +201,24 @@ impl Command {
                 Setting::Journal,
                 Setting::Address,
             ],
+            Command::ServeGroups => &[
+                Setting::Dims,
+                Setting::Facts,
+                Setting::Groups,
+                Setting::Journal,
+                Setting::Address,
+            ],
             Command::Replay => &[
                 Setting::Dims,
                 Setting::Facts,
                 Setting::Policy,
+                Setting::Journal,
+                Setting::Script,
+            ],
+            Command::ReplayGroups => &[
+                Setting::Dims,
+                Setting::Facts,
+                Setting::Groups,
                 Setting::Journal,
                 Setting::Script,
             ],
@@ -200,6 +255,27 @@ impl Command {
                 Setting::Journal,
                 Setting::Out,
             ],
+            Command::Why => &[
+                Setting::Dims,
+                Setting::Facts,
+                Setting::Policy,
+                Setting::Journal,
+                Setting::Query,
+                Setting::Reason,
+            ],
+            Command::Audit => &[
+                Setting::Dims,
+                Setting::Facts,
+                Setting::Policy,
+                Setting::Transcript,
+            ],
+            Command::Advise => &[
+                Setting::Dims,
+                Setting::Facts,
+                Setting::Policy,
+                Setting::Journal,
+                Setting::Workload,
+            ],
             Command::Serve => &[
                 Setting::Dims,
                 Setting::Facts,
@@ -209,10 +285,27 @@ impl Command {
                 Setting::Requests,
                 Setting::Idle,
             ],
+            Command::ServeGroups => &[
+                Setting::Dims,
+                Setting::Facts,
+                Setting::Groups,
+                Setting::Journal,
+                Setting::Address,
+                Setting::Requests,
+                Setting::Idle,
+            ],
             Command::Replay => &[
                 Setting::Dims,
                 Setting::Facts,
                 Setting::Policy,
+                Setting::Journal,
+                Setting::Script,
+                Setting::Requests,
+            ],
+            Command::ReplayGroups => &[
+                Setting::Dims,
+                Setting::Facts,
+                Setting::Groups,
                 Setting::Journal,
                 Setting::Script,
                 Setting::Requests,
@@ -231,8 +324,13 @@ impl Setting {
             Setting::Dims => b"--dims",
             Setting::Facts => b"--facts",
             Setting::Policy => b"--policy",
+            Setting::Groups => b"--groups",
             Setting::Journal => b"--journal",
             Setting::Cell => b"--cell",
+            Setting::Query => b"--query",
+            Setting::Reason => b"--reason",
+            Setting::Transcript => b"--transcript",
+            Setting::Workload => b"--workload",
             Setting::Out => b"--out",
             Setting::Address => b"--address",
             Setting::Script => b"--script",
@@ -257,6 +355,31 @@ fn command_of(word: &[u8]) -> Option<Command>
         .iter()
         .copied()
         .find(|command| has_word(*command, word))
+}
+
+// Whether a groups file is named before any policy file, among words behind a command.
+fn names_groups(words: &[Text]) -> bool
+    ensures { result ≡ begin_with_groups (options_in words.now) }
+{
+    match words {
+        [] => false,
+        [option] => option.as_slice() == Setting::Groups.word(),
+        [option, _, more @ ..] => {
+            let word = option.as_slice();
+            word != Setting::Policy.word() && (word == Setting::Groups.word() || names_groups(more))
+        }
+    }
+}
+
+// What a command is with these words behind it.
+fn with_groups(command: Command, words: &[Text]) -> Command
+    ensures { result ≡ ruled_as command (begin_with_groups (options_in words.now)) }
+{
+    match command {
+        Command::Serve if names_groups(words) => Command::ServeGroups,
+        Command::Replay if names_groups(words) => Command::ReplayGroups,
+        other => other,
+    }
 }
 
 fn is_option(command: Command, word: &[u8]) -> bool
@@ -382,6 +505,24 @@ fn first_lacking(settings: &[Setting], words: &[Text]) -> Option<Setting>
         .find(|setting| is_lacking(*setting, words))
 }
 
+// What a command orders with these words behind it, or what is wrong with them.
+fn orders_as(
+    alloc: Global,
+    command: Command,
+    words: &[Text],
+) -> Result<Result<Orders, Usage>, NoMemory>
+    ensures orders { IfOk result (λ given. given ≡ with_rules words.now command) }
+    ensures fits { IfOk result (λ given. IfOk given Fits) }
+{
+    if let Some(number) = first_wrong(command, words, 0) {
+        return Ok(Err(Usage::Wrong(number)));
+    }
+    match first_lacking(command.needed(), words) {
+        None => Ok(Ok(orders_with(alloc, command, words)?)),
+        Some(setting) => Ok(Err(Usage::Missing(setting))),
+    }
+}
+
 /// What the words order, or what is wrong with them.
 pub fn orders_of(alloc: Global, words: &[Text]) -> Result<Result<Orders, Usage>, NoMemory>
     ensures orders { IfOk result (λ given. given ≡ orders_in words.now) }
@@ -390,15 +531,9 @@ pub fn orders_of(alloc: Global, words: &[Text]) -> Result<Result<Orders, Usage>,
     let [word, more @ ..] = words else {
         return Ok(Err(Usage::NoCommand));
     };
-    let Some(command) = command_of(word.as_slice()) else {
-        return Ok(Err(Usage::Wrong(0)));
-    };
-    if let Some(number) = first_wrong(command, more, 0) {
-        return Ok(Err(Usage::Wrong(number)));
-    }
-    match first_lacking(command.needed(), more) {
-        None => Ok(Ok(orders_with(alloc, command, more)?)),
-        Some(setting) => Ok(Err(Usage::Missing(setting))),
+    match command_of(word.as_slice()) {
+        None => Ok(Err(Usage::Wrong(0))),
+        Some(command) => orders_as(alloc, with_groups(command, more), more),
     }
 }
 

@@ -1,4 +1,4 @@
-use Rattle.std.proofs.Common.{◌≡◌, ◌∙◌, ◌++◌, ℕ, List, length, inl, inr, refl, sym, ap, subst, IsTrue}
+use Rattle.std.proofs.Common.{◌∙◌, ◌++◌, ℕ, List, inl, inr, refl, sym, ap, subst, IsTrue}
 use Rattle.std.specs.Prelude.{codes}
 use Rattle.cube_io.specs.Causes.{RoseBy}
 use Rattle.cube_io.specs.Desks.{faults_in}
@@ -7,7 +7,6 @@ use Rattle.cube_io.specs.declared.store.TheConstants.{SEAL_LOG}
 use Rattle.cube_engine.specs.Engines.{Engine}
 use Rattle.cube_talk.specs.Asks.{Talk}
 use Rattle.cube_talk.specs.Crashes.{TalkedOver}
-use Rattle.cube_app.specs.Texts.{ending_text}
 use Rattle.cube_serving.proofs.Started.{opened, still_open}
 use Rattle.cube_serving.proofs.Sealing.{seal_is_other}
 use Rattle.cube_serving.proofs.Unopened.{not_nine}

@@ -3,7 +3,7 @@ use Rattle.cube_io.specs.Seen.{seen}
 use Rattle.cube_app.specs.Cells.{TellRun}
 use Rattle.cube_app.specs.declared.cells.Telling.TheVariants as telling
 use Rattle.cube_words.specs.declared.ordered.Orders.TheVariants as orders
-use Rattle.cube_app.proofs.Ordered.{obeyed_as}
+use Rattle.cube_app.proofs.Ordered.{obeyed_as, only_first}
 use Rattle.cube_app.proofs.run.obey.Goals as goal
 
 pub returns-in-Help : goal.returns-in-Help
@@ -22,7 +22,7 @@ returns-in-Help g c =
         wire_steady = λ no. refl;
       };
       ordered = x.words;
-      others = λ told k zero seal. refl;
+      others = λ told k far seal. refl;
     })
 
 pub returns-in-Version : goal.returns-in-Version
@@ -41,7 +41,7 @@ returns-in-Version g c =
         wire_steady = λ no. refl;
       };
       ordered = x.words;
-      others = λ told k zero seal. refl;
+      others = λ told k far seal. refl;
     })
 
 pub returns-in-Sum : goal.returns-in-Sum
@@ -60,7 +60,7 @@ returns-in-Sum g c =
         wire_steady = λ no. refl;
       };
       ordered = x.words;
-      others = λ told k zero seal. ap (λ s. (g.S.Store.state s).logs k) x.store;
+      others = λ told k far seal. ap (λ s. (g.S.Store.state s).logs k) x.store;
     })
 
 pub returns-in-Check : goal.returns-in-Check
@@ -79,7 +79,7 @@ returns-in-Check g c =
         wire_steady = λ no. refl;
       };
       ordered = x.words;
-      others = λ told k zero seal. refl;
+      others = λ told k far seal. refl;
     })
 
 pub returns-in-Ask : goal.returns-in-Ask
@@ -98,7 +98,7 @@ returns-in-Ask g c =
         wire_steady = λ no. refl;
       };
       ordered = x.words;
-      others = x.others;
+      others = only_first (g.S.Store.state c.args.store.now) (g.S.Store.state c.ask.new.store) x.others;
     })
 
 pub returns-in-Witness : goal.returns-in-Witness
@@ -117,7 +117,7 @@ returns-in-Witness g c =
         wire_steady = λ no. refl;
       };
       ordered = x.words;
-      others = x.others;
+      others = only_first (g.S.Store.state c.args.store.now) (g.S.Store.state c.tell.new.store) x.others;
     })
 
 pub returns-in-Twin : goal.returns-in-Twin
@@ -136,7 +136,7 @@ returns-in-Twin g c =
         wire_steady = λ no. refl;
       };
       ordered = x.words;
-      others = x.others;
+      others = only_first (g.S.Store.state c.args.store.now) (g.S.Store.state c.tell-in-Twin.new.store) x.others;
     })
 
 pub returns-in-Compact : goal.returns-in-Compact
@@ -156,13 +156,89 @@ returns-in-Compact g c =
         wire_steady = λ no. refl;
       };
       ordered = x.words;
-      others = x.others;
+      others = only_first (g.S.Store.state c.args.store.now) (g.S.Store.state c.tell-in-Compact.new.store) x.others;
+    })
+
+pub returns-in-Why : goal.returns-in-Why
+returns-in-Why g c =
+    let x = c.say_why.ensures in
+    obeyed_as c.args.orders (orders.Why c.in-Why.cube c.in-Why.journal c.in-Why.query c.in-Why.reason) c.in-Why.is (record {
+      does = x.run;
+      leaves = (refl, refl, x.outcomes);
+      causes = record {
+        unreadable = λ is. inl (x.unreadable is, refl);
+        output = x.output;
+        unheard = λ is. absurd (x.wire is);
+        unkept = λ is. (x.unkept is, x.outcomes);
+        steady = λ no. (x.steady no, refl);
+        output_steady = x.output_steady;
+        wire_steady = λ no. refl;
+      };
+      ordered = x.words;
+      others = only_first (g.S.Store.state c.args.store.now) (g.S.Store.state c.say_why.new.store) x.others;
+    })
+
+pub returns-in-Audit : goal.returns-in-Audit
+returns-in-Audit g c =
+    let x = c.audit.ensures in
+    obeyed_as c.args.orders (orders.Audit c.in-Audit.cube c.in-Audit.transcript) c.in-Audit.is (record {
+      does = record { answers = x.answers; complete = x.complete };
+      leaves = (refl, refl, refl, x.outcomes);
+      causes = record {
+        unreadable = λ is. inl (x.unreadable is, refl);
+        output = x.output;
+        unheard = λ is. absurd (x.wire is);
+        unkept = λ is. absurd (x.store is);
+        steady = λ no. (x.steady no, refl);
+        output_steady = x.output_steady;
+        wire_steady = λ no. refl;
+      };
+      ordered = x.words;
+      others = λ told k far seal. refl;
+    })
+
+pub returns-in-Advise : goal.returns-in-Advise
+returns-in-Advise g c =
+    let x = c.advise.ensures in
+    obeyed_as c.args.orders (orders.Advise c.in-Advise.cube c.in-Advise.journal c.in-Advise.workload) c.in-Advise.is (record {
+      does = record { answers = x.answers; named = x.names; few_calls = x.calls; complete = x.complete };
+      leaves = (refl, refl, x.outcomes);
+      causes = record {
+        unreadable = λ is. inl (x.unreadable is, refl);
+        output = x.output;
+        unheard = λ is. absurd (x.wire is);
+        unkept = λ is. (x.unkept is, x.outcomes);
+        steady = λ no. (x.steady no, refl);
+        output_steady = x.output_steady;
+        wire_steady = λ no. refl;
+      };
+      ordered = x.words;
+      others = only_first (g.S.Store.state c.args.store.now) (g.S.Store.state c.advise.new.store) x.others;
     })
 
 pub returns-in-Serve : goal.returns-in-Serve
 returns-in-Serve g c =
     let x = c.serve_cube.ensures in
     obeyed_as c.args.orders (orders.Serve c.in-Serve.cube c.in-Serve.journal c.in-Serve.address c.in-Serve.stated c.in-Serve.idle) c.in-Serve.is (record {
+      does = record { answers = x.answers; named = x.names; few_calls = x.calls; listened = x.heard; memory = x.memory; complete = x.complete };
+      leaves = (refl, refl);
+      causes = record {
+        unreadable = λ is. inl (x.unreadable is, refl);
+        output = λ is. absurd (x.output is);
+        unheard = x.unheard;
+        unkept = x.unkept;
+        steady = λ no. (x.steady no, refl);
+        output_steady = λ no. refl;
+        wire_steady = x.wire_steady;
+      };
+      ordered = x.words;
+      others = only_first (g.S.Store.state c.args.store.now) (g.S.Store.state c.serve_cube.new.store) x.others;
+    })
+
+pub returns-in-ServeGroups : goal.returns-in-ServeGroups
+returns-in-ServeGroups g c =
+    let x = c.serve_grouped.ensures in
+    obeyed_as c.args.orders (orders.ServeGroups c.in-ServeGroups.cube c.in-ServeGroups.journal c.in-ServeGroups.address c.in-ServeGroups.stated c.in-ServeGroups.idle) c.in-ServeGroups.is (record {
       does = record { answers = x.answers; named = x.names; few_calls = x.calls; listened = x.heard; memory = x.memory; complete = x.complete };
       leaves = (refl, refl);
       causes = record {
@@ -194,6 +270,25 @@ returns-in-Replay g c =
         wire_steady = λ no. refl;
       };
       ordered = x.words;
+      others = only_first (g.S.Store.state c.args.store.now) (g.S.Store.state c.replay_cube.new.store) x.others;
+    })
+
+pub returns-in-ReplayGroups : goal.returns-in-ReplayGroups
+returns-in-ReplayGroups g c =
+    let x = c.replay_grouped.ensures in
+    obeyed_as c.args.orders (orders.ReplayGroups c.in-ReplayGroups.cube c.in-ReplayGroups.journal c.in-ReplayGroups.script c.in-ReplayGroups.stated) c.in-ReplayGroups.is (record {
+      does = record { answers = x.answers; named = x.names; few_calls = x.calls; memory = x.memory; complete = x.complete };
+      leaves = (refl, refl);
+      causes = record {
+        unreadable = λ is. inl (x.unreadable is, refl);
+        output = x.output;
+        unheard = λ is. absurd (x.wire is);
+        unkept = x.unkept;
+        steady = λ no. (x.steady no, refl);
+        output_steady = x.output_steady;
+        wire_steady = λ no. refl;
+      };
+      ordered = x.words;
       others = x.others;
     })
 
@@ -213,5 +308,5 @@ returns-in-Demo g c =
         wire_steady = λ no. refl;
       };
       ordered = x.words;
-      others = λ told k zero seal. refl;
+      others = λ told k far seal. refl;
     })

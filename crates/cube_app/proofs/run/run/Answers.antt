@@ -1,6 +1,6 @@
-use Rattle.std.proofs.Common.{refl}
+use Rattle.std.proofs.Common.{◌∙◌, refl, sym}
 use Rattle.cube_words.specs.Words.{orders_of}
-use Rattle.cube_app.proofs.Ordered.{not_begun}
+use Rattle.cube_app.proofs.Ordered.{not_begun, run_as}
 use Rattle.cube_app.proofs.TwinFiles.{twin_talks_are_the_same, twin_logs_are_the_same}
 use Rattle.cube_app.proofs.run.run.Goals as goal
 
@@ -30,3 +30,6 @@ returns-in-Ok-Ok-clause-talks g c = twin_talks_are_the_same
 
 pub returns-in-Ok-Ok-clause-logs : goal.returns-in-Ok-Ok-clause-logs
 returns-in-Ok-Ok-clause-logs g c = twin_logs_are_the_same
+
+pub returns-in-Ok-Ok-clause-run : goal.returns-in-Ok-Ok-clause-run
+returns-in-Ok-Ok-clause-run g c = run_as c.args.words.now (orders_of c.args.words.now) c.in-Ok-Ok.orders (sym c.in-Ok-Ok.field-0-is ∙ c.in-Ok-Ok.ensures.orders) c.obey.ensures

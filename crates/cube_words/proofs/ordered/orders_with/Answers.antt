@@ -17,3 +17,18 @@ replay_with-requires c = subst (λ (x : Command). IsRight x c.args.words.now) c.
 
 pub compact_with-requires : goal.compact_with-requires
 compact_with-requires c = subst (λ (x : Command). IsRight x c.args.words.now) c.in-Compact.is c.requires
+
+pub serve_groups_with-requires : goal.serve_groups_with-requires
+serve_groups_with-requires c = subst (λ (x : Command). IsRight x c.args.words.now) c.in-ServeGroups.is c.requires
+
+pub replay_groups_with-requires : goal.replay_groups_with-requires
+replay_groups_with-requires c = subst (λ (x : Command). IsRight x c.args.words.now) c.in-ReplayGroups.is c.requires
+
+pub why_with-requires : goal.why_with-requires
+why_with-requires c = subst (λ (x : Command). IsRight x c.args.words.now) c.in-Why.is c.requires
+
+pub audit_with-requires : goal.audit_with-requires
+audit_with-requires c = subst (λ (x : Command). IsRight x c.args.words.now) c.in-Audit.is c.requires
+
+pub advise_with-requires : goal.advise_with-requires
+advise_with-requires c = subst (λ (x : Command). IsRight x c.args.words.now) c.in-Advise.is c.requires

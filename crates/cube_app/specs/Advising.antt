@@ -1,0 +1,151 @@
+-- All that `advise` does.
+use Rattle.std.specs.Prelude.{◌≡◌, ◌⊎◌, ◌↔◌, ◌≤◌, ◌<◌, ◌+◌, ⊤, ℕ, true, IsTrue, List, [], ◌∷◌, ◌++◌, length, codes, if◌then◌else◌, IfSome, IsSomeAnd, Option, Some, None}
+use Rattle.std.specs.declared.result.Result.{Result}
+use Rattle.std.specs.declared.result.Result.TheVariants.{Ok, Err}
+use Rattle.cube_model.specs.declared.entry.Entry.{Entry}
+use Rattle.cube_model.specs.declared.policy.Method.TheVariants.{Lattice, Parity}
+use Rattle.cube_model.specs.declared.policy.Policy.{Policy}
+use Rattle.cube_model.specs.declared.request.Request.{Request}
+use Rattle.cube_model.specs.Cores.{Core, shown}
+use Rattle.cube_model.specs.Entries.{requests}
+use Rattle.cube_model.specs.Protection.{method}
+use Rattle.cube_model.specs.Requests.{grain, asks, is_valid}
+use Rattle.cube_model.specs.Verdicts.{most_held, verdict}
+use Rattle.cube_advise.specs.Holdings.{links_held, most_links}
+use Rattle.cube_advise.specs.Lines.{is_workload}
+use Rattle.cube_advise.specs.Open.{finest_open}
+use Rattle.cube_advise.specs.OpenLaws.{AreFinestOpen, IsAbove, IsAnswered}
+use Rattle.cube_advise.specs.Telling.{first_text, later_text}
+use Rattle.cube_engine.specs.Kept.{IsExact}
+use Rattle.cube_io.specs.Causes.{Rose}
+use Rattle.cube_io.specs.Seen.{FolderState, SinkState, StoreState, Seen, Unused}
+use Rattle.cube_opening.specs.Opening.{unless_long, FileSays, EndsAt, EndsUnopened, GotBehind, Make, HasAll, names_of}
+use Rattle.cube_opening.specs.Reports.{IsReport, IsDone, Prints}
+use Rattle.cube_opening.specs.declared.cube_files.CubeFiles.{CubeFiles}
+use Rattle.cube_opening.specs.declared.report.Report.{Report}
+use Rattle.cube_serving.specs.Starting.{EndsUnstarted, IsOpen, Recovers, HasJournal}
+use Rattle.cube_app.specs.Ends.{AsksJournal}
+
+-- ---- the workload
+
+-- a workload has few lines
+abbrev pub unless_many : List ℕ → Result (List ℕ) (List ℕ)
+unless_many bytes = if is_workload bytes then Ok bytes else Err (codes "workload: limit lines 1000000\n")
+
+-- the bytes of a workload, or the text on why it is refused
+abbrev pub workload_said : List ℕ → Result (List ℕ) (List ℕ)
+workload_said bytes = unless_long (codes "workload") bytes (unless_many bytes)
+
+-- where a workload is named, it has these bytes and few lines; where none is, there are no bytes
+abbrev pub WorkloadSays : Option (List ℕ) → FolderState → Option (List ℕ) → Type 0
+WorkloadSays None files None = ⊤
+WorkloadSays None files (Some bytes) = ⊥
+WorkloadSays (Some name) files None = ⊥
+WorkloadSays (Some name) files (Some bytes) = (is_workload bytes ≡ true) × IfSome files.files (λ known. FileSays workload_said name known (Ok bytes))
+
+-- the workload is there and is accepted, where one is named
+abbrev pub HasWorkload : Option (List ℕ) → FolderState → Type 0
+HasWorkload None files = ⊤
+HasWorkload (Some name) files = IsSomeAnd files.files (λ known. (bytes : List ℕ) × FileSays workload_said name known (Ok bytes))
+
+-- the names of all files, in the turn in which they are read
+abbrev pub named_with : CubeFiles → Option (List ℕ) → List (List ℕ)
+named_with cube None = names_of cube
+named_with cube (Some name) = names_of cube ++ name ∷ []
+
+-- a run ended at the workload, behind files of those names
+abbrev pub EndsAtWorkload : {F : Type 0} → List (List ℕ) → Option (List ℕ) → Seen FolderState F → Report → Type 0
+EndsAtWorkload earlier None files r = ⊥
+EndsAtWorkload earlier (Some name) files r = EndsAt earlier workload_said name files r
+
+-- the three files make a core and a policy, and the run ended at the workload
+pub record Unworked {F : Type 0} (cube : CubeFiles) (workload : Option (List ℕ)) (files : Seen FolderState F) (r : Report) : Type 0 where
+  pub core : Core
+  pub policy : Policy
+  pub files_make : Make cube files.before core policy
+  pub ends : EndsAtWorkload (names_of cube) workload files r
+
+-- a run ended at its files: at one of the cube, or at the workload
+abbrev pub EndsUnread : {F : Type 0} → CubeFiles → Option (List ℕ) → Seen FolderState F → Report → Type 0
+EndsUnread cube workload files r = EndsUnopened cube files r ⊎ Unworked cube workload files r
+
+-- ---- what is said
+
+-- What the text tells behind a history: the listed cuboids of a measure are the finest open ones; a request on a lattice measure is
+-- answered exactly where its grain is coarser than or equal to a listed cuboid, while the history is not full; and of no parity measure
+-- more links are held than are said to be the most.
+pub record IsAdvice (core : Core) (policy : Policy) (h : List Entry) : Type 0 where
+  pub finest : (m : ℕ) → AreFinestOpen (shown core policy) h m
+  pub answered : (r : Request) (m : ℕ) → method (shown core policy) m ≡ Lattice → is_valid (shown core policy) r ≡ true → asks m r ≡ true → length (requests h) < most_held
+      → IsAnswered (verdict (shown core policy) h r) ↔ IsAbove (grain r) (finest_open (shown core policy) h m)
+  pub links : (m : ℕ) → method (shown core policy) m ≡ Parity → links_held (shown core policy) h m ≤ most_links (shown core policy) m
+
+-- ---- the run
+
+-- the text was put on the sink, unless memory ran out
+abbrev pub Puts : {O : Type 0} → List ℕ → Seen SinkState O → Report → Type 0
+Puts text out r = Prints text out r ⊎ (IsReport 7 (codes "no memory\n") r × (out.after.written ≡ out.before.written))
+
+-- It was put what can be released from the cube of the files before anything is asked, and the words for the lines of the workload.
+pub record Advised {O : Type 0} (cube : CubeFiles) (workload : Option (List ℕ)) (files : FolderState) (out : Seen SinkState O) (r : Report) : Type 0 where
+  pub core : Core
+  pub policy : Policy
+  pub files_make : Make cube files core policy
+  pub bytes : Option (List ℕ)
+  pub said : WorkloadSays workload files bytes
+  pub is : IsAdvice core policy []
+  pub puts : Puts (first_text core policy bytes) out r
+
+-- It was put what can be released behind the history of an open cube, which stays: every crash leaves it, and at each moment the log is as
+-- at entry, or every crash leaves what recovers the same.
+pub record AdvisedLater {S O : Type 0} (cube : CubeFiles) (workload : Option (List ℕ)) (files : FolderState) (store : Seen StoreState S) (out : Seen SinkState O) (r : Report) : Type 0 where
+  pub core : Core
+  pub policy : Policy
+  pub facts : List ℕ
+  pub history : List Entry
+  pub opened : IsOpen cube files store core policy facts history
+  pub bytes : Option (List ℕ)
+  pub said : WorkloadSays workload files bytes
+  pub is : IsAdvice core policy history
+  pub puts : Puts (later_text core policy history bytes) out r
+  pub passed : Recovers core policy store
+  pub exact : IsTrue store.before.told → IsExact core policy history (store.after.logs 0).state
+
+-- a run without a journal ends at its files, or it advises
+abbrev pub FirstEnds : {F O : Type 0} → CubeFiles → Option (List ℕ) → Seen FolderState F → Seen SinkState O → Report → Type 0
+FirstEnds cube workload files out r =
+    (EndsUnread cube workload files r × Unused out)
+    ⊎ (Advised cube workload files.before out r × GotBehind (named_with cube workload) files)
+
+-- a run with a journal ends at its files, or at the journal, or it advises
+abbrev pub LaterEnds : {F S O : Type 0} → CubeFiles → Option (List ℕ) → Seen FolderState F → Seen StoreState S → Seen SinkState O → Report → Type 0
+LaterEnds cube workload files store out r =
+    (EndsUnread cube workload files r × Unused store × Unused out)
+    ⊎ (EndsUnstarted cube files.before store r × GotBehind (named_with cube workload) files × Unused out)
+    ⊎ (AdvisedLater cube workload files.before store out r × GotBehind (named_with cube workload) files)
+
+abbrev pub AdviseEnds : {F S O : Type 0} → CubeFiles → Option (List ℕ) → Option (List ℕ) → Seen FolderState F → Seen StoreState S → Seen SinkState O → Report → Type 0
+AdviseEnds cube None workload files store out r = FirstEnds cube workload files out r × Unused store
+AdviseEnds cube (Some journal) workload files store out r = LaterEnds cube workload files store out r
+
+-- the store is asked for the journal alone, where one is named
+abbrev pub AsksIfNamed : {S : Type 0} → Option (List ℕ) → Seen StoreState S → Report → Type 0
+AsksIfNamed None store r = Unused store
+AsksIfNamed (Some journal) store r = AsksJournal journal store r
+
+-- the journal is accepted, where one is named
+abbrev pub HasNamed : CubeFiles → Option (List ℕ) → FolderState → StoreState → Type 0
+HasNamed cube None files store = ⊤
+HasNamed cube (Some journal) files store = HasJournal cube files store
+
+-- where the files, the workload and the journal are accepted and no count rose, all is done
+abbrev pub AdviseCompletes : {F S O : Type 0} → CubeFiles → Option (List ℕ) → Option (List ℕ) → Seen FolderState F → Seen StoreState S → Seen SinkState O → Report → Type 0
+AdviseCompletes cube journal workload files store out r = HasAll cube files.before → HasWorkload workload files.before → HasNamed cube journal files.before store.before
+    → ¬ Rose files.before.faults files.after.faults → ¬ Rose store.before.faults store.after.faults → ¬ Rose out.before.faults out.after.faults → IsDone r
+
+-- All that `advise` does with these files, this journal, if any, and this workload, if any. Where nothing is told, nothing is put.
+pub record AdviseRun {F S O : Type 0} (cube : CubeFiles) (journal workload : Option (List ℕ)) (files : Seen FolderState F) (store : Seen StoreState S) (out : Seen SinkState O) (r : Report) : Type 0 where
+  pub answers : AdviseEnds cube journal workload files store out r
+  pub named : AsksIfNamed journal store r
+  pub few_calls : IsTrue store.before.told → store.after.calls ≤ store.before.calls + 11
+  pub complete : AdviseCompletes cube journal workload files store out r

@@ -1,0 +1,181 @@
+-- All that `why` does: it says why a query is refused, or whether a text says so.
+use Rattle.std.specs.Prelude.{◌≡◌, ◌⊎◌, ◌≤◌, ◌+◌, ◌↔◌, ⊤, ℕ, Bool, true, IsTrue, IsOk, List, ◌++◌, codes, if◌then◌else◌, IfSome, IsSomeAnd, Option, Some, None}
+use Rattle.std.specs.declared.result.Result.{Result}
+use Rattle.std.specs.declared.result.Result.TheVariants.{Ok, Err}
+use Rattle.cube_model.specs.declared.entry.Entry.{Entry}
+use Rattle.cube_model.specs.declared.policy.Policy.{Policy}
+use Rattle.cube_model.specs.declared.request.Request.{Request}
+use Rattle.cube_model.specs.Cores.{Core, shown}
+use Rattle.cube_model.specs.Verdicts.{verdict}
+use Rattle.cube_io.specs.Causes.{Rose}
+use Rattle.cube_io.specs.Seen.{FolderState, SinkState, StoreState, Seen, Unused}
+use Rattle.cube_query.specs.Faults.{request_of, fault_body}
+use Rattle.cube_query.specs.declared.fault.RequestFault.{RequestFault}
+use Rattle.cube_reason.specs.Showing.{IsWhy, Shows}
+use Rattle.cube_engine.specs.Kept.{IsExact}
+use Rattle.cube_opening.specs.Opening.{EndsAt, FileSays, GotBehind, HasAll, Make, names_of, unless_long}
+use Rattle.cube_opening.specs.Reports.{IsReport, IsDone, NoRoom, Prints}
+use Rattle.cube_opening.specs.declared.cube_files.CubeFiles.{CubeFiles}
+use Rattle.cube_opening.specs.declared.report.Report.{Report}
+use Rattle.cube_serving.specs.Replaying.{all_names}
+use Rattle.cube_serving.specs.Starting.{EndsClosed, IsOpen, Recovers, HasJournal}
+use Rattle.cube_app.specs.Ends.{AsksJournal}
+use Rattle.cube_app.specs.declared.reasons.Unsaid.{Unsaid}
+use Rattle.cube_app.specs.declared.reasons.Unsaid.TheVariants.{Query, NoMemory}
+
+-- ---- what is said of a query
+
+-- the query is no request, by the line that the reply to it has
+pub record Unasked (core : Core) (query line : List ℕ) : Type 0 where
+  pub fault : RequestFault
+  pub unread : request_of core.dims query ≡ Err fault
+  pub line_is : line ≡ fault_body fault
+
+-- a request that the query is, and why it is refused behind a history
+pub record SaysWhy (core : Core) (policy : Policy) (h : List Entry) (query text : List ℕ) : Type 0 where
+  pub request : Request
+  pub read : request_of core.dims query ≡ Ok request
+  pub why : IsWhy core.dims (shown core policy) h request (verdict (shown core policy) h request) text
+
+abbrev pub accepted_text : Bool → List ℕ
+accepted_text taken = if taken then codes "accepted\n" else codes "not accepted\n"
+
+-- a text is accepted exactly where it is the line of the refusal of a request and behind it the lines of a reason, and this is said
+pub record Accepts (core : Core) (policy : Policy) (h : List Entry) (request : Request) (reason text : List ℕ) : Type 0 where
+  pub taken : Bool
+  pub exact : (taken ≡ true) ↔ Shows core.dims (shown core policy) h request (verdict (shown core policy) h request) reason
+  pub text_is : text ≡ accepted_text taken
+
+-- a request that the query is, and whether a text is accepted for it
+pub record SaysWhether (core : Core) (policy : Policy) (h : List Entry) (query reason text : List ℕ) : Type 0 where
+  pub request : Request
+  pub read : request_of core.dims query ≡ Ok request
+  pub accepts : Accepts core policy h request reason text
+
+abbrev pub IsWhyOf : Core → Policy → List Entry → List ℕ → Result (List ℕ) (List ℕ) → Type 0
+IsWhyOf core policy h query (Ok text) = SaysWhy core policy h query text
+IsWhyOf core policy h query (Err line) = Unasked core query line
+
+abbrev pub IsWhetherOf : Core → Policy → List Entry → List ℕ → List ℕ → Result (List ℕ) (List ℕ) → Type 0
+IsWhetherOf core policy h query reason (Ok text) = SaysWhether core policy h query reason text
+IsWhetherOf core policy h query reason (Err line) = Unasked core query line
+
+-- the text was put on the sink, or the query is refused with the line and nothing is put
+abbrev pub Says : {O : Type 0} → Result (List ℕ) (List ℕ) → Seen SinkState O → Report → Type 0
+Says (Ok text) out r = Prints text out r
+Says (Err line) out r = (IsReport 3 (codes "query: " ++ line) r ⊎ NoRoom r) × (out.after.written ≡ out.before.written)
+
+-- ---- why nothing is said
+
+-- the line is that of the reply to this fault, or memory ran out
+abbrev pub IsUnread : RequestFault → Unsaid → Type 0
+IsUnread fault (Query line) = line ≡ fault_body fault
+IsUnread fault NoMemory = ⊤
+
+-- the query is no request, or memory ran out
+abbrev pub IsUnsaid : Core → List ℕ → Unsaid → Type 0
+IsUnsaid core query (Query line) = Unasked core query line
+IsUnsaid core query NoMemory = ⊤
+
+-- a report on what is said of a query, or on why nothing is
+abbrev pub SaysSo : {O : Type 0} → Result (List ℕ) Unsaid → Seen SinkState O → Report → Type 0
+SaysSo (Ok text) out r = Says (Ok text) out r
+SaysSo (Err (Query line)) out r = Says (Err line) out r
+SaysSo (Err NoMemory) out r = IsReport 7 (codes "no memory\n") r × (out.after.written ≡ out.before.written)
+
+-- Of these something was said, unless memory ran out before.
+abbrev pub SaysOne : {O : Type 0} → (Result (List ℕ) (List ℕ) → Type 0) → Seen SinkState O → Report → Type 0
+SaysOne Is out r =
+    ((said : Result (List ℕ) (List ℕ)) × Is said × Says said out r)
+    ⊎ (IsReport 7 (codes "no memory\n") r × (out.after.written ≡ out.before.written))
+
+-- ---- why
+
+-- It was said why by an open cube and its history, which stays: every crash leaves it, and at each moment the log is as at entry, or every
+-- crash leaves what recovers the same.
+pub record ToldWhy {S O : Type 0} (cube : CubeFiles) (query : List ℕ) (files : FolderState) (store : Seen StoreState S) (out : Seen SinkState O) (r : Report) : Type 0 where
+  pub core : Core
+  pub policy : Policy
+  pub facts : List ℕ
+  pub history : List Entry
+  pub opened : IsOpen cube files store core policy facts history
+  pub says : SaysOne (IsWhyOf core policy history query) out r
+  pub passed : Recovers core policy store
+  pub exact : IsTrue store.before.told → IsExact core policy history (store.after.logs 0).state
+
+-- the query is a request over each core that the files make
+abbrev pub IsQuery : CubeFiles → List ℕ → FolderState → Type 0
+IsQuery cube query files = (core : Core) (policy : Policy) → Make cube files core policy → IsOk (request_of core.dims query)
+
+-- a run that is to say why ends before its cube is open, or it says so
+abbrev pub WhyEnds : {F S O : Type 0} → CubeFiles → List ℕ → Seen FolderState F → Seen StoreState S → Seen SinkState O → Report → Type 0
+WhyEnds cube query files store out r =
+    (EndsClosed cube (names_of cube) files store r × Unused out)
+    ⊎ (ToldWhy cube query files.before store out r × GotBehind (names_of cube) files)
+
+-- where the files, the journal and the query are accepted and no count rose, all is done
+abbrev pub WhyCompletes : {F S O : Type 0} → CubeFiles → List ℕ → Seen FolderState F → Seen StoreState S → Seen SinkState O → Report → Type 0
+WhyCompletes cube query files store out r = HasAll cube files.before → HasJournal cube files.before store.before → IsQuery cube query files.before
+    → ¬ Rose files.before.faults files.after.faults → ¬ Rose store.before.faults store.after.faults → ¬ Rose out.before.faults out.after.faults → IsDone r
+
+-- All that a run that is to say why does with these files, this journal and this query. Where nothing is said, nothing is put.
+pub record WhyRun {F S O : Type 0} (cube : CubeFiles) (journal query : List ℕ) (files : Seen FolderState F) (store : Seen StoreState S) (out : Seen SinkState O) (r : Report) : Type 0 where
+  pub answers : WhyEnds cube query files store out r
+  pub named : AsksJournal journal store r
+  pub few_calls : IsTrue store.before.told → store.after.calls ≤ store.before.calls + 11
+  pub complete : WhyCompletes cube query files store out r
+
+-- ---- whether a text says why
+
+-- the bytes of a reason, which need not be one
+abbrev pub reason_said : List ℕ → Result (List ℕ) (List ℕ)
+reason_said bytes = unless_long (codes "reason") bytes (Ok bytes)
+
+-- the three files make a core and a policy, and the run ended at the file of the reason
+pub record Unreasoned {F : Type 0} (cube : CubeFiles) (name : List ℕ) (files : Seen FolderState F) (r : Report) : Type 0 where
+  pub core : Core
+  pub policy : Policy
+  pub files_make : Make cube files.before core policy
+  pub ends : EndsAt (names_of cube) reason_said name files r
+
+-- the file of the reason is there, and no longer than a file may be
+abbrev pub HasReason : List ℕ → FolderState → Type 0
+HasReason name files = IsSomeAnd files.files (λ known. (reason : List ℕ) × FileSays reason_said name known (Ok reason))
+
+-- It was said whether the bytes of the file are those of a reason, by an open cube and its history, which stays.
+pub record ToldWhether {S O : Type 0} (cube : CubeFiles) (query name : List ℕ) (files : FolderState) (store : Seen StoreState S) (out : Seen SinkState O) (r : Report) : Type 0 where
+  pub core : Core
+  pub policy : Policy
+  pub facts : List ℕ
+  pub history : List Entry
+  pub reason : List ℕ
+  pub said : IfSome files.files (λ known. FileSays reason_said name known (Ok reason))
+  pub opened : IsOpen cube files store core policy facts history
+  pub says : SaysOne (IsWhetherOf core policy history query reason) out r
+  pub passed : Recovers core policy store
+  pub exact : IsTrue store.before.told → IsExact core policy history (store.after.logs 0).state
+
+-- a run that is to check a reason ends at its file, or before its cube is open, or it says whether it is one
+abbrev pub WhetherEnds : {F S O : Type 0} → CubeFiles → List ℕ → List ℕ → Seen FolderState F → Seen StoreState S → Seen SinkState O → Report → Type 0
+WhetherEnds cube query name files store out r =
+    (Unreasoned cube name files r × Unused store × Unused out)
+    ⊎ (EndsClosed cube (all_names cube name) files store r × Unused out)
+    ⊎ (ToldWhether cube query name files.before store out r × GotBehind (all_names cube name) files)
+
+abbrev pub WhetherCompletes : {F S O : Type 0} → CubeFiles → List ℕ → List ℕ → Seen FolderState F → Seen StoreState S → Seen SinkState O → Report → Type 0
+WhetherCompletes cube query name files store out r = HasAll cube files.before → HasReason name files.before → HasJournal cube files.before store.before → IsQuery cube query files.before
+    → ¬ Rose files.before.faults files.after.faults → ¬ Rose store.before.faults store.after.faults → ¬ Rose out.before.faults out.after.faults → IsDone r
+
+-- All that a run that is to check the reason in a file does with these files, this journal and this query.
+pub record WhetherRun {F S O : Type 0} (cube : CubeFiles) (journal query name : List ℕ) (files : Seen FolderState F) (store : Seen StoreState S) (out : Seen SinkState O) (r : Report) : Type 0 where
+  pub answers : WhetherEnds cube query name files store out r
+  pub named : AsksJournal journal store r
+  pub few_calls : IsTrue store.before.told → store.after.calls ≤ store.before.calls + 11
+  pub complete : WhetherCompletes cube query name files store out r
+
+-- ---- with or without the file of a reason
+
+-- where a file is named it is said whether it says why, and else why
+abbrev pub ReasonRun : {F S O : Type 0} → CubeFiles → List ℕ → List ℕ → Option (List ℕ) → Seen FolderState F → Seen StoreState S → Seen SinkState O → Report → Type 0
+ReasonRun cube journal query None files store out r = WhyRun cube journal query files store out r
+ReasonRun cube journal query (Some name) files store out r = WhetherRun cube journal query name files store out r

@@ -1,0 +1,247 @@
+// What is told of a cube before it is opened, or behind its journal: what can be released from it, and how a workload would be judged.
+ghost use Rattle.std.specs.Prelude.{◌≡◌, ◌≢◌, ◌⊎◌, ◌≤◌, ◌+◌, ◌++◌, ◌∷◌, ℕ, List, [], true, false, length, IsTrue, IfOk, IfErr, OnOk, IfSome, Ok, codes, None};
+ghost use Rattle.cube_advise.specs.Lines.{is_workload as has_few_lines};
+ghost use Rattle.cube_advise.specs.Telling.{HasFewLines, later_text};
+ghost use Rattle.cube_io.specs.Causes.{Rose};
+ghost use Rattle.cube_io.specs.Files.{max_file};
+ghost use Rattle.cube_io.specs.Seen.{seen};
+ghost use Rattle.cube_model.specs.Policies.{IsPolicy};
+ghost use Rattle.cube_opening.specs.Opening.{FileSays, AskedFor, EndsAt, GotBehind, HasAll, IsDigest, IsSteady, Make, Reads};
+ghost use Rattle.cube_opening.specs.Reports.{IsReport};
+ghost use Rattle.cube_serving.specs.Starting.{AsksStore, HasJournal, OnlyJournal};
+ghost use Rattle.cube_app.specs.Advising.{workload_said, WorkloadSays, named_with, EndsUnread, Puts, FirstEnds, LaterEnds, AdviseEnds, AsksIfNamed, HasWorkload, AdviseCompletes};
+
+use crate::run::print;
+use cube_advise::{is_workload, told_first, told_later};
+use cube_engine::Engine;
+use cube_io::{Folder, Sink, Store};
+use cube_model::{NoMemory, Text};
+use cube_opening::{CubeFiles, Guarded, Opened, Report, Room, open_guarded, read_bytes};
+use cube_serving::open_engine;
+use std::alloc::Global;
+
+// The files of a run: those of a cube, and the bytes of the workload, where one is named.
+#[derive(Drop)]
+struct Advisable {
+    guarded: Guarded,
+    workload: Option<Text>,
+}
+
+// A workload of these bytes.
+fn limit_lines(alloc: Global, room: Room, bytes: Text) -> Result<Opened<Text>, Report>
+    requires { room ≡ [] }
+    ensures ok { IfOk result (λ opened. (opened.room ≡ []) × (has_few_lines opened.value ≡ true) × (opened.value ≡ bytes) × (length bytes ≤ max_file → workload_said bytes ≡ Ok opened.value)) }
+    ensures err { IfErr result (λ r. IsReport 3 r.text r × (length bytes ≤ max_file → workload_said bytes ≡ Err r.text)) }
+{
+    if is_workload(bytes.as_slice()) {
+        Ok(Opened { room, value: bytes })
+    } else {
+        Err(
+            room.with(b"workload: limit lines 1000000\n")
+                .close(alloc, 3),
+        )
+    }
+}
+
+// Reads a workload.
+fn open_workload<F: Folder>(
+    alloc: Global,
+    room: Room,
+    name: &Text,
+    files: &mut F,
+) -> Result<Opened<Text>, Report>
+    requires { room ≡ [] }
+    ensures ok { IfOk result (λ opened. (opened.room ≡ []) × (has_few_lines opened.value ≡ true) × IfSome (F.state files.old).files (λ known. FileSays workload_said name.now known (Ok opened.value))) }
+    ensures err { IfErr result (EndsAt [] workload_said name.now (seen F.state files.old files.new)) }
+    ensures asks { OnOk result (AskedFor (name.now ∷ []) (seen F.state files.old files.new)) }
+    ensures reads { Reads (seen F.state files.old files.new) result }
+{
+    let opened = match read_bytes(alloc, room, b"workload", name, files) {
+        Ok(opened) => opened,
+        Err(report) => return Err(report),
+    };
+    limit_lines(alloc, opened.room, opened.value)
+}
+
+// Reads the files of a cube, and the workload, where one is named.
+fn open_advisable<F: Folder>(
+    alloc: Global,
+    room: Room,
+    cube: &CubeFiles,
+    workload: &Option<Text>,
+    files: &mut F,
+) -> Result<Opened<Advisable>, Report>
+    requires { room ≡ [] }
+    ensures ok { IfOk result (λ opened. (opened.room ≡ []) × Make cube.now (F.state files.old) opened.value.guarded.core opened.value.guarded.policy) }
+    ensures rules { IfOk result (λ opened. IsPolicy opened.value.guarded.core.dims opened.value.guarded.policy) }
+    ensures digest { IfOk result (λ opened. IsDigest cube.now (F.state files.old) opened.value.guarded.facts) }
+    ensures said { IfOk result (λ opened. WorkloadSays workload.now (F.state files.old) opened.value.workload) }
+    ensures err { IfErr result (EndsUnread cube.now workload.now (seen F.state files.old files.new)) }
+    ensures behind { OnOk result (GotBehind (named_with cube.now workload.now) (seen F.state files.old files.new)) }
+    ensures steady { OnOk result (IsSteady (seen F.state files.old files.new)) }
+    ensures steady_err { IfErr result (λ r. r.status ≢ 5 → IsSteady (seen F.state files.old files.new)) }
+{
+    let opened = match open_guarded(alloc, room, cube, files) {
+        Ok(opened) => opened,
+        Err(report) => return Err(report),
+    };
+    let guarded = opened.value;
+    match workload {
+        None => Ok(Opened {
+            room: opened.room,
+            value: Advisable {
+                guarded,
+                workload: None,
+            },
+        }),
+        Some(name) => match open_workload(alloc, opened.room, name, files) {
+            Ok(read) => Ok(Opened {
+                room: read.room,
+                value: Advisable {
+                    guarded,
+                    workload: Some(read.value),
+                },
+            }),
+            Err(report) => Err(report),
+        },
+    }
+}
+
+// What is told behind the history of an engine.
+fn told_behind(alloc: Global, engine: &Engine, workload: &Option<Text>) -> Result<Text, NoMemory>
+    requires { HasFewLines workload.now }
+    ensures { IfOk result (λ text. text ≡ later_text engine.now.core engine.now.policy engine.now.history workload.now) }
+{
+    let (core, policy) = (engine.core(), engine.policy());
+    told_later(alloc, core, policy, engine.state().history(), workload)
+}
+
+// Puts what is told.
+fn put_advice<O: Sink>(
+    alloc: Global,
+    room: Room,
+    text: Result<Text, NoMemory>,
+    out: &mut O,
+) -> Report
+    requires { room ≡ [] }
+    ensures puts { (said : List ℕ) → IfOk text (λ text. text ≡ said) → Puts said (seen O.state out.old out.new) result }
+    ensures output { result.status ≡ 6 → Rose (O.state out.old).faults (O.state out.new).faults }
+    ensures output_steady { result.status ≢ 6 → (O.state out.new).faults ≡ (O.state out.old).faults }
+    ensures status { (result.status ≡ 0) ⊎ (result.status ≡ 6) ⊎ (result.status ≡ 7) }
+    ensures outcomes { result.outcomes ≡ [] }
+{
+    match text {
+        Ok(text) => print(alloc, room, text.as_slice(), out),
+        Err(_) => room.with(b"no memory\n").close(alloc, 7),
+    }
+}
+
+// Puts what can be released before anything is asked.
+fn advise_first<F: Folder, O: Sink>(
+    alloc: Global,
+    room: Room,
+    cube: &CubeFiles,
+    workload: &Option<Text>,
+    files: &mut F,
+    out: &mut O,
+) -> Report
+    requires { room ≡ [] }
+    ensures answers { FirstEnds cube.now workload.now (seen F.state files.old files.new) (seen O.state out.old out.new) result }
+    ensures unreadable { result.status ≡ 5 → Rose (F.state files.old).faults (F.state files.new).faults }
+    ensures output { result.status ≡ 6 → Rose (O.state out.old).faults (O.state out.new).faults }
+    ensures steady { result.status ≢ 5 → IsSteady (seen F.state files.old files.new) }
+    ensures output_steady { result.status ≢ 6 → (O.state out.new).faults ≡ (O.state out.old).faults }
+    ensures complete { HasAll cube.now (F.state files.old) → HasWorkload workload.now (F.state files.old) → ¬ Rose (F.state files.old).faults (F.state files.new).faults → ¬ Rose (O.state out.old).faults (O.state out.new).faults → (result.status ≡ 0) ⊎ (result.status ≡ 7) }
+    ensures words { result.status ≢ 2 }
+    ensures wire { result.status ≢ 8 }
+    ensures store { result.status ≢ 9 }
+    ensures outcomes { result.outcomes ≡ [] }
+{
+    let opened = match open_advisable(alloc, room, cube, workload, files) {
+        Ok(opened) => opened,
+        Err(report) => return report,
+    };
+    let Advisable {
+        guarded,
+        workload: bytes,
+    } = opened.value;
+    let _rules = guarded.core.dims();
+    let text = told_first(alloc, &guarded.core, &guarded.policy, &bytes);
+    put_advice(alloc, opened.room, text, out)
+}
+
+// Puts what can be released behind the history that the journal holds.
+fn advise_later<F: Folder, S: Store, O: Sink>(
+    alloc: Global,
+    room: Room,
+    cube: &CubeFiles,
+    journal: &Text,
+    workload: &Option<Text>,
+    files: &mut F,
+    store: &mut S,
+    out: &mut O,
+) -> Report
+    requires { room ≡ [] }
+    ensures answers { LaterEnds cube.now workload.now (seen F.state files.old files.new) (seen S.state store.old store.new) (seen O.state out.old out.new) result }
+    ensures names { (store.new ≡ store.old) ⊎ AsksStore journal.now (seen S.state store.old store.new) result }
+    ensures unkept { result.status ≡ 9 → Rose (S.state store.old).faults (S.state store.new).faults }
+    ensures calls { IsTrue (S.state store.old).told → (S.state store.new).calls ≤ (S.state store.old).calls + 11 }
+    ensures others { OnlyJournal (S.state store.old) (S.state store.new) }
+    ensures unreadable { result.status ≡ 5 → Rose (F.state files.old).faults (F.state files.new).faults }
+    ensures output { result.status ≡ 6 → Rose (O.state out.old).faults (O.state out.new).faults }
+    ensures steady { result.status ≢ 5 → IsSteady (seen F.state files.old files.new) }
+    ensures output_steady { result.status ≢ 6 → (O.state out.new).faults ≡ (O.state out.old).faults }
+    ensures complete { HasAll cube.now (F.state files.old) → HasWorkload workload.now (F.state files.old) → HasJournal cube.now (F.state files.old) (S.state store.old) → ¬ Rose (F.state files.old).faults (F.state files.new).faults → ¬ Rose (S.state store.old).faults (S.state store.new).faults → ¬ Rose (O.state out.old).faults (O.state out.new).faults → (result.status ≡ 0) ⊎ (result.status ≡ 7) }
+    ensures words { result.status ≢ 2 }
+    ensures wire { result.status ≢ 8 }
+    ensures outcomes { result.outcomes ≡ [] }
+{
+    let opened = match open_advisable(alloc, room, cube, workload, files) {
+        Ok(opened) => opened,
+        Err(report) => return report,
+    };
+    let Advisable {
+        guarded,
+        workload: bytes,
+    } = opened.value;
+    let _rules = guarded.core.dims();
+    let started = match open_engine(alloc, opened.room, guarded, journal, 1, store) {
+        Ok(started) => started,
+        Err(report) => return report,
+    };
+    let text = told_behind(alloc, &started.value, &bytes);
+    put_advice(alloc, started.room, text, out)
+}
+
+/// Puts what can be released from a cube, before anything is asked or behind the history that the journal holds, where one is named, and
+/// the words for the lines of a workload, where one is named.
+pub fn advise<F: Folder, S: Store, O: Sink>(
+    alloc: Global,
+    room: Room,
+    cube: &CubeFiles,
+    journal: &Option<Text>,
+    workload: &Option<Text>,
+    files: &mut F,
+    store: &mut S,
+    out: &mut O,
+) -> Report
+    requires { room ≡ [] }
+    ensures answers { AdviseEnds cube.now journal.now workload.now (seen F.state files.old files.new) (seen S.state store.old store.new) (seen O.state out.old out.new) result }
+    ensures names { AsksIfNamed journal.now (seen S.state store.old store.new) result }
+    ensures unkept { result.status ≡ 9 → Rose (S.state store.old).faults (S.state store.new).faults }
+    ensures calls { IsTrue (S.state store.old).told → (S.state store.new).calls ≤ (S.state store.old).calls + 11 }
+    ensures others { OnlyJournal (S.state store.old) (S.state store.new) }
+    ensures unreadable { result.status ≡ 5 → Rose (F.state files.old).faults (F.state files.new).faults }
+    ensures output { result.status ≡ 6 → Rose (O.state out.old).faults (O.state out.new).faults }
+    ensures steady { result.status ≢ 5 → IsSteady (seen F.state files.old files.new) }
+    ensures output_steady { result.status ≢ 6 → (O.state out.new).faults ≡ (O.state out.old).faults }
+    ensures complete { AdviseCompletes cube.now journal.now workload.now (seen F.state files.old files.new) (seen S.state store.old store.new) (seen O.state out.old out.new) result }
+    ensures words { result.status ≢ 2 }
+    ensures wire { result.status ≢ 8 }
+    ensures outcomes { result.outcomes ≡ [] }
+{
+    match journal {
+        None => advise_first(alloc, room, cube, workload, files, out),
+        Some(name) => advise_later(alloc, room, cube, name, workload, files, store, out),
+    }
+}

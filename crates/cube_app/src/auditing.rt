@@ -1,0 +1,156 @@
+// `audit`: a transcript of some server's queries and replies is checked against the cube of the files.
+ghost use Rattle.std.specs.Prelude.{◌≡◌, ◌≢◌, ◌⊎◌, ◌≤◌, ◌<◌, ◌∷◌, [], length, codes, IfOk, IfErr, OnOk, IfSome, Ok};
+ghost use Rattle.cube_io.specs.Causes.{Rose};
+ghost use Rattle.cube_io.specs.Seen.{seen};
+ghost use Rattle.cube_model.specs.Policies.{IsPolicy};
+ghost use Rattle.cube_audit.specs.Audits.{audited};
+ghost use Rattle.cube_audit.specs.AuditText as said;
+ghost use Rattle.cube_audit.specs.Sound.{SaysSound};
+ghost use Rattle.cube_audit.specs.Words.{fault_words};
+ghost use Rattle.cube_audit.specs.declared.transcript.TranscriptFault.TheVariants as faults;
+ghost use Rattle.cube_opening.specs.Opening.{fault_text as refusal, FileSays, AskedFor, EndsAt, Reads, IsSteady};
+ghost use Rattle.cube_opening.specs.Reports.{IsReport, NoRoom};
+ghost use Rattle.cube_app.specs.Auditing.{transcript_said, AuditEnds, AuditCompletes};
+
+use crate::run::print;
+use cube_audit::{Transcript, TranscriptFault, audited_text, fault_text, read_transcript};
+use cube_core::{Core, Steps};
+use cube_io::{Folder, Sink};
+use cube_model::{NoMemory, Policy, Text};
+use cube_opening::{CubeFiles, Opened, Report, Room, no_room, open_guarded, read_bytes, with_text};
+use std::alloc::Global;
+use std::marker::Brand;
+use std::sync::ledger::{Blank, Ledger};
+
+// The text on a fault of a transcript, in these words.
+fn refused_text(alloc: Global, words: &Text) -> Result<Text, NoMemory>
+    ensures { IfOk result (λ text. text ≡ refusal (codes "transcript") words.now) }
+{
+    let mut text = Text::from_bytes(alloc, b"transcript: ")?;
+    text.extend(words.as_slice())?;
+    text.extend(b"\n")?;
+    Ok(text)
+}
+
+// The report on a transcript whose fault has these words.
+fn refuse(alloc: Global, words: &Text) -> Report
+    ensures { NoRoom result ⊎ IsReport 3 (refusal (codes "transcript") words.now) result }
+{
+    match refused_text(alloc, words) {
+        Ok(text) => with_text(alloc, 3, text),
+        Err(_) => no_room(alloc),
+    }
+}
+
+// The report on a fault of a transcript.
+fn refuse_transcript(alloc: Global, room: Room, fault: TranscriptFault) -> Report
+    requires { room ≡ [] }
+    ensures { NoRoom result ⊎ IsReport 7 (codes "no memory\n") result ⊎ ((fault ≢ faults.NoMemory) × IsReport 3 (refusal (codes "transcript") (fault_words fault)) result) }
+{
+    match fault {
+        TranscriptFault::NoMemory => room.with(b"no memory\n").close(alloc, 7),
+        other => match fault_text(alloc, &other) {
+            Ok(words) => refuse(alloc, &words),
+            Err(_) => no_room(alloc),
+        },
+    }
+}
+
+// Reads the transcript.
+fn open_transcript<F: Folder>(
+    alloc: Global,
+    room: Room,
+    name: &Text,
+    files: &mut F,
+) -> Result<Opened<Transcript>, Report>
+    requires { room ≡ [] }
+    ensures ok { IfOk result (λ opened. (opened.room ≡ []) × IfSome (F.state files.old).files (λ known. FileSays transcript_said name.now known (Ok opened.value))) }
+    ensures few { IfOk result (λ opened. length opened.value ≤ 65536) }
+    ensures err { IfErr result (EndsAt [] transcript_said name.now (seen F.state files.old files.new)) }
+    ensures asks { OnOk result (AskedFor (name.now ∷ []) (seen F.state files.old files.new)) }
+    ensures reads { Reads (seen F.state files.old files.new) result }
+{
+    let opened = match read_bytes(alloc, room, b"transcript", name, files) {
+        Ok(opened) => opened,
+        Err(report) => return Err(report),
+    };
+    match read_transcript(alloc, opened.value.as_slice()) {
+        Ok(value) => Ok(Opened {
+            room: opened.room,
+            value,
+        }),
+        Err(fault) => Err(refuse_transcript(alloc, opened.room, fault)),
+    }
+}
+
+// The line of the audit, where the values that are read are counted in this blank book.
+fn line_in<L: Ledger>(
+    alloc: Global,
+    core: &Core,
+    policy: &Policy,
+    items: &Transcript,
+    blank: Blank,
+) -> Result<Text, NoMemory>
+    requires policy { IsPolicy core.now.dims policy.now }
+    requires few { length items.now ≤ 65536 }
+    requires name { blank.name ≡ L.name }
+    requires parts { blank.parts ≡ L.parts }
+    requires some { 0 < L.parts }
+    ensures { IfOk result (λ text. text ≡ said.audited_text core.now.dims (audited core.now policy.now items.now)) }
+{
+    let mut steps = Steps::<L>::new(blank);
+    let told = cube_audit::audit(alloc, core, policy, items, &mut steps)?;
+    audited_text(alloc, core.dims(), &told)
+}
+
+// The line of the audit.
+fn line_of(
+    alloc: Global,
+    core: &Core,
+    policy: &Policy,
+    items: &Transcript,
+) -> Result<Text, NoMemory>
+    requires policy { IsPolicy core.now.dims policy.now }
+    requires few { length items.now ≤ 65536 }
+    ensures line { IfOk result (λ text. text ≡ said.audited_text core.now.dims (audited core.now policy.now items.now)) }
+    ensures sound { SaysSound core.now policy.now items.now (audited core.now policy.now items.now) }
+{
+    let _rules = core.dims();
+    line_in::<Brand>(alloc, core, policy, items, Blank::new(1))
+}
+
+/// Checks the transcript in a file against the cube of the files, and prints the line of the audit.
+pub fn audit<F: Folder, O: Sink>(
+    alloc: Global,
+    room: Room,
+    cube: &CubeFiles,
+    transcript: &Text,
+    files: &mut F,
+    out: &mut O,
+) -> Report
+    requires { room ≡ [] }
+    ensures answers { AuditEnds cube.now transcript.now (seen F.state files.old files.new) (seen O.state out.old out.new) result }
+    ensures unreadable { result.status ≡ 5 → Rose (F.state files.old).faults (F.state files.new).faults }
+    ensures output { result.status ≡ 6 → Rose (O.state out.old).faults (O.state out.new).faults }
+    ensures steady { result.status ≢ 5 → IsSteady (seen F.state files.old files.new) }
+    ensures output_steady { result.status ≢ 6 → (O.state out.new).faults ≡ (O.state out.old).faults }
+    ensures complete { AuditCompletes cube.now transcript.now (seen F.state files.old files.new) (seen O.state out.old out.new) result }
+    ensures words { result.status ≢ 2 }
+    ensures wire { result.status ≢ 8 }
+    ensures store { result.status ≢ 9 }
+    ensures outcomes { result.outcomes ≡ [] }
+{
+    let opened = match open_guarded(alloc, room, cube, files) {
+        Ok(opened) => opened,
+        Err(report) => return report,
+    };
+    let guarded = opened.value;
+    let read = match open_transcript(alloc, opened.room, transcript, files) {
+        Ok(read) => read,
+        Err(report) => return report,
+    };
+    match line_of(alloc, &guarded.core, &guarded.policy, &read.value) {
+        Ok(text) => print(alloc, read.room, text.as_slice(), out),
+        Err(_) => read.room.with(b"no memory\n").close(alloc, 7),
+    }
+}

@@ -1,0 +1,317 @@
+// Why a query is refused, and whether a text says so.
+ghost use Rattle.std.specs.Prelude.{◌≡◌, ◌≢◌, ◌⊎◌, ◌≤◌, ◌+◌, ◌↔◌, ◌++◌, ◌∷◌, ℕ, List, [], true, IsTrue, IfOk, IfErr, IfSome, OnOk, IsOk, Ok, codes};
+ghost use Rattle.cube_model.specs.Cores as cores;
+ghost use Rattle.cube_model.specs.Cores.{shown};
+ghost use Rattle.cube_model.specs.Verdicts.{verdict as verdict_of};
+ghost use Rattle.cube_io.specs.Causes.{Rose};
+ghost use Rattle.cube_io.specs.Seen.{seen};
+ghost use Rattle.cube_query.specs.Canonical.{is_request};
+ghost use Rattle.cube_query.specs.Faults.{request_of};
+ghost use Rattle.cube_reason.specs.Showing.{IsWhy, Shows};
+ghost use Rattle.cube_opening.specs.Opening.{AskedFor, EndsAt, FileSays, IsSteady, Reads};
+ghost use Rattle.cube_opening.specs.Reports.{IsReport, NoRoom};
+ghost use Rattle.cube_app.specs.Reasons.{Accepts, IsWhyOf, IsWhetherOf, IsUnread, IsUnsaid, SaysSo, WhyEnds, WhyCompletes, WhetherEnds, WhetherCompletes, ReasonRun, accepted_text, reason_said};
+ghost use Rattle.cube_serving.specs.Starting.{AsksStore, OnlyJournal};
+
+use crate::run::print;
+use cube_engine::Engine;
+use cube_io::{Folder, Sink, Store};
+use cube_model::{NoMemory, Request, Text};
+use cube_opening::{CubeFiles, Opened, Report, Room, no_room, open_guarded, read_bytes, with_text};
+use cube_query::{RequestFault, read_request};
+use cube_reason::{accept_text, why_text};
+use cube_serving::open_engine;
+use std::alloc::Global;
+
+/// Why nothing is said of a query.
+#[derive(Drop)]
+pub enum Unsaid {
+    /// It is no query, by this line.
+    Query(Text),
+    NoMemory,
+}
+
+// The line on a text that is no query.
+fn unread(alloc: Global, fault: RequestFault) -> Unsaid
+    ensures { IsUnread fault result }
+{
+    match fault.body(alloc) {
+        Ok(line) => Unsaid::Query(line),
+        Err(_) => Unsaid::NoMemory,
+    }
+}
+
+// The request that a query is.
+fn request_in(alloc: Global, engine: &Engine, query: &Text) -> Result<Request, Unsaid>
+    ensures ok { IfOk result (λ request. request_of engine.now.core.dims query.now ≡ Ok request) }
+    ensures valid { IfOk result (λ request. is_request engine.now.core.dims request ≡ true) }
+    ensures err { IfErr result (IsUnsaid engine.now.core query.now) }
+{
+    match read_request(alloc, engine.core().dims(), query.as_slice()) {
+        Ok(request) => Ok(request),
+        Err(RequestFault::NoMemory) => Err(Unsaid::NoMemory),
+        Err(fault) => Err(unread(alloc, fault)),
+    }
+}
+
+// Why a request is refused behind the history of an engine.
+fn why_refused(alloc: Global, engine: &mut Engine, request: &Request) -> Result<Text, NoMemory>
+    requires { is_request engine.old.core.dims request.now ≡ true }
+    ensures { IfOk result (λ text. IsWhy engine.old.core.dims (shown engine.old.core engine.old.policy) engine.old.history request.now (verdict_of (shown engine.old.core engine.old.policy) engine.old.history request.now) text) }
+{
+    let verdict = engine.verdict(alloc, request)?;
+    let core = engine.core();
+    let policy = engine.policy();
+    let history = engine.state().history();
+    why_text(alloc, core, policy, history, request, &verdict)
+}
+
+// Whether a text is the line of the refusal of a request and behind it the lines of a reason.
+fn is_reason(
+    alloc: Global,
+    engine: &mut Engine,
+    request: &Request,
+    text: &Text,
+) -> Result<bool, NoMemory>
+    requires { is_request engine.old.core.dims request.now ≡ true }
+    ensures { IfOk result (λ taken. (taken ≡ true) ↔ Shows engine.old.core.dims (shown engine.old.core engine.old.policy) engine.old.history request.now (verdict_of (shown engine.old.core engine.old.policy) engine.old.history request.now) text.now) }
+{
+    let verdict = engine.verdict(alloc, request)?;
+    let core = engine.core();
+    let policy = engine.policy();
+    let history = engine.state().history();
+    accept_text(
+        alloc,
+        core,
+        policy,
+        history,
+        request,
+        &verdict,
+        text.as_slice(),
+    )
+}
+
+// What is said of a query: why it is refused.
+fn why_of(alloc: Global, engine: Engine, query: &Text) -> Result<Text, Unsaid>
+    ensures ok { IfOk result (λ text. IsWhyOf engine.core engine.policy engine.history query.now (Ok text)) }
+    ensures err { IfErr result (IsUnsaid engine.core query.now) }
+{
+    let mut engine = engine;
+    let request = match request_in(alloc, &engine, query) {
+        Ok(request) => request,
+        Err(unsaid) => return Err(unsaid),
+    };
+    match why_refused(alloc, &mut engine, &request) {
+        Ok(text) => Ok(text),
+        Err(_) => Err(Unsaid::NoMemory),
+    }
+}
+
+// The word for whether a text was taken.
+fn accepted(alloc: Global, taken: bool) -> Result<Text, NoMemory>
+    ensures { IfOk result (λ text. text ≡ accepted_text taken) }
+{
+    if taken {
+        Text::from_bytes(alloc, b"accepted\n")
+    } else {
+        Text::from_bytes(alloc, b"not accepted\n")
+    }
+}
+
+// The word for whether a text says why a request is refused.
+fn whether(
+    alloc: Global,
+    engine: &mut Engine,
+    request: &Request,
+    reason: &Text,
+) -> Result<Text, NoMemory>
+    requires { is_request engine.old.core.dims request.now ≡ true }
+    ensures { IfOk result (λ text. Accepts engine.old.core engine.old.policy engine.old.history request.now reason.now text) }
+{
+    let taken = is_reason(alloc, engine, request, reason)?;
+    accepted(alloc, taken)
+}
+
+// What is said of a query and a text: whether the text says why it is refused.
+fn whether_of(alloc: Global, engine: Engine, query: &Text, reason: &Text) -> Result<Text, Unsaid>
+    ensures ok { IfOk result (λ text. IsWhetherOf engine.core engine.policy engine.history query.now reason.now (Ok text)) }
+    ensures err { IfErr result (IsUnsaid engine.core query.now) }
+{
+    let mut engine = engine;
+    let request = match request_in(alloc, &engine, query) {
+        Ok(request) => request,
+        Err(unsaid) => return Err(unsaid),
+    };
+    match whether(alloc, &mut engine, &request, reason) {
+        Ok(text) => Ok(text),
+        Err(_) => Err(Unsaid::NoMemory),
+    }
+}
+
+fn refused_text(alloc: Global, line: &Text) -> Result<Text, NoMemory>
+    ensures { IfOk result (λ text. text ≡ codes "query: " ++ line.now) }
+{
+    let mut text = Text::from_bytes(alloc, b"query: ")?;
+    text.extend(line.as_slice())?;
+    Ok(text)
+}
+
+// The report on a text that is no query.
+fn refuse_query(alloc: Global, line: &Text) -> Report
+    ensures { IsReport 3 (codes "query: " ++ line.now) result ⊎ NoRoom result }
+{
+    match refused_text(alloc, line) {
+        Ok(text) => with_text(alloc, 3, text),
+        Err(_) => no_room(alloc),
+    }
+}
+
+// Puts what is said of a query.
+fn put_said<O: Sink>(alloc: Global, room: Room, said: Result<Text, Unsaid>, out: &mut O) -> Report
+    requires { room ≡ [] }
+    ensures says { SaysSo said (seen O.state out.old out.new) result }
+    ensures accepted { (core : cores.Core) (query : List ℕ) → IfErr said (IsUnsaid core query) → IsOk (request_of core.dims query) → result.status ≢ 3 }
+    ensures output { result.status ≡ 6 → Rose (O.state out.old).faults (O.state out.new).faults }
+    ensures output_steady { result.status ≢ 6 → (O.state out.new).faults ≡ (O.state out.old).faults }
+    ensures status { (result.status ≡ 0) ⊎ (result.status ≡ 3) ⊎ (result.status ≡ 6) ⊎ (result.status ≡ 7) }
+    ensures outcomes { result.outcomes ≡ [] }
+{
+    match said {
+        Ok(text) => print(alloc, room, text.as_slice(), out),
+        Err(Unsaid::Query(line)) => refuse_query(alloc, &line),
+        Err(Unsaid::NoMemory) => room.with(b"no memory\n").close(alloc, 7),
+    }
+}
+
+// Puts why a query is refused behind the history that the journal holds: the line of the refusal and behind it the lines of a
+// reason, or that it is admitted.
+fn why<F: Folder, S: Store, O: Sink>(
+    alloc: Global,
+    room: Room,
+    cube: &CubeFiles,
+    journal: &Text,
+    query: &Text,
+    files: &mut F,
+    store: &mut S,
+    out: &mut O,
+) -> Report
+    requires { room ≡ [] }
+    ensures answers { WhyEnds cube.now query.now (seen F.state files.old files.new) (seen S.state store.old store.new) (seen O.state out.old out.new) result }
+    ensures names { (store.new ≡ store.old) ⊎ AsksStore journal.now (seen S.state store.old store.new) result }
+    ensures unkept { result.status ≡ 9 → Rose (S.state store.old).faults (S.state store.new).faults }
+    ensures calls { IsTrue (S.state store.old).told → (S.state store.new).calls ≤ (S.state store.old).calls + 11 }
+    ensures others { OnlyJournal (S.state store.old) (S.state store.new) }
+    ensures unreadable { result.status ≡ 5 → Rose (F.state files.old).faults (F.state files.new).faults }
+    ensures output { result.status ≡ 6 → Rose (O.state out.old).faults (O.state out.new).faults }
+    ensures steady { result.status ≢ 5 → IsSteady (seen F.state files.old files.new) }
+    ensures output_steady { result.status ≢ 6 → (O.state out.new).faults ≡ (O.state out.old).faults }
+    ensures complete { WhyCompletes cube.now query.now (seen F.state files.old files.new) (seen S.state store.old store.new) (seen O.state out.old out.new) result }
+    ensures words { result.status ≢ 2 }
+    ensures wire { result.status ≢ 8 }
+    ensures outcomes { result.outcomes ≡ [] }
+{
+    let opened = match open_guarded(alloc, room, cube, files) {
+        Ok(opened) => opened,
+        Err(report) => return report,
+    };
+    let started = match open_engine(alloc, opened.room, opened.value, journal, 1, store) {
+        Ok(started) => started,
+        Err(report) => return report,
+    };
+    let said = why_of(alloc, started.value, query);
+    put_said(alloc, started.room, said, out)
+}
+
+// Reads the file of a reason.
+fn open_reason<F: Folder>(
+    alloc: Global,
+    room: Room,
+    name: &Text,
+    files: &mut F,
+) -> Result<Opened<Text>, Report>
+    requires { room ≡ [] }
+    ensures ok { IfOk result (λ opened. (opened.room ≡ []) × IfSome (F.state files.old).files (λ known. FileSays reason_said name.now known (Ok opened.value))) }
+    ensures err { IfErr result (EndsAt [] reason_said name.now (seen F.state files.old files.new)) }
+    ensures asks { OnOk result (AskedFor (name.now ∷ []) (seen F.state files.old files.new)) }
+    ensures reads { Reads (seen F.state files.old files.new) result }
+{
+    match read_bytes(alloc, room, b"reason", name, files) {
+        Ok(opened) => Ok(opened),
+        Err(report) => Err(report),
+    }
+}
+
+// Puts whether the bytes of a file say why a query is refused behind the history that the journal holds.
+fn check_reason<F: Folder, S: Store, O: Sink>(
+    alloc: Global,
+    room: Room,
+    cube: &CubeFiles,
+    journal: &Text,
+    query: &Text,
+    reason: &Text,
+    files: &mut F,
+    store: &mut S,
+    out: &mut O,
+) -> Report
+    requires { room ≡ [] }
+    ensures answers { WhetherEnds cube.now query.now reason.now (seen F.state files.old files.new) (seen S.state store.old store.new) (seen O.state out.old out.new) result }
+    ensures names { (store.new ≡ store.old) ⊎ AsksStore journal.now (seen S.state store.old store.new) result }
+    ensures unkept { result.status ≡ 9 → Rose (S.state store.old).faults (S.state store.new).faults }
+    ensures calls { IsTrue (S.state store.old).told → (S.state store.new).calls ≤ (S.state store.old).calls + 11 }
+    ensures others { OnlyJournal (S.state store.old) (S.state store.new) }
+    ensures unreadable { result.status ≡ 5 → Rose (F.state files.old).faults (F.state files.new).faults }
+    ensures output { result.status ≡ 6 → Rose (O.state out.old).faults (O.state out.new).faults }
+    ensures steady { result.status ≢ 5 → IsSteady (seen F.state files.old files.new) }
+    ensures output_steady { result.status ≢ 6 → (O.state out.new).faults ≡ (O.state out.old).faults }
+    ensures complete { WhetherCompletes cube.now query.now reason.now (seen F.state files.old files.new) (seen S.state store.old store.new) (seen O.state out.old out.new) result }
+    ensures words { result.status ≢ 2 }
+    ensures wire { result.status ≢ 8 }
+    ensures outcomes { result.outcomes ≡ [] }
+{
+    let opened = match open_guarded(alloc, room, cube, files) {
+        Ok(opened) => opened,
+        Err(report) => return report,
+    };
+    let guarded = opened.value;
+    let read = match open_reason(alloc, opened.room, reason, files) {
+        Ok(read) => read,
+        Err(report) => return report,
+    };
+    let started = match open_engine(alloc, read.room, guarded, journal, 1, store) {
+        Ok(started) => started,
+        Err(report) => return report,
+    };
+    let said = whether_of(alloc, started.value, query, &read.value);
+    put_said(alloc, started.room, said, out)
+}
+
+/// Puts why a query is refused behind the history that the journal holds; or, where the file of a reason is named, whether its
+/// bytes say so.
+pub fn say_why<F: Folder, S: Store, O: Sink>(
+    alloc: Global,
+    room: Room,
+    cube: &CubeFiles,
+    journal: &Text,
+    query: &Text,
+    reason: &Option<Text>,
+    files: &mut F,
+    store: &mut S,
+    out: &mut O,
+) -> Report
+    requires { room ≡ [] }
+    ensures run { ReasonRun cube.now journal.now query.now reason.now (seen F.state files.old files.new) (seen S.state store.old store.new) (seen O.state out.old out.new) result }
+    ensures unkept { result.status ≡ 9 → Rose (S.state store.old).faults (S.state store.new).faults }
+    ensures others { OnlyJournal (S.state store.old) (S.state store.new) }
+    ensures unreadable { result.status ≡ 5 → Rose (F.state files.old).faults (F.state files.new).faults }
+    ensures output { result.status ≡ 6 → Rose (O.state out.old).faults (O.state out.new).faults }
+    ensures steady { result.status ≢ 5 → IsSteady (seen F.state files.old files.new) }
+    ensures output_steady { result.status ≢ 6 → (O.state out.new).faults ≡ (O.state out.old).faults }
+    ensures words { result.status ≢ 2 }
+    ensures wire { result.status ≢ 8 }
+    ensures outcomes { result.outcomes ≡ [] }
+{
+    match reason {
+        None => why(alloc, room, cube, journal, query, files, store, out),
+        Some(name) => check_reason(alloc, room, cube, journal, query, name, files, store, out),
+    }
+}
