@@ -35,6 +35,13 @@ name = "v"
 }
 
 
+WALK = """pair: link 1, (row.r=r0, col.c=c1) and (row.r=r1, col.c=c2), fixes the cell (row.r=r0, col.c=c1)
+step (row.r=r0, col.c=c1) (row.r=r1, col.c=c0) entry 1
+step (row.r=r1, col.c=c0) (row.r=r1, col.c=c2) entry 2
+step (row.r=r1, col.c=c2) (row.r=r0, col.c=c1) own 1
+"""
+
+
 def made(number):
     """A cube of three dimensions with half of its points, a source and links, and names that need quotes."""
     chance = random.Random(number)
@@ -135,6 +142,14 @@ def worked(folder):
     pay.ask("slice pay by time.month")
     text = pay.why("slice pay by region.area")
     check(text == "source: the cuboid (region.area, time.month) does not cut the cell (region.city=Lyon, time.month=Feb)\nblock (region.area=South, time.month=Feb)\n", text)
+    grid = Cube(folder / "worked-grid", GRID)
+    for query in ("range v col.c=c0..c1", "cell v row.r=r1"):
+        check(grid.ask(query)[0].startswith("200 "), f"{query} is refused")
+    query = "range v col.c=c1..c2"
+    text = grid.why(query)
+    check(text == WALK, text)
+    check(grid.accepts(query, text) and grid.checks(query, text), "the walk is not accepted")
+    check(not grid.accepts(query, "".join(text.splitlines(True)[:-1])), "the walk without its last step is accepted")
     status, written, said = pay.run("why", "--query", "cel pay")
     check((status, written) == (3, "") and said.endswith("query: syntax at byte 3\n"), said)
 
