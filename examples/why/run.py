@@ -16,7 +16,7 @@ from servers import CUBE, Wrong, build, check  # noqa: E402
 from small import PAY  # noqa: E402
 
 PATIENCE = 60
-QUERIES = 500
+QUERIES = 167
 
 GRID = {
     "dims": """[[dimension]]
