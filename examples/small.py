@@ -1,4 +1,4 @@
-"""A small cube that scripts of examples/ ask: pay and hours of three cities in two months, by name of its files."""
+"""Small cubes that scripts of examples/ ask, by name of their files: pay and hours of three cities in two months, and a grid of links."""
 
 PAY = {
     "dims": """[[dimension]]
@@ -25,4 +25,20 @@ method = "parity"
 measure = "pay"
 below = { region = "city", time = "month" }
 """,
+}
+
+GRID = {
+    "dims": """[[dimension]]
+name = "row"
+levels = ["r"]
+paths = [["r0"], ["r1"]]
+[[dimension]]
+name = "col"
+levels = ["c"]
+paths = [["c0"], ["c1"], ["c2"]]
+[[measure]]
+name = "v"
+""",
+    "facts": "r,c,v\nr0,c1,7\nr1,c0,8\nr1,c2,9\n",
+    "policy": "[[measure]]\nname = \"v\"\nmethod = \"parity\"\n",
 }

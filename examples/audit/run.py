@@ -26,7 +26,7 @@ import asks  # noqa: E402
 from checks import Play  # noqa: E402
 from program import Failure, read_replies  # noqa: E402
 from servers import CUBE, Wrong, build, check  # noqa: E402
-from small import PAY  # noqa: E402
+from small import GRID, PAY  # noqa: E402
 
 PATIENCE = 300
 CUBES = 20
@@ -79,22 +79,6 @@ def desk_of(folder, texts):
 
 
 # ---- small cubes
-
-GRID = {
-    "dims": """[[dimension]]
-name = "row"
-levels = ["r"]
-paths = [["r0"], ["r1"]]
-[[dimension]]
-name = "col"
-levels = ["c"]
-paths = [["c0"], ["c1"], ["c2"]]
-[[measure]]
-name = "v"
-""",
-    "facts": "r,c,v\nr0,c1,7\nr1,c0,8\nr1,c2,9\n",
-    "policy": "[[measure]]\nname = \"v\"\nmethod = \"parity\"\n",
-}
 
 MONTHS = item("slice pay by time.month", 200, "time.month,pay\nJan,80\nFeb,70\n")
 AREAS = item("slice pay by region.area", 200, "region.area,pay\nSouth,60\nNorth,90\n")

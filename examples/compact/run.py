@@ -14,27 +14,11 @@ import time
 sys.path.insert(0, str(pathlib.Path(__file__).resolve().parent.parent))
 
 from servers import CUBE, Wrong, build, check  # noqa: E402
-from small import PAY  # noqa: E402
+from small import GRID, PAY  # noqa: E402
 
 PATIENCE = 120
 MOST = 16_384
 LEAVES = 20_000
-
-GRID = {
-    "dims": """[[dimension]]
-name = "row"
-levels = ["r"]
-paths = [["r0"], ["r1"]]
-[[dimension]]
-name = "col"
-levels = ["c"]
-paths = [["c0"], ["c1"], ["c2"]]
-[[measure]]
-name = "v"
-""",
-    "facts": "r,c,v\nr0,c1,7\nr1,c0,8\nr1,c2,9\n",
-    "policy": "[[measure]]\nname = \"v\"\nmethod = \"parity\"\n",
-}
 
 LINE = {
     "dims": "[[dimension]]\nname = \"d\"\nlevels = [\"l\"]\npaths = [%s]\n[[measure]]\nname = \"v\"\n"

@@ -13,27 +13,10 @@ HERE = pathlib.Path(__file__).resolve().parent
 sys.path.insert(0, str(HERE.parent))
 
 from servers import CUBE, Wrong, build, check  # noqa: E402
-from small import PAY  # noqa: E402
+from small import GRID, PAY  # noqa: E402
 
 PATIENCE = 60
 QUERIES = 167
-
-GRID = {
-    "dims": """[[dimension]]
-name = "row"
-levels = ["r"]
-paths = [["r0"], ["r1"]]
-[[dimension]]
-name = "col"
-levels = ["c"]
-paths = [["c0"], ["c1"], ["c2"]]
-[[measure]]
-name = "v"
-""",
-    "facts": "r,c,v\nr0,c1,7\nr1,c0,8\nr1,c2,9\n",
-    "policy": "[[measure]]\nname = \"v\"\nmethod = \"parity\"\n",
-}
-
 
 WALK = """pair: link 1, (row.r=r0, col.c=c1) and (row.r=r1, col.c=c2), fixes the cell (row.r=r0, col.c=c1)
 step (row.r=r0, col.c=c1) (row.r=r1, col.c=c0) entry 1
