@@ -7,10 +7,12 @@ name, is the peer for sums, and pandas where it is installed.
 """
 
 import argparse
+import csv
 import os
 import random
 import shutil
 import signal
+import sqlite3
 import statistics
 import subprocess
 import sys
@@ -48,12 +50,16 @@ def leaf(dimension, number):
     return f"{chr(97 + dimension)}{number}"
 
 
-def write_dims(folder, sizes):
+def write_dims(folder, sizes, halves=False):
+    """Dimensions of one level, or of two, the upper with two members."""
     with open(f"{folder}/dims.toml", "w") as file:
         for dimension, size in enumerate(sizes):
             name = chr(97 + dimension)
-            file.write(f'[[dimension]]\nname = "{name}"\ncolumn = "{name}"\nlevels = ["l"]\npaths = [\n')
-            file.writelines(f'  ["{leaf(dimension, number)}"],\n' for number in range(size))
+            levels = '"l", "h"' if halves else '"l"'
+            file.write(f'[[dimension]]\nname = "{name}"\ncolumn = "{name}"\nlevels = [{levels}]\npaths = [\n')
+            for number in range(size):
+                upper = f', "{"front" if 2 * number < size else "behind"}"' if halves else ""
+                file.write(f'  ["{leaf(dimension, number)}"{upper}],\n')
             file.write("]\n\n")
         for name, decimals in MEASURES:
             file.write(f'[[measure]]\nname = "{name}"\ndecimals = {decimals}\n\n')
@@ -181,12 +187,12 @@ def by_turns(named, rounds):
 def print_rows(title, made, against):
     """A row for each, with the ratios to the first of those that are compared with."""
     print(f"\n{title}\n")
-    print("| Run | Median, s | Least, s | Memory, MB | " + " | ".join(f"to {name}" for name in against) + " |")
+    print(" | ".join(["| Run", "Median, s", "Least, s", "Memory, MB", *(f"to {name}" for name in against)]) + " |")
     print("|" + "---|" * (4 + len(against)))
     for name, runs in made.items():
-        ratios = " | ".join(f"{median(runs) / median(made[other]):.3f}" for other in against)
+        ratios = [f"{median(runs) / median(made[other]):.3f}" for other in against]
         least = min(seconds for seconds, _ in runs)
-        print(f"| {name} | {median(runs):.3f} | {least:.3f} | {max(most for _, most in runs):.0f} | {ratios} |")
+        print(" | ".join([f"| {name}", f"{median(runs):.3f}", f"{least:.3f}", f"{max(most for _, most in runs):.0f}", *ratios]) + " |")
 
 
 def measure_load(program, room, number, rounds):
@@ -217,7 +223,114 @@ def measure_objects(program, room, number, rounds):
     print_rows("`check` over 8 dimensions and 65,536 points", by_turns(named, rounds), ["1 equal objects"])
 
 
-PARTS = {"load": measure_load, "growth": measure_growth, "objects": measure_objects}
+# ---- answers, by the processor time of one query
+
+class Asker:
+    """A run of `ask` from an empty journal, asked through a pipe."""
+
+    def __init__(self, program, folder):
+        for name in ("journal", "journal.seal"):
+            if os.path.exists(f"{folder}/{name}"):
+                os.remove(f"{folder}/{name}")
+        words = files(program, "ask", "--journal", "journal")
+        self.child = subprocess.Popen(words, cwd=folder, stdin=subprocess.PIPE, stdout=subprocess.PIPE, stderr=subprocess.DEVNULL)
+        self.ask("cell count")
+
+    def used(self):
+        with open(f"/proc/{self.child.pid}/schedstat") as file:
+            return int(file.read().split()[0]) / 1e9
+
+    def ask(self, query):
+        """The seconds that the answer takes, and its rows."""
+        before = self.used()
+        self.child.stdin.write(f"{query}\n".encode())
+        self.child.stdin.flush()
+        status, length = self.child.stdout.readline().split()
+        body = self.child.stdout.read(int(length))
+        if status != b"200":
+            sys.exit(f"{query}: {status.decode()} {body.decode()}")
+        return self.used() - before, body.count(b"\n") - 1
+
+    def close(self):
+        self.child.stdin.close()
+        self.child.wait()
+
+
+def sqlite_table(folder):
+    """The points of the fact file in memory, with their members as texts."""
+    base = sqlite3.connect(":memory:")
+    with open(f"{folder}/facts.csv", newline="") as file:
+        rows = csv.reader(file)
+        names = next(rows)
+        base.execute(f"create table facts ({', '.join(names)})")
+        base.executemany(f"insert into facts values ({', '.join('?' * len(names))})", rows)
+    return base
+
+
+def sqlite_seconds(base, query):
+    before = time.process_time()
+    rows = len(base.execute(query).fetchall())
+    return time.process_time() - before, rows
+
+
+# What is asked of the program behind which earlier answers, and what sqlite3 is asked; v has a source, w links, x is open.
+ANSWERS = (
+    ("65,536 rows", [], "slice x by a.l, b.l", "select a, b, sum(x) from facts group by a, b"),
+    ("the sum of all", [], "cell x", "select sum(x) from facts"),
+    ("256 rows by the first dimension", [], "slice x by a.l", "select a, sum(x) from facts group by a"),
+    ("512 kept cells into 256 rows", ["slice v by a.h, b.l"], "slice v by b.l", "select b, sum(v) from facts group by b"),
+    ("a fresh range over all points, by links", [], "range w a.l=a0..a255, b.l=b0..b255", "select sum(w) from facts"),
+)
+
+
+def measure_answers(program, room, number, rounds):
+    folder = make(room, "answers", (256, 256), POINTS, POINTS, 1, number)
+    write_dims(folder, (256, 256), halves=True)
+    base = sqlite_table(folder)
+    print("\nAnswers over 65,536 points, processor time of one query\n")
+    print("| Answer | `cube`, ms | `sqlite3`, ms | ratio |\n|---|---|---|---|")
+    for name, before, query, peer in ANSWERS:
+        ours, theirs = [], []
+        for _ in range(rounds):
+            asker = Asker(program, folder)
+            for earlier in before:
+                asker.ask(earlier)
+            seconds, rows = asker.ask(query)
+            asker.close()
+            ours.append(seconds)
+            seconds, others = sqlite_seconds(base, peer)
+            theirs.append(seconds)
+            if rows != others:
+                sys.exit(f"{query}: {rows} rows and {others}")
+        mine, peers = statistics.median(ours), statistics.median(theirs)
+        ratio = f"{mine / peers:.3f}" if mine * 100 > peers else f"1/{peers / mine:,.0f}"
+        print(f"| {name} | {mine * 1000:.3f} | {peers * 1000:.1f} | {ratio} |")
+
+
+# ---- journals, until they are open
+
+# Ranges over one dimension: how many leaves it has, and the first and last leaf of each. The first kind has a link of its own in
+# each range and no other; the others have one link that does not follow among thousands that do.
+JOURNALS = (
+    ("2 of 20,000 places", 20_000, lambda k: (k, k + 1)),
+    ("24,002 of 65,536 places", POINTS, lambda k: (2 * k, 2 * k + 24_001)),
+    ("32,770 places, growing to all 65,536", POINTS, lambda k: (0, 32_769 + 2 * k)),
+)
+ENTRIES = 16_384
+
+
+def measure_journals(program, room, number, rounds):
+    named = {}
+    for many, (name, leaves, ends) in enumerate(JOURNALS):
+        folder = make(room, f"journal{many}", (leaves,), leaves, leaves, 0, number)
+        asks = (ends(k) for k in range(ENTRIES))
+        queries = "".join(f"range w a.l={leaf(0, first)}..{leaf(0, last)}\n" for first, last in asks)
+        with_journal(program, folder, "ask")(queries.encode())
+        named[name] = lambda folder=folder: run(files(program, "ask", "--journal", "journal"), folder)
+    print_rows("A journal of 16,384 ranges, until it is open", by_turns(named, rounds), [])
+
+
+PARTS = {"load": measure_load, "growth": measure_growth, "objects": measure_objects, "answers": measure_answers, "journals": measure_journals}
 
 
 def main():

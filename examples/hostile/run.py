@@ -10,6 +10,7 @@ the program is the environment's CUBE.
 
 import json
 import pathlib
+import re
 import subprocess
 import sys
 import tempfile
@@ -32,6 +33,16 @@ PATIENCE = 60
 
 # ---- files
 
+# A refused file in a text; before it stands a note for a person, which may have the line feeds of a column's name.
+REFUSED = re.compile(rb"^(?:dims|facts|policy): ", re.MULTILINE)
+
+
+def text_of(said):
+    """The text on standard error, without the notes before it."""
+    refused = REFUSED.search(said)
+    return said[refused.start():] if refused else re.sub(rb"(?m)^.*: nothing is protected\n", b"", said)
+
+
 def as_bytes(file):
     """A text, bytes, or what a function makes, as bytes."""
     made = file() if callable(file) else file
@@ -47,7 +58,7 @@ def run(folder, command, given, **made):
     if command == "ask":
         words += ["--journal", folder / "journal"]
     done = subprocess.run(words, input=given, capture_output=True, timeout=PATIENCE, check=False)
-    return done.returncode, done.stdout, done.stderr
+    return done.returncode, done.stdout, text_of(done.stderr)
 
 
 def holds(name, expected, came):

@@ -66,15 +66,19 @@ row_fits core p r row ok h within =
     }
 
 -- the answer to a request can be written
-pub answer_fits : (core : Core) (r : Request) (found : List Row) (answer : List AnswerRow) → IsCore core → fits (plains core.dims) r.group r.picks ≡ true → IsThere core.dims r.what
-    → ((p : Policy) → found ≡ rows (shown core p) r) → answer ≡ map (row_sum core r.what) found → IsAnswer core.dims r answer
-answer_fits core r found answer ok h there is made =
+pub sums_fit : (core : Core) (r : Request) (answer : List AnswerRow) → IsCore core → fits (plains core.dims) r.group r.picks ≡ true → IsThere core.dims r.what
+    → ((p : Policy) → answer ≡ map (row_sum core r.what) (rows (shown core p) r)) → IsAnswer core.dims r answer
+sums_fit core r answer ok h there made =
     let none : Policy = record { methods = []; objects = [] } in
     record {
       levels = (lengths_fit core.dims.dimensions r.group r.picks h).0;
       measure = there;
-      rows = all_in (RowFits core.dims r) answer (λ row within. row_fits core none r row ok h (subst (IsIn row) (made ∙ ap (map (row_sum core r.what)) (is none)) within));
+      rows = all_in (RowFits core.dims r) answer (λ row within. row_fits core none r row ok h (subst (IsIn row) (made none) within));
     }
+
+pub answer_fits : (core : Core) (r : Request) (found : List Row) (answer : List AnswerRow) → IsCore core → fits (plains core.dims) r.group r.picks ≡ true → IsThere core.dims r.what
+    → ((p : Policy) → found ≡ rows (shown core p) r) → answer ≡ map (row_sum core r.what) found → IsAnswer core.dims r answer
+answer_fits core r found answer ok h there is made = sums_fit core r answer ok h there (λ p. made ∙ ap (map (row_sum core r.what)) (is p))
 
 -- ---- the cell of a place, level by level
 

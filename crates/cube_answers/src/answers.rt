@@ -1,5 +1,5 @@
 // The text of an answer: CSV with a header.
-ghost use Rattle.std.specs.Prelude.{◌≡◌, ◌≤◌, ◌++◌, length, flat_map, ℤ, IfOk, OnOk};
+ghost use Rattle.std.specs.Prelude.{◌≡◌, ◌≤◌, ◌++◌, [], length, flat_map, ℤ, IfOk, OnOk};
 ghost use Rattle.std.specs.List.{All};
 ghost use Rattle.cube_text.specs.Quoting.{field};
 ghost use Rattle.cube_text.specs.Units.{units_text};
@@ -9,6 +9,9 @@ use crate::numbers::push_units;
 use cube_model::{Answer, AnswerRow, Dims, NoMemory, Request, Text, What};
 use cube_text::{push_field, push_heads, push_key};
 use std::alloc::Global;
+
+// How many bytes most lines have at most.
+const LINE: usize = 24;
 
 fn push_what(text: &mut Text, dims: &Dims, what: What) -> Result<(), NoMemory>
     requires { IsThere dims.now what }
@@ -91,6 +94,14 @@ fn push_rows(
     Ok(())
 }
 
+// Room for so many lines, as long as most are.
+fn room_for(alloc: Global, lines: usize) -> Result<Text, NoMemory>
+    ensures { IfOk result (λ text. text ≡ []) }
+{
+    let room = lines.saturating_add(1).saturating_mul(LINE);
+    Ok(Text::from_vec(Vec::with_capacity(alloc, room)?))
+}
+
 /// The text of the answer to a request: a line for the header, with a field `dimension.level` for each grouping level that
 /// is not `all` and the measure or `count`, then one line for each row.
 pub fn answer_text(
@@ -102,7 +113,7 @@ pub fn answer_text(
     requires { IsAnswer dims.now request.now answer.now }
     ensures { IfOk result (λ text. text ≡ answer_words dims.now request.now answer.now) }
 {
-    let mut text = Text::new(alloc);
+    let mut text = room_for(alloc, answer.len())?;
     push_header(alloc, &mut text, dims, request)?;
     push_rows(&mut text, dims, request, answer.as_slice())?;
     Ok(text)

@@ -1,8 +1,9 @@
 // The sums of a request.
 ghost use Rattle.std.specs.Prelude.{◌≡◌, ◌+◌, length, map, true, IfOk, OnOk};
 ghost use Rattle.std.specs.List.{AllByRecursion};
+ghost use Rattle.std.specs.Option.{IfSome};
 ghost use Rattle.cube_core.specs.Rows.{ArePlaces};
-ghost use Rattle.cube_model.specs.Cores.{world};
+ghost use Rattle.cube_model.specs.Cores.{shown, world};
 ghost use Rattle.cube_model.specs.Dims.{plains};
 ghost use Rattle.cube_model.specs.Requests as requests;
 ghost use Rattle.cube_model.specs.Requests.{fits, total};
@@ -46,6 +47,23 @@ fn sum_rows<L: Ledger>(
     Ok(answer)
 }
 
+// The sums of a measure by the ranks of their keys, where that is the shorter way. Numbers of facts are counted row by row.
+fn sums_by_rank<L: Ledger>(
+    alloc: Global,
+    core: &Core,
+    request: &Request,
+    steps: &mut Steps<L>,
+) -> Result<Option<Answer>, NoMemory>
+    requires fits { fits (plains core.now.dims) request.now.group request.now.picks ≡ true }
+    requires measure { IsThere core.now.dims request.now.what }
+    ensures { IfOk result (λ found. IfSome found (λ answer. (p : Policy) → answer ≡ map (row_sum core.now request.now.what) (requests.rows (shown core.now p) request.now))) }
+{
+    match request.what {
+        What::Count => Ok(None),
+        What::Measure(measure) => core.sums(alloc, request, measure, steps),
+    }
+}
+
 /// The answer to a request: the plain sum of each row, or the number of its facts.
 pub fn answer<L: Ledger>(
     alloc: Global,
@@ -59,6 +77,10 @@ pub fn answer<L: Ledger>(
     ensures written { IfOk result (λ answer. IsAnswer core.now.dims request.now answer) }
 {
     let _rules = core.dims();
+    let found = sums_by_rank(alloc, core, request, steps)?;
+    if let Some(answer) = found {
+        return Ok(answer);
+    }
     let rows = core.rows(alloc, request)?;
     sum_rows(alloc, core, request.what, rows, steps)
 }

@@ -1,12 +1,13 @@
 -- The statuses of a run, and those of one in which no count of faults rose.
 use Rattle.std.proofs.Common.{◌≡◌, ◌⊎◌, inl, inr, ℕ, suc, Bool, true, false, List, [], ◌∷◌, Option, Some, None}
+use Rattle.std.specs.Prelude.{codes}
 use Rattle.std.specs.declared.result.Result.{Result}
 use Rattle.std.specs.declared.result.Result.TheVariants.{Ok, Err}
 use Rattle.cube_model.specs.declared.policy.Policy.{Policy}
 use Rattle.cube_model.specs.Cores.{Core}
 use Rattle.cube_io.specs.Causes.{Rose}
 use Rattle.cube_io.specs.Seen.{FolderState, SourceState, SinkState, StoreState, WireState, Seen}
-use Rattle.cube_opening.specs.Opening.{dims_said, facts_said, policy_said, flat_said, Unopened, EndsUnopened, names_of}
+use Rattle.cube_opening.specs.Opening.{dims_said, facts_said, policy_said, flat_said, Unread, Unopened, EndsUnopened, names_of, names_with}
 use Rattle.cube_opening.specs.Reports.{Prints}
 use Rattle.cube_opening.specs.declared.cube_files.CubeFiles.{CubeFiles}
 use Rattle.cube_opening.specs.declared.cube_files.RuledFiles.{RuledFiles}
@@ -18,15 +19,18 @@ use Rattle.cube_server.specs.declared.serving.ServeFault.TheVariants.{WireFailed
 use Rattle.cube_serving.specs.Grouping.{EndsClosedGroups, IsRefusedAt, UnstartedGroups}
 use Rattle.cube_serving.specs.ReplayedGroups.{GroupsReplayEnds}
 use Rattle.cube_serving.specs.ServedGroups.{GroupsServeEnds}
-use Rattle.cube_serving.specs.Replaying.{script_said, all_names, played_status, Writes, ReplayEnds}
+use Rattle.cube_serving.specs.Replaying.{script_said, played_status, Writes, ReplayEnds}
 use Rattle.cube_serving.specs.Serving.{served_status, ServeEnds, Unheard}
 use Rattle.cube_serving.specs.Starting.{Unstarted, EndsClosed}
-use Rattle.cube_serving.proofs.Unruled.{IsOfFiles, status as files_status}
+use Rattle.cube_opening.proofs.Ended.{IsOfFiles}
+use Rattle.cube_serving.proofs.Unruled.{status as files_status}
 use Rattle.cube_talk.specs.declared.talk.Ending.{Ending}
 use Rattle.cube_talk.specs.declared.talk.Ending.TheVariants.{Ended, InputFailed, OutputFailed, NoMemory, Spent}
+use Rattle.cube_words.specs.Help.{help_said}
+use Rattle.cube_words.specs.declared.drafting.Drafting.{Drafting}
 use Rattle.cube_words.specs.declared.ordered.Making.{Making}
 use Rattle.cube_words.specs.declared.ordered.Orders.{Orders}
-use Rattle.cube_words.specs.declared.ordered.Orders.TheVariants.{Help, Version, Sum, Check, Ask, Witness, Twin, Compact, Why, Audit, Advise, Serve, ServeGroups, Replay, ReplayGroups, Demo}
+use Rattle.cube_words.specs.declared.ordered.Orders.TheVariants.{Help, Version, Draft, Sum, Check, Ask, Witness, Twin, Compact, Why, Audit, Advise, Serve, ServeGroups, Replay, ReplayGroups, Demo}
 use Rattle.cube_advise.specs.Telling.{first_text, later_text}
 use Rattle.cube_audit.specs.Audits.{audited}
 use Rattle.cube_audit.specs.AuditText.{audited_text}
@@ -36,11 +40,12 @@ use Rattle.cube_app.specs.Reasons.{reason_said, IsWhyOf, IsWhetherOf, Says, Says
 use Rattle.cube_app.specs.Cells.{Tells, TellEnds, told_text}
 use Rattle.cube_app.specs.declared.cells.Telling.{Telling}
 use Rattle.cube_app.specs.declared.cells.Telling.TheVariants as telling
+use Rattle.cube_app.specs.Drafting.{DraftRun, Undrafted, text_in}
 use Rattle.cube_app.specs.Making.{DemoRun}
 use Rattle.cube_app.specs.Runs.{Outside, Does, Obeyed, IsCalm, CalmStatus}
 use Rattle.cube_app.specs.Summary.{check_text, Summarizes, CheckEnds}
 use Rattle.cube_app.specs.Talks.{SumEnds, AskEnds}
-use Rattle.cube_app.specs.Texts.{help_text, version_text, status_of}
+use Rattle.cube_app.specs.Texts.{version_text, status_of}
 
 -- ---- the statuses of what is ordered
 
@@ -151,7 +156,7 @@ serves cube stated files store wire r (inr (inr e)) = served r.status e.0.end e.
 
 replays : {F S O : Type 0} (cube : CubeFiles) (script : List ℕ) (stated : ℕ) (files : Seen FolderState F) (store : Seen StoreState S) (out : Seen SinkState O) (r : Report) → ReplayEnds cube script stated files store out r → Known r.status
 replays cube script stated files store out r (inl e) = one_file script_said script files r e.0.ends.unopened
-replays cube script stated files store out r (inr (inl e)) = closed cube (all_names cube script) files store r e.0
+replays cube script stated files store out r (inr (inl e)) = closed cube (names_with cube script) files store r e.0
 replays cube script stated files store out r (inr (inr (inl e))) = no_memory e.1.0
 replays cube script stated files store out r (inr (inr (inr e))) = written e.0.writes
   where
@@ -215,12 +220,12 @@ whys cube query files store out r (inr e) = says_one (IsWhyOf e.0.core e.0.polic
 
 whethers : {F S O : Type 0} (cube : CubeFiles) (query name : List ℕ) (files : Seen FolderState F) (store : Seen StoreState S) (out : Seen SinkState O) (r : Report) → WhetherEnds cube query name files store out r → Known r.status
 whethers cube query name files store out r (inl e) = one_file reason_said name files r e.0.ends.unopened
-whethers cube query name files store out r (inr (inl e)) = closed cube (all_names cube name) files store r e.0
+whethers cube query name files store out r (inr (inl e)) = closed cube (names_with cube name) files store r e.0
 whethers cube query name files store out r (inr (inr e)) = says_one (IsWhetherOf e.0.core e.0.policy e.0.history query e.0.reason) out r e.0.says
 
 unread : {F : Type 0} (cube : CubeFiles) (workload : Option (List ℕ)) (files : Seen FolderState F) (r : Report) → EndsUnread cube workload files r → Known r.status
 unread cube workload files r (inl e) = all_files cube files r e
-unread cube None files r (inr e) = absurd e.ends
+unread cube None files r (inr e) = absurd e
 unread cube (Some name) files r (inr e) = one_file workload_said name files r e.ends.unopened
 
 puts : {O : Type 0} (text : List ℕ) (out : Seen SinkState O) (r : Report) → Puts text out r → Known r.status
@@ -252,10 +257,27 @@ made making out r (inr (inr (inl e))) = no_memory e.0.0
 made making out r (inr (inr (inr (inl e)))) = no_memory e.0.0
 made making out r (inr (inr (inr (inr e)))) = refused e.0.0
 
+drafts : {F O : Type 0} (drafting : Drafting) (files : Seen FolderState F) (out : Seen SinkState O) (r : Report) → DraftRun drafting files out r → Known r.status
+drafts drafting files out r (inl e) = unread_file e.0
+  where
+    unread_file : Unread (codes "facts") drafting.facts files r → Known r.status
+    unread_file (inl e) = no_memory e.0
+    unread_file (inr (inl e)) = no_memory e.0
+    unread_file (inr (inr (inl e))) = unreadable e.0.0
+    unread_file (inr (inr (inr e))) = refused e.0.0
+drafts drafting files out r (inr (inl e)) = undrafted e.0
+  where
+    undrafted : Undrafted r → Known r.status
+    undrafted (inl e) = no_memory e.0
+    undrafted (inr (inl e)) = no_memory e.0
+    undrafted (inr (inr e)) = refused e.2.0
+drafts drafting files out r (inr (inr e)) = prints (text_in drafting e.0.draft) out r e.0.printed
+
 -- of a run in which these orders were obeyed
 known : {F S I O W : Type 0} (orders : Orders) (objects : Outside F S I O W) (r : Report) → Does orders objects r → Known r.status
-known Help objects r d = prints help_text objects.out r d
+known (Help on) objects r d = prints (help_said on) objects.out r d
 known Version objects r d = prints version_text objects.out r d
+known (Draft drafting) objects r d = drafts drafting objects.files objects.out r d
 known (Sum facts) objects r d = sums facts objects.files objects.input objects.out r d.answers
 known (Check cube) objects r d = checks cube objects.files objects.out r d.answers
 known (Ask cube name stated) objects r d = asks cube stated objects.files objects.store objects.input objects.out r d.answers

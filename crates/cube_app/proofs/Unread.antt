@@ -1,12 +1,12 @@
 -- How a run that is to advise ends at its files.
-use Rattle.std.proofs.Common.{◌≡◌, ◌∙◌, ◌⊎◌, ℕ, List, [], Option, Some, None, inl, inr, refl, sym, arith}
-use Rattle.std.specs.Prelude.{Result, Ok, IsSomeAnd}
+use Rattle.std.proofs.Common.{◌≡◌, ◌∙◌, ◌⊎◌, ℕ, List, [], Option, Some, None, inl, inr, sym, arith}
+use Rattle.std.specs.Prelude.{Result}
 use Rattle.cube_io.specs.Causes.{Rose}
 use Rattle.cube_io.specs.Seen.{FolderState, Seen}
-use Rattle.cube_opening.specs.Opening.{dims_said, facts_said, policy_said, FileSays, Unopened, EndsUnopened, HasAll, names_of}
+use Rattle.cube_opening.specs.Opening.{dims_said, facts_said, policy_said, Unopened, EndsUnopened, HasAll, names_of}
 use Rattle.cube_opening.specs.declared.cube_files.CubeFiles.{CubeFiles}
 use Rattle.cube_opening.specs.declared.report.Report.{Report}
-use Rattle.cube_opening.proofs.Accepted.{accepted_one, all_accepted}
+use Rattle.cube_opening.proofs.Accepted.{all_accepted, last_accepted}
 use Rattle.cube_app.specs.Advising.{workload_said, HasWorkload, EndsAtWorkload, EndsUnread}
 
 -- ---- statuses
@@ -27,13 +27,13 @@ all_files cube folder r (inl (inl e)) = one_file dims_said cube.dims folder r e.
 all_files cube folder r (inl (inr e)) = one_file (facts_said e.0) cube.facts folder r e.2.unopened
 all_files cube folder r (inr e) = one_file (policy_said e.0.dims) cube.policy folder r e.2.unopened
 
-at_workload : {F : Type 0} (earlier : List (List ℕ)) (workload : Option (List ℕ)) (folder : Seen FolderState F) (r : Report) → EndsAtWorkload earlier workload folder r → IsAtFile folder r
-at_workload earlier None folder r e = absurd e
-at_workload earlier (Some name) folder r e = one_file workload_said name folder r e.unopened
+at_workload : {F : Type 0} (cube : CubeFiles) (workload : Option (List ℕ)) (folder : Seen FolderState F) (r : Report) → EndsAtWorkload cube workload folder r → IsAtFile folder r
+at_workload cube None folder r e = absurd e
+at_workload cube (Some name) folder r e = one_file workload_said name folder r e.ends.unopened
 
 pub at_file : {F : Type 0} (cube : CubeFiles) (workload : Option (List ℕ)) (folder : Seen FolderState F) (r : Report) → EndsUnread cube workload folder r → IsAtFile folder r
 at_file cube workload folder r (inl e) = all_files cube folder r e
-at_file cube workload folder r (inr e) = at_workload (names_of cube) workload folder r e.ends
+at_file cube workload folder r (inr e) = at_workload cube workload folder r e
 
 pub unreadable : {F : Type 0} (folder : Seen FolderState F) (r : Report) → IsAtFile folder r → r.status ≡ 5 → Rose folder.before.faults folder.after.faults
 unreadable folder r e five = go e.status
@@ -53,17 +53,12 @@ no_other folder r k three five seven e is = go e.status
 
 -- ---- where all is accepted
 
-workload_within : {F : Type 0} (earlier : List (List ℕ)) (name : List ℕ) (folder : Seen FolderState F) (r : Report) (files : Option (List (List ℕ × List ℕ))) → folder.before.files ≡ files → Unopened workload_said name folder r
-    → IsSomeAnd files (λ known. (bytes : List ℕ) × FileSays workload_said name known (Ok bytes)) → ¬ Rose folder.before.faults folder.after.faults → r.status ≡ 7
-workload_within earlier name folder r None is e h q = absurd h
-workload_within earlier name folder r (Some known) is e (bytes, says) q = accepted_one workload_said name folder known r bytes is says q e
-
-workload_accepted : {F : Type 0} (earlier : List (List ℕ)) (workload : Option (List ℕ)) (folder : Seen FolderState F) (r : Report) → EndsAtWorkload earlier workload folder r → HasWorkload workload folder.before
+workload_accepted : {F : Type 0} (cube : CubeFiles) (workload : Option (List ℕ)) (folder : Seen FolderState F) (r : Report) → EndsAtWorkload cube workload folder r → HasWorkload workload folder.before
     → ¬ Rose folder.before.faults folder.after.faults → r.status ≡ 7
-workload_accepted earlier None folder r e h q = absurd e
-workload_accepted earlier (Some name) folder r e h q = workload_within earlier name folder r folder.before.files refl e.unopened h q
+workload_accepted cube None folder r e h q = absurd e
+workload_accepted cube (Some name) folder r e h q = last_accepted (names_of cube) workload_said name folder r e.ends h q
 
 pub all_read : {F : Type 0} (cube : CubeFiles) (workload : Option (List ℕ)) (folder : Seen FolderState F) (r : Report) → EndsUnread cube workload folder r → HasAll cube folder.before → HasWorkload workload folder.before
     → ¬ Rose folder.before.faults folder.after.faults → r.status ≡ 7
 all_read cube workload folder r (inl e) all has q = all_accepted cube folder r e all q
-all_read cube workload folder r (inr e) all has q = workload_accepted (names_of cube) workload folder r e.ends has q
+all_read cube workload folder r (inr e) all has q = workload_accepted cube workload folder r e has q

@@ -1,5 +1,5 @@
 -- All that `advise` does.
-use Rattle.std.specs.Prelude.{◌≡◌, ◌⊎◌, ◌↔◌, ◌≤◌, ◌<◌, ◌+◌, ⊤, ℕ, true, IsTrue, List, [], ◌∷◌, ◌++◌, length, codes, if◌then◌else◌, IfSome, IsSomeAnd, Option, Some, None}
+use Rattle.std.specs.Prelude.{◌≡◌, ◌⊎◌, ◌↔◌, ◌≤◌, ◌<◌, ◌+◌, ⊤, ℕ, true, IsTrue, List, [], length, codes, if◌then◌else◌, IfSome, Option, Some, None}
 use Rattle.std.specs.declared.result.Result.{Result}
 use Rattle.std.specs.declared.result.Result.TheVariants.{Ok, Err}
 use Rattle.cube_model.specs.declared.entry.Entry.{Entry}
@@ -19,7 +19,7 @@ use Rattle.cube_advise.specs.Telling.{first_text, later_text}
 use Rattle.cube_engine.specs.Kept.{IsExact}
 use Rattle.cube_io.specs.Causes.{Rose}
 use Rattle.cube_io.specs.Seen.{FolderState, SinkState, StoreState, Seen, Unused}
-use Rattle.cube_opening.specs.Opening.{unless_long, FileSays, EndsAt, EndsUnopened, GotBehind, Make, HasAll, names_of}
+use Rattle.cube_opening.specs.Opening.{unless_long, FileSays, EndsAtLast, EndsUnopened, GotBehind, Make, HasAll, HasFile, names_of, names_with}
 use Rattle.cube_opening.specs.Reports.{IsReport, IsDone, Prints}
 use Rattle.cube_opening.specs.declared.cube_files.CubeFiles.{CubeFiles}
 use Rattle.cube_opening.specs.declared.report.Report.{Report}
@@ -46,28 +46,21 @@ WorkloadSays (Some name) files (Some bytes) = (is_workload bytes ≡ true) × If
 -- the workload is there and is accepted, where one is named
 abbrev pub HasWorkload : Option (List ℕ) → FolderState → Type 0
 HasWorkload None files = ⊤
-HasWorkload (Some name) files = IsSomeAnd files.files (λ known. (bytes : List ℕ) × FileSays workload_said name known (Ok bytes))
+HasWorkload (Some name) files = HasFile workload_said name files
 
 -- the names of all files, in the turn in which they are read
 abbrev pub named_with : CubeFiles → Option (List ℕ) → List (List ℕ)
 named_with cube None = names_of cube
-named_with cube (Some name) = names_of cube ++ name ∷ []
-
--- a run ended at the workload, behind files of those names
-abbrev pub EndsAtWorkload : {F : Type 0} → List (List ℕ) → Option (List ℕ) → Seen FolderState F → Report → Type 0
-EndsAtWorkload earlier None files r = ⊥
-EndsAtWorkload earlier (Some name) files r = EndsAt earlier workload_said name files r
+named_with cube (Some name) = names_with cube name
 
 -- the three files make a core and a policy, and the run ended at the workload
-pub record Unworked {F : Type 0} (cube : CubeFiles) (workload : Option (List ℕ)) (files : Seen FolderState F) (r : Report) : Type 0 where
-  pub core : Core
-  pub policy : Policy
-  pub files_make : Make cube files.before core policy
-  pub ends : EndsAtWorkload (names_of cube) workload files r
+abbrev pub EndsAtWorkload : {F : Type 0} → CubeFiles → Option (List ℕ) → Seen FolderState F → Report → Type 0
+EndsAtWorkload cube None files r = ⊥
+EndsAtWorkload cube (Some name) files r = EndsAtLast cube workload_said name files r
 
 -- a run ended at its files: at one of the cube, or at the workload
 abbrev pub EndsUnread : {F : Type 0} → CubeFiles → Option (List ℕ) → Seen FolderState F → Report → Type 0
-EndsUnread cube workload files r = EndsUnopened cube files r ⊎ Unworked cube workload files r
+EndsUnread cube workload files r = EndsUnopened cube files r ⊎ EndsAtWorkload cube workload files r
 
 -- ---- what is said
 

@@ -1,12 +1,12 @@
 -- All that `audit` does.
-use Rattle.std.specs.Prelude.{◌≡◌, ◌⊎◌, ℕ, List, codes, IfSome, IsSomeAnd}
+use Rattle.std.specs.Prelude.{◌≡◌, ◌⊎◌, ℕ, List, codes, IfSome}
 use Rattle.std.specs.declared.result.Result.{Result}
 use Rattle.std.specs.declared.result.Result.TheVariants.{Ok}
 use Rattle.cube_model.specs.declared.policy.Policy.{Policy}
 use Rattle.cube_model.specs.Cores.{Core}
 use Rattle.cube_io.specs.Causes.{Rose}
 use Rattle.cube_io.specs.Seen.{FolderState, SinkState, Seen, Unused}
-use Rattle.cube_opening.specs.Opening.{fault_text, faulted, unless_long, FileSays, EndsAt, EndsUnopened, GotBehind, Make, HasAll, names_of}
+use Rattle.cube_opening.specs.Opening.{fault_text, faulted, unless_long, FileSays, EndsAtLast, EndsUnopened, GotBehind, Make, HasAll, HasFile, names_with}
 use Rattle.cube_opening.specs.Reports.{IsReport, IsDone, Prints}
 use Rattle.cube_opening.specs.declared.cube_files.CubeFiles.{CubeFiles}
 use Rattle.cube_opening.specs.declared.report.Report.{Report}
@@ -16,24 +16,12 @@ use Rattle.cube_audit.specs.Sound.{SaysSound}
 use Rattle.cube_audit.specs.Transcripts.{transcript_of}
 use Rattle.cube_audit.specs.Words.{fault_words}
 use Rattle.cube_audit.specs.declared.transcript.TranscriptItem.{TranscriptItem}
-use Rattle.cube_serving.specs.Replaying.{all_names}
 
 -- ---- the transcript
 
 -- the items of the bytes of a transcript, or the text on its fault
 abbrev pub transcript_said : List ℕ → Result (List TranscriptItem) (List ℕ)
 transcript_said bytes = unless_long (codes "transcript") bytes (faulted (λ fault. fault_text (codes "transcript") (fault_words fault)) (transcript_of bytes))
-
--- the three files make a core and a policy, and the run ended at the transcript
-pub record Untranscribed {F : Type 0} (cube : CubeFiles) (transcript : List ℕ) (files : Seen FolderState F) (r : Report) : Type 0 where
-  pub core : Core
-  pub policy : Policy
-  pub files_make : Make cube files.before core policy
-  pub ends : EndsAt (names_of cube) transcript_said transcript files r
-
--- the transcript is there and is accepted
-abbrev pub HasTranscript : List ℕ → FolderState → Type 0
-HasTranscript transcript files = IsSomeAnd files.files (λ known. (items : List TranscriptItem) × FileSays transcript_said transcript known (Ok items))
 
 -- ---- the run
 
@@ -57,12 +45,12 @@ pub record AuditTold {O : Type 0} (cube : CubeFiles) (transcript : List ℕ) (fi
 abbrev pub AuditEnds : {F O : Type 0} → CubeFiles → List ℕ → Seen FolderState F → Seen SinkState O → Report → Type 0
 AuditEnds cube transcript files out r =
     (EndsUnopened cube files r × Unused out)
-    ⊎ (Untranscribed cube transcript files r × Unused out)
-    ⊎ (AuditTold cube transcript files.before out r × GotBehind (all_names cube transcript) files)
+    ⊎ (EndsAtLast cube transcript_said transcript files r × Unused out)
+    ⊎ (AuditTold cube transcript files.before out r × GotBehind (names_with cube transcript) files)
 
 -- where the files and the transcript are accepted and no count rose, all was done, or memory ran out
 abbrev pub AuditCompletes : {F O : Type 0} → CubeFiles → List ℕ → Seen FolderState F → Seen SinkState O → Report → Type 0
-AuditCompletes cube transcript files out r = HasAll cube files.before → HasTranscript transcript files.before → ¬ Rose files.before.faults files.after.faults → ¬ Rose out.before.faults out.after.faults → IsDone r
+AuditCompletes cube transcript files out r = HasAll cube files.before → HasFile transcript_said transcript files.before → ¬ Rose files.before.faults files.after.faults → ¬ Rose out.before.faults out.after.faults → IsDone r
 
 -- All that `audit` does with these files.
 pub record AuditRun {F O : Type 0} (cube : CubeFiles) (transcript : List ℕ) (files : Seen FolderState F) (out : Seen SinkState O) (r : Report) : Type 0 where

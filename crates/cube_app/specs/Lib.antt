@@ -1,6 +1,7 @@
 pub mod Advising
 pub mod Auditing
 pub mod Cells
+pub mod Drafting
 pub mod Ends
 pub mod Making
 pub mod Runs

@@ -1,5 +1,5 @@
 -- All that `why` does: it says why a query is refused, or whether a text says so.
-use Rattle.std.specs.Prelude.{◌≡◌, ◌⊎◌, ◌≤◌, ◌+◌, ◌↔◌, ⊤, ℕ, Bool, true, IsTrue, IsOk, List, ◌++◌, codes, if◌then◌else◌, IfSome, IsSomeAnd, Option, Some, None}
+use Rattle.std.specs.Prelude.{◌≡◌, ◌⊎◌, ◌≤◌, ◌+◌, ◌↔◌, ⊤, ℕ, Bool, true, IsTrue, IsOk, List, ◌++◌, codes, if◌then◌else◌, IfSome, Option, Some, None}
 use Rattle.std.specs.declared.result.Result.{Result}
 use Rattle.std.specs.declared.result.Result.TheVariants.{Ok, Err}
 use Rattle.cube_model.specs.declared.entry.Entry.{Entry}
@@ -13,11 +13,10 @@ use Rattle.cube_query.specs.Faults.{request_of, fault_body}
 use Rattle.cube_query.specs.declared.fault.RequestFault.{RequestFault}
 use Rattle.cube_reason.specs.Showing.{IsWhy, Shows}
 use Rattle.cube_engine.specs.Kept.{IsExact}
-use Rattle.cube_opening.specs.Opening.{EndsAt, FileSays, GotBehind, HasAll, Make, names_of, unless_long}
+use Rattle.cube_opening.specs.Opening.{EndsAtLast, FileSays, GotBehind, HasAll, HasFile, Make, names_of, names_with, unless_long}
 use Rattle.cube_opening.specs.Reports.{IsReport, IsDone, NoRoom, Prints}
 use Rattle.cube_opening.specs.declared.cube_files.CubeFiles.{CubeFiles}
 use Rattle.cube_opening.specs.declared.report.Report.{Report}
-use Rattle.cube_serving.specs.Replaying.{all_names}
 use Rattle.cube_serving.specs.Starting.{EndsClosed, IsOpen, Recovers, HasJournal}
 use Rattle.cube_app.specs.Ends.{AsksJournal}
 use Rattle.cube_app.specs.declared.reasons.Unsaid.{Unsaid}
@@ -131,17 +130,6 @@ pub record WhyRun {F S O : Type 0} (cube : CubeFiles) (journal query : List ℕ)
 abbrev pub reason_said : List ℕ → Result (List ℕ) (List ℕ)
 reason_said bytes = unless_long (codes "reason") bytes (Ok bytes)
 
--- the three files make a core and a policy, and the run ended at the file of the reason
-pub record Unreasoned {F : Type 0} (cube : CubeFiles) (name : List ℕ) (files : Seen FolderState F) (r : Report) : Type 0 where
-  pub core : Core
-  pub policy : Policy
-  pub files_make : Make cube files.before core policy
-  pub ends : EndsAt (names_of cube) reason_said name files r
-
--- the file of the reason is there, and no longer than a file may be
-abbrev pub HasReason : List ℕ → FolderState → Type 0
-HasReason name files = IsSomeAnd files.files (λ known. (reason : List ℕ) × FileSays reason_said name known (Ok reason))
-
 -- It was said whether the bytes of the file are those of a reason, by an open cube and its history, which stays.
 pub record ToldWhether {S O : Type 0} (cube : CubeFiles) (query name : List ℕ) (files : FolderState) (store : Seen StoreState S) (out : Seen SinkState O) (r : Report) : Type 0 where
   pub core : Core
@@ -158,12 +146,12 @@ pub record ToldWhether {S O : Type 0} (cube : CubeFiles) (query name : List ℕ)
 -- a run that is to check a reason ends at its file, or before its cube is open, or it says whether it is one
 abbrev pub WhetherEnds : {F S O : Type 0} → CubeFiles → List ℕ → List ℕ → Seen FolderState F → Seen StoreState S → Seen SinkState O → Report → Type 0
 WhetherEnds cube query name files store out r =
-    (Unreasoned cube name files r × Unused store × Unused out)
-    ⊎ (EndsClosed cube (all_names cube name) files store r × Unused out)
-    ⊎ (ToldWhether cube query name files.before store out r × GotBehind (all_names cube name) files)
+    (EndsAtLast cube reason_said name files r × Unused store × Unused out)
+    ⊎ (EndsClosed cube (names_with cube name) files store r × Unused out)
+    ⊎ (ToldWhether cube query name files.before store out r × GotBehind (names_with cube name) files)
 
 abbrev pub WhetherCompletes : {F S O : Type 0} → CubeFiles → List ℕ → List ℕ → Seen FolderState F → Seen StoreState S → Seen SinkState O → Report → Type 0
-WhetherCompletes cube query name files store out r = HasAll cube files.before → HasReason name files.before → HasJournal cube files.before store.before → IsQuery cube query files.before
+WhetherCompletes cube query name files store out r = HasAll cube files.before → HasFile reason_said name files.before → HasJournal cube files.before store.before → IsQuery cube query files.before
     → ¬ Rose files.before.faults files.after.faults → ¬ Rose store.before.faults store.after.faults → ¬ Rose out.before.faults out.after.faults → IsDone r
 
 -- All that a run that is to check the reason in a file does with these files, this journal and this query.

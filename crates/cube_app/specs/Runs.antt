@@ -5,19 +5,21 @@ use Rattle.cube_io.specs.Seen.{FolderState, SourceState, SinkState, StoreState, 
 use Rattle.cube_opening.specs.Reports.{IsReport, NoRoom, Prints}
 use Rattle.cube_opening.specs.declared.report.Report.{Report}
 use Rattle.cube_serving.specs.Grouping.{OnlyFirst}
+use Rattle.cube_words.specs.Help.{help_said}
 use Rattle.cube_words.specs.declared.ordered.Orders.{Orders}
-use Rattle.cube_words.specs.declared.ordered.Orders.TheVariants.{Help, Version, Sum, Check, Ask, Witness, Twin, Compact, Why, Audit, Advise, Serve, ServeGroups, Replay, ReplayGroups, Demo}
+use Rattle.cube_words.specs.declared.ordered.Orders.TheVariants.{Help, Version, Draft, Sum, Check, Ask, Witness, Twin, Compact, Why, Audit, Advise, Serve, ServeGroups, Replay, ReplayGroups, Demo}
 use Rattle.cube_words.specs.declared.words.Usage.{Usage}
 use Rattle.cube_app.specs.Advising.{AdviseRun}
 use Rattle.cube_app.specs.Auditing.{AuditRun}
 use Rattle.cube_app.specs.Cells.{TellRun}
 use Rattle.cube_app.specs.declared.cells.Telling.TheVariants as telling
+use Rattle.cube_app.specs.Drafting.{DraftRun}
 use Rattle.cube_app.specs.Making.{DemoRun}
 use Rattle.cube_app.specs.Reasons.{ReasonRun}
 use Rattle.cube_app.specs.Serves.{ServeRun, ServeGroupsRun, ReplayRun, ReplayGroupsRun}
 use Rattle.cube_app.specs.Summary.{CheckRun}
 use Rattle.cube_app.specs.Talks.{SumRun, AskRun}
-use Rattle.cube_app.specs.Texts.{usage_text, help_text, version_text}
+use Rattle.cube_app.specs.Texts.{usage_text, version_text}
 
 -- The objects outside, before a run and after it.
 pub record Outside (F S I O W : Type 0) : Type 0 where
@@ -29,11 +31,12 @@ pub record Outside (F S I O W : Type 0) : Type 0 where
 
 -- ---- what each command does
 
--- What is done where this is ordered: texts about the program are printed, the lines of the input are answered by sums or as asks, the files
+-- What is done where this is ordered: texts about the program are printed, files are drafted for a fact file, the lines of the input are answered by sums or as asks, the files
 -- are summed up, a cell or the compacted history is told, connections are served, a script is played, or a made cube is shown.
 abbrev pub Does : {F S I O W : Type 0} → Orders → Outside F S I O W → Report → Type 0
-Does Help objects r = Prints help_text objects.out r
+Does (Help on) objects r = Prints (help_said on) objects.out r
 Does Version objects r = Prints version_text objects.out r
+Does (Draft drafting) objects r = DraftRun drafting objects.files objects.out r
 Does (Sum facts) objects r = SumRun facts objects.files objects.input objects.out r
 Does (Check cube) objects r = CheckRun cube objects.files objects.out r
 Does (Ask cube journal stated) objects r = AskRun cube journal stated objects.files objects.store objects.input objects.out r
@@ -51,8 +54,9 @@ Does (Demo making) objects r = DemoRun making objects.out r
 
 -- What it leaves as it was. Only `ask`, `serve` and `replay` report what became of asks.
 abbrev pub Leaves : {F S I O W : Type 0} → Orders → Outside F S I O W → Report → Type 0
-Leaves Help objects r = Unused objects.files × Unused objects.store × Unused objects.input × Unused objects.wire × (r.outcomes ≡ [])
+Leaves (Help on) objects r = Unused objects.files × Unused objects.store × Unused objects.input × Unused objects.wire × (r.outcomes ≡ [])
 Leaves Version objects r = Unused objects.files × Unused objects.store × Unused objects.input × Unused objects.wire × (r.outcomes ≡ [])
+Leaves (Draft drafting) objects r = Unused objects.store × Unused objects.input × Unused objects.wire × (r.outcomes ≡ [])
 Leaves (Sum facts) objects r = Unused objects.store × Unused objects.wire × (r.outcomes ≡ [])
 Leaves (Check cube) objects r = Unused objects.store × Unused objects.input × Unused objects.wire × (r.outcomes ≡ [])
 Leaves (Ask cube journal stated) objects r = Unused objects.wire

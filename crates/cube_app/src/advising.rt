@@ -16,7 +16,7 @@ use cube_advise::{is_workload, told_first, told_later};
 use cube_engine::Engine;
 use cube_io::{Folder, Sink, Store};
 use cube_model::{NoMemory, Text};
-use cube_opening::{CubeFiles, Guarded, Opened, Report, Room, open_guarded, read_bytes};
+use cube_opening::{CubeFiles, Guarded, Opened, Report, Room, open_guarded, read_bytes, statuses};
 use cube_serving::open_engine;
 use std::alloc::Global;
 
@@ -38,7 +38,7 @@ fn limit_lines(alloc: Global, room: Room, bytes: Text) -> Result<Opened<Text>, R
     } else {
         Err(
             room.with(b"workload: limit lines 1000000\n")
-                .close(alloc, 3),
+                .close(alloc, statuses::FILE_REFUSED),
         )
     }
 }
@@ -132,7 +132,7 @@ fn put_advice<O: Sink>(
 {
     match text {
         Ok(text) => print(alloc, room, text.as_slice(), out),
-        Err(_) => room.with(b"no memory\n").close(alloc, 7),
+        Err(_) => room.with(b"no memory\n").close(alloc, statuses::NO_MEMORY),
     }
 }
 

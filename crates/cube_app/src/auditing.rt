@@ -17,30 +17,12 @@ use cube_audit::{Transcript, TranscriptFault, audited_text, fault_text, read_tra
 use cube_core::{Core, Steps};
 use cube_io::{Folder, Sink};
 use cube_model::{NoMemory, Policy, Text};
-use cube_opening::{CubeFiles, Opened, Report, Room, no_room, open_guarded, read_bytes, with_text};
+use cube_opening::{
+    CubeFiles, Opened, Report, Room, no_room, open_unsealed, read_bytes, refuse, statuses,
+};
 use std::alloc::Global;
 use std::marker::Brand;
 use std::sync::ledger::{Blank, Ledger};
-
-// The text on a fault of a transcript, in these words.
-fn refused_text(alloc: Global, words: &Text) -> Result<Text, NoMemory>
-    ensures { IfOk result (λ text. text ≡ refusal (codes "transcript") words.now) }
-{
-    let mut text = Text::from_bytes(alloc, b"transcript: ")?;
-    text.extend(words.as_slice())?;
-    text.extend(b"\n")?;
-    Ok(text)
-}
-
-// The report on a transcript whose fault has these words.
-fn refuse(alloc: Global, words: &Text) -> Report
-    ensures { NoRoom result ⊎ IsReport 3 (refusal (codes "transcript") words.now) result }
-{
-    match refused_text(alloc, words) {
-        Ok(text) => with_text(alloc, 3, text),
-        Err(_) => no_room(alloc),
-    }
-}
 
 // The report on a fault of a transcript.
 fn refuse_transcript(alloc: Global, room: Room, fault: TranscriptFault) -> Report
@@ -48,9 +30,9 @@ fn refuse_transcript(alloc: Global, room: Room, fault: TranscriptFault) -> Repor
     ensures { NoRoom result ⊎ IsReport 7 (codes "no memory\n") result ⊎ ((fault ≢ faults.NoMemory) × IsReport 3 (refusal (codes "transcript") (fault_words fault)) result) }
 {
     match fault {
-        TranscriptFault::NoMemory => room.with(b"no memory\n").close(alloc, 7),
+        TranscriptFault::NoMemory => room.with(b"no memory\n").close(alloc, statuses::NO_MEMORY),
         other => match fault_text(alloc, &other) {
-            Ok(words) => refuse(alloc, &words),
+            Ok(words) => refuse(alloc, b"transcript", &words),
             Err(_) => no_room(alloc),
         },
     }
@@ -140,7 +122,7 @@ pub fn audit<F: Folder, O: Sink>(
     ensures store { result.status ≢ 9 }
     ensures outcomes { result.outcomes ≡ [] }
 {
-    let opened = match open_guarded(alloc, room, cube, files) {
+    let opened = match open_unsealed(alloc, room, cube, files) {
         Ok(opened) => opened,
         Err(report) => return report,
     };
@@ -151,6 +133,9 @@ pub fn audit<F: Folder, O: Sink>(
     };
     match line_of(alloc, &guarded.core, &guarded.policy, &read.value) {
         Ok(text) => print(alloc, read.room, text.as_slice(), out),
-        Err(_) => read.room.with(b"no memory\n").close(alloc, 7),
+        Err(_) => read
+            .room
+            .with(b"no memory\n")
+            .close(alloc, statuses::NO_MEMORY),
     }
 }

@@ -5,15 +5,14 @@ ghost use Rattle.cube_io.specs.Causes.{Rose};
 ghost use Rattle.cube_io.specs.Seen.{seen};
 ghost use Rattle.cube_engine.specs.Changes.{Refuses};
 ghost use Rattle.cube_opening.specs.Opening.{IsSteady};
-ghost use Rattle.cube_opening.specs.Reports.{IsReport, NoRoom};
 ghost use Rattle.cube_app.specs.Cells.{Tells, TellEnds, TellCompletes, told_text};
 ghost use Rattle.cube_serving.specs.Starting.{AsksStore, OnlyJournal};
 
 use crate::run::print;
 use cube_engine::{Engine, NoChanges};
 use cube_io::{Folder, Sink, Store};
-use cube_model::{NoMemory, Text};
-use cube_opening::{CubeFiles, Report, Room, no_room, open_guarded, with_text};
+use cube_model::Text;
+use cube_opening::{CubeFiles, Report, Room, open_guarded, refuse_line, statuses};
 use cube_serving::open_engine;
 use std::alloc::Global;
 
@@ -26,24 +25,6 @@ pub enum Telling {
     Twin,
     /// The history written down as what it holds, as a journal. The cell plays no part.
     Compacted,
-}
-
-fn refused_text(alloc: Global, line: &Text) -> Result<Text, NoMemory>
-    ensures { IfOk result (λ text. text ≡ codes "cell: " ++ line.now) }
-{
-    let mut text = Text::from_bytes(alloc, b"cell: ")?;
-    text.extend(line.as_slice())?;
-    Ok(text)
-}
-
-// The report on a cell that has no changes.
-fn refuse_cell(alloc: Global, line: &Text) -> Report
-    ensures { IsReport 3 (codes "cell: " ++ line.now) result ⊎ NoRoom result }
-{
-    match refused_text(alloc, line) {
-        Ok(text) => with_text(alloc, 3, text),
-        Err(_) => no_room(alloc),
-    }
 }
 
 // Puts what is told.
@@ -63,8 +44,8 @@ fn put_told<O: Sink>(
 {
     match told {
         Ok(text) => print(alloc, room, text.as_slice(), out),
-        Err(NoChanges::Said { line, .. }) => refuse_cell(alloc, &line),
-        Err(NoChanges::NoMemory) => room.with(b"no memory\n").close(alloc, 7),
+        Err(NoChanges::Said { line, .. }) => refuse_line(alloc, b"cell: ", &line),
+        Err(NoChanges::NoMemory) => room.with(b"no memory\n").close(alloc, statuses::NO_MEMORY),
     }
 }
 

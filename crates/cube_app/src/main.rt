@@ -4,28 +4,32 @@
 mod advising;
 mod auditing;
 mod cells;
+mod drafting;
 mod making;
+mod noting;
 mod reasons;
 mod run;
 mod summary;
-#[cfg(test)]
-mod tests;
 
 ghost use Rattle.std.specs.Prelude.{◌≡◌, IfOk};
 ghost use Rattle.cube_words.specs.Words.{orders_of as orders_in, out_of as out_ordered};
 ghost use Rattle.cube_app.specs.Ends.{out_in};
 
 use cube_edge::{
-    EitherSink, FileFolder, FileStore, MachineDisk, NoWatch, OutFile, ReaderSource, SocketWire,
-    TcpSockets, WriterSink, hold_streams,
+    EitherSink, FileFolder, FileStore, MachineDisk, MarkingSink, NoWatch, OutFile, ReaderSource,
+    SocketWire, TcpSockets, TypedSource, WriterSink, hold_streams,
 };
+use cube_io::Folder;
 use cube_model::{Items, NoMemory, Text, Texts};
+use cube_opening::Report;
 use cube_words::{Orders, orders_of};
+use noting::note;
 use run::run;
 use std::alloc::Global;
+use std::cell::Cell;
 use std::env::{Env, FillError};
 use std::io;
-use std::io::Write;
+use std::io::{IsTerminal, Write};
 use std::process::ExitCode;
 
 // A word of a command line has fewer bytes than this.
@@ -68,6 +72,25 @@ fn out_named(alloc: Global, words: &[Text]) -> Result<Option<Text>, NoMemory>
     out_of(alloc, &orders)
 }
 
+// Whether these words order lines to be answered as asks.
+fn asks(words: &[Text]) -> bool {
+    match words {
+        [first, ..] => first.as_slice() == b"ask".as_slice(),
+        [] => false,
+    }
+}
+
+// The note beside the report of a run of these words.
+fn note_on<F: Folder>(
+    alloc: Global,
+    words: &[Text],
+    report: &Report,
+    files: &mut F,
+) -> Option<Text> {
+    let orders = orders_of(alloc, words).ok()?.ok()?;
+    note(alloc, &orders, report, files)
+}
+
 // What a person may want to know behind the text of a report.
 fn explained(text: &[u8]) -> &'static str {
     if text.starts_with(b"journal: digest ") {
@@ -90,11 +113,12 @@ fn main(rt: HostRuntime) -> ExitCode {
     let Ok(mut store) = FileStore::new(rt.alloc(), MachineDisk::new(&rt), rt.stderr()) else {
         return ExitCode::from(7);
     };
-    let mut input = ReaderSource::new(rt.reader());
+    let typed = Cell::new(0usize);
+    let mut input = TypedSource::new(ReaderSource::new(rt.reader()), &typed);
     let Ok(named) = out_named(rt.alloc(), words.as_slice()) else {
         return ExitCode::from(7);
     };
-    let mut out = match named {
+    let out = match named {
         None => EitherSink::First(WriterSink::new(io::writer(&rt))),
         Some(path) => {
             match OutFile::new(rt.alloc(), MachineDisk::new(&rt), rt.stderr(), &path) {
@@ -103,6 +127,8 @@ fn main(rt: HostRuntime) -> ExitCode {
             }
         }
     };
+    let marks = rt.stdin().is_terminal() && rt.stderr().is_terminal() && asks(words.as_slice());
+    let mut out = MarkingSink::new(out, rt.stderr(), &typed, marks);
     let Ok(sockets) = TcpSockets::new(rt.alloc(), &rt, rt.stderr()) else {
         return ExitCode::from(7);
     };
@@ -119,6 +145,9 @@ fn main(rt: HostRuntime) -> ExitCode {
         &mut wire,
     );
     wire.settle();
+    if let Some(noted) = note_on(rt.alloc(), words.as_slice(), &report, &mut files) {
+        let _ = rt.stderr().write_all(noted.as_slice());
+    }
     let _ = rt.stderr().write_all(report.text.as_slice());
     let _ = rt
         .stderr()

@@ -7,7 +7,7 @@ ghost use Rattle.cube_app.specs.Making.{DemoRun};
 
 use cube_demo::{DemoFault, demo};
 use cube_io::Sink;
-use cube_opening::{Report, Room};
+use cube_opening::{Report, Room, statuses};
 use cube_words::Making;
 use std::alloc::Global;
 
@@ -25,9 +25,13 @@ pub fn show<O: Sink>(alloc: Global, room: Room, making: Making, out: &mut O) -> 
     ensures outcomes { result.outcomes ≡ [] }
 {
     match demo(alloc, making.number, making.size, out) {
-        Ok(()) => room.close(alloc, 0),
-        Err(DemoFault::OutputFailed) => room.with(b"output failed\n").close(alloc, 6),
-        Err(DemoFault::NoMemory) => room.with(b"no memory\n").close(alloc, 7),
-        Err(DemoFault::Unread) => room.with(b"made: unread\n").close(alloc, 3),
+        Ok(()) => room.close(alloc, statuses::DONE),
+        Err(DemoFault::OutputFailed) => room
+            .with(b"output failed\n")
+            .close(alloc, statuses::OUTPUT_FAILED),
+        Err(DemoFault::NoMemory) => room.with(b"no memory\n").close(alloc, statuses::NO_MEMORY),
+        Err(DemoFault::Unread) => room
+            .with(b"made: unread\n")
+            .close(alloc, statuses::FILE_REFUSED),
     }
 }

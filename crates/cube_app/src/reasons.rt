@@ -9,7 +9,6 @@ ghost use Rattle.cube_query.specs.Canonical.{is_request};
 ghost use Rattle.cube_query.specs.Faults.{request_of};
 ghost use Rattle.cube_reason.specs.Showing.{IsWhy, Shows};
 ghost use Rattle.cube_opening.specs.Opening.{AskedFor, EndsAt, FileSays, IsSteady, Reads};
-ghost use Rattle.cube_opening.specs.Reports.{IsReport, NoRoom};
 ghost use Rattle.cube_app.specs.Reasons.{Accepts, IsWhyOf, IsWhetherOf, IsUnread, IsUnsaid, SaysSo, WhyEnds, WhyCompletes, WhetherEnds, WhetherCompletes, ReasonRun, accepted_text, reason_said};
 ghost use Rattle.cube_serving.specs.Starting.{AsksStore, OnlyJournal};
 
@@ -17,7 +16,9 @@ use crate::run::print;
 use cube_engine::Engine;
 use cube_io::{Folder, Sink, Store};
 use cube_model::{NoMemory, Request, Text};
-use cube_opening::{CubeFiles, Opened, Report, Room, no_room, open_guarded, read_bytes, with_text};
+use cube_opening::{
+    CubeFiles, Opened, Report, Room, open_guarded, read_bytes, refuse_line, statuses,
+};
 use cube_query::{RequestFault, read_request};
 use cube_reason::{accept_text, why_text};
 use cube_serving::open_engine;
@@ -148,24 +149,6 @@ fn whether_of(alloc: Global, engine: Engine, query: &Text, reason: &Text) -> Res
     }
 }
 
-fn refused_text(alloc: Global, line: &Text) -> Result<Text, NoMemory>
-    ensures { IfOk result (λ text. text ≡ codes "query: " ++ line.now) }
-{
-    let mut text = Text::from_bytes(alloc, b"query: ")?;
-    text.extend(line.as_slice())?;
-    Ok(text)
-}
-
-// The report on a text that is no query.
-fn refuse_query(alloc: Global, line: &Text) -> Report
-    ensures { IsReport 3 (codes "query: " ++ line.now) result ⊎ NoRoom result }
-{
-    match refused_text(alloc, line) {
-        Ok(text) => with_text(alloc, 3, text),
-        Err(_) => no_room(alloc),
-    }
-}
-
 // Puts what is said of a query.
 fn put_said<O: Sink>(alloc: Global, room: Room, said: Result<Text, Unsaid>, out: &mut O) -> Report
     requires { room ≡ [] }
@@ -178,8 +161,8 @@ fn put_said<O: Sink>(alloc: Global, room: Room, said: Result<Text, Unsaid>, out:
 {
     match said {
         Ok(text) => print(alloc, room, text.as_slice(), out),
-        Err(Unsaid::Query(line)) => refuse_query(alloc, &line),
-        Err(Unsaid::NoMemory) => room.with(b"no memory\n").close(alloc, 7),
+        Err(Unsaid::Query(line)) => refuse_line(alloc, b"query: ", &line),
+        Err(Unsaid::NoMemory) => room.with(b"no memory\n").close(alloc, statuses::NO_MEMORY),
     }
 }
 

@@ -2,6 +2,7 @@
 ghost use Rattle.std.specs.Prelude.{◌≡◌, ◌≢◌, ◌⊎◌, ◌≤◌, ◌+◌, [], true, length, IfOk, IsTrue};
 ghost use Rattle.cube_io.specs.Causes.{Rose};
 ghost use Rattle.cube_io.specs.Seen.{seen};
+ghost use Rattle.cube_words.specs.Help.{help_said};
 ghost use Rattle.cube_words.specs.Words.{orders_of as orders_in, Fits};
 ghost use Rattle.cube_opening.specs.Reports.{IsReport, NoRoom, Prints};
 ghost use Rattle.cube_opening.specs.Opening.{HasAll, IsSteady};
@@ -15,6 +16,7 @@ ghost use Rattle.cube_app.specs.Texts.{usage_text as usage_words, status_of as s
 use crate::advising::advise;
 use crate::auditing::audit;
 use crate::cells::{Telling, tell};
+use crate::drafting::draft;
 use crate::making::show;
 use crate::reasons::say_why;
 use crate::summary::check_text;
@@ -22,15 +24,13 @@ use cube_engine::Engine;
 use cube_io::{Folder, Sink, Source, Store, Wire};
 use cube_model::{NoMemory, Text};
 use cube_opening::{
-    CubeFiles, Report, Room, no_room, open_flat, open_guarded, spent_room, with_text,
+    CubeFiles, Report, Room, no_room, open_flat, open_guarded, open_unsealed, spent_room, statuses,
+    with_text,
 };
 use cube_serving::{open_engine, replay_cube, replay_grouped, serve_cube, serve_grouped};
 use cube_talk::{Carry, Ending, TalkEnd, converse_by_asks, converse_by_sums};
-use cube_words::{Orders, Usage, orders_of};
+use cube_words::{Command, Orders, Usage, help, orders_of};
 use std::alloc::Global;
-
-const HELP: &[u8] =
-    b"cube sum --facts FILE\n    answers each line of the input by a sum over the file\ncube check --dims FILE --facts FILE --policy FILE\n    says what the files hold\ncube ask --dims FILE --facts FILE --policy FILE --journal FILE [--requests N]\n    answers each line of the input as a query, or as `shape` or `witness CELL`\ncube witness --dims FILE --facts FILE --policy FILE --journal FILE --cell CELL\n    prints the changes that hide a cell\ncube twin --dims FILE --facts FILE --policy FILE --journal FILE --cell CELL\n    prints the fact file of the cube with these changes\ncube compact --dims FILE --facts FILE --policy FILE --journal FILE [--out FILE]\n    prints the journal written down as what it holds, or puts it into a file, whole\ncube why --dims FILE --facts FILE --policy FILE --journal FILE --query QUERY [--reason FILE]\n    prints why a query is refused, for anybody to check, or says whether a file is such a reason\ncube audit --dims FILE --facts FILE --policy FILE --transcript FILE\n    says whether what some server replied is exact and keeps each protected cell hidden\ncube advise --dims FILE --facts FILE --policy FILE [--journal FILE] [--workload FILE]\n    prints what can be released, and what becomes of each query of a file\ncube serve --dims FILE --facts FILE (--policy FILE | --groups FILE) --journal FILE --address ADDRESS [--requests N] [--idle SECONDS]\n    answers asks over HTTP, until it is stopped; closes a connection that is still for so long\ncube replay --dims FILE --facts FILE (--policy FILE | --groups FILE) --journal FILE --script FILE [--requests N]\n    plays a script of connections and writes what was sent\ncube demo --number N --size S\n    makes a cube of 20,000 S facts and says how 200 S queries on it are judged\ncube --help\n    prints this text\ncube --version\n    prints the version\n--groups FILE: in the place of one policy groups of users, each with a policy and a journal of its own,\n    asked under /g/NAME/. Group k from 0 is kept in the file JOURNAL.k, the first in JOURNAL\n--requests N: answers at most N asks, refused ones too, and ends behind them with status 10\n    1 to 16777216; without it 1000000, under serve 16777216. What was answered is in the journal\n--idle SECONDS: 0 to 86400, where 0 is for ever; without it 60\n";
 
 const VERSION: &[u8] = b"cube 0.1.0\n";
 
@@ -60,7 +60,7 @@ fn refuse_words(alloc: Global, words: &[Text], usage: Usage) -> Report
     ensures { IsReport 2 (usage_words words.now usage) result ⊎ NoRoom result }
 {
     match usage_text(alloc, words, usage) {
-        Ok(text) => with_text(alloc, 2, text),
+        Ok(text) => with_text(alloc, statuses::WRONG_WORDS, text),
         Err(_) => no_room(alloc),
     }
 }
@@ -79,8 +79,28 @@ pub fn print<O: Sink>(alloc: Global, room: Room, text: &[u8], out: &mut O) -> Re
     ensures outcomes { result.outcomes ≡ [] }
 {
     match out.put(text) {
-        Ok(()) => room.close(alloc, 0),
-        Err(_) => room.with(b"output failed\n").close(alloc, 6),
+        Ok(()) => room.close(alloc, statuses::DONE),
+        Err(_) => room
+            .with(b"output failed\n")
+            .close(alloc, statuses::OUTPUT_FAILED),
+    }
+}
+
+// Puts the help, or its part on a command.
+fn print_help<O: Sink>(alloc: Global, room: Room, on: Option<Command>, out: &mut O) -> Report
+    requires { room ≡ [] }
+    ensures prints { Prints (help_said on) (seen O.state out.old out.new) result }
+    ensures output { result.status ≡ 6 → Rose (O.state out.old).faults (O.state out.new).faults }
+    ensures steady { result.status ≢ 6 → (O.state out.new).faults ≡ (O.state out.old).faults }
+    ensures words { result.status ≢ 2 }
+    ensures files { result.status ≢ 5 }
+    ensures wire { result.status ≢ 8 }
+    ensures store { result.status ≢ 9 }
+    ensures outcomes { result.outcomes ≡ [] }
+{
+    match help(alloc, on) {
+        Ok(text) => print(alloc, room, text.as_slice(), out),
+        Err(_) => no_room(alloc),
     }
 }
 
@@ -88,11 +108,11 @@ fn status_of(ending: Ending) -> u8
     ensures { result ≡ status_in ending }
 {
     match ending {
-        Ending::Ended => 0,
-        Ending::InputFailed => 5,
-        Ending::OutputFailed => 6,
-        Ending::NoMemory => 7,
-        Ending::Spent => 10,
+        Ending::Ended => statuses::DONE,
+        Ending::InputFailed => statuses::READ_FAILED,
+        Ending::OutputFailed => statuses::OUTPUT_FAILED,
+        Ending::NoMemory => statuses::NO_MEMORY,
+        Ending::Spent => statuses::ALL_SPENT,
     }
 }
 
@@ -145,7 +165,10 @@ fn sum<F: Folder, S: Store, I: Source, O: Sink>(
         Err(report) => return report,
     };
     let Ok(carry) = Carry::new(alloc) else {
-        return opened.room.with(b"no memory\n").close(alloc, 7);
+        return opened
+            .room
+            .with(b"no memory\n")
+            .close(alloc, statuses::NO_MEMORY);
     };
     let (end, lines) = converse_by_sums(alloc, carry, opened.value, store, input, out);
     report_talk(alloc, opened.room, end, lines)
@@ -171,13 +194,16 @@ fn check<F: Folder, O: Sink>(
     ensures store { result.status ≢ 9 }
     ensures outcomes { result.outcomes ≡ [] }
 {
-    let opened = match open_guarded(alloc, room, cube, files) {
+    let opened = match open_unsealed(alloc, room, cube, files) {
         Ok(opened) => opened,
         Err(report) => return report,
     };
     match check_text(alloc, &opened.value.core, &opened.value.policy) {
         Ok(text) => print(alloc, opened.room, text.as_slice(), out),
-        Err(_) => opened.room.with(b"no memory\n").close(alloc, 7),
+        Err(_) => opened
+            .room
+            .with(b"no memory\n")
+            .close(alloc, statuses::NO_MEMORY),
     }
 }
 
@@ -230,7 +256,10 @@ fn ask<F: Folder, S: Store, I: Source, O: Sink>(
         Err(report) => return report,
     };
     let Ok(carry) = Carry::new(alloc) else {
-        return started.room.with(b"no memory\n").close(alloc, 7);
+        return started
+            .room
+            .with(b"no memory\n")
+            .close(alloc, statuses::NO_MEMORY);
     };
     let (end, engine) = converse_by_asks(alloc, carry, started.value, store, input, out);
     report_asks(started.room, end, engine)
@@ -259,8 +288,9 @@ fn obey<F: Folder, S: Store, I: Source, O: Sink, W: Wire>(
     }) result }
 {
     match orders {
-        Orders::Help => print(alloc, room, HELP, out),
+        Orders::Help { on } => print_help(alloc, room, on, out),
         Orders::Version => print(alloc, room, VERSION, out),
+        Orders::Draft { drafting } => draft(alloc, room, &drafting, files, out),
         Orders::Sum { facts } => sum(alloc, room, &facts, files, store, input, out),
         Orders::Check { files: cube } => check(alloc, room, &cube, files, out),
         Orders::Ask {

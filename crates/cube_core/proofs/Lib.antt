@@ -7,6 +7,10 @@ pub mod Keys
 pub mod Ranking
 pub mod Totals
 pub mod Orders
+pub mod Rising
+pub mod Stretches
 pub mod Candidates
 pub mod Sizes
 pub mod Ranked
+pub mod Shown
+pub mod Tallied

@@ -3,4 +3,5 @@ pub mod Grouping
 pub mod Index
 pub mod Keys
 pub mod Rows
+pub mod Tallies
 pub mod Worked

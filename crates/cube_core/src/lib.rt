@@ -8,8 +8,11 @@ mod index;
 mod ranks;
 mod rows;
 mod steps;
+mod stretch;
 mod sums;
+mod tally;
 
 pub use core_cube::Core;
 pub use rows::rows_of;
 pub use steps::Steps;
+pub use tally::sums_of;

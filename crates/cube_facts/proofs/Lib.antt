@@ -6,6 +6,7 @@ pub mod Parts
 pub mod Block
 pub mod Turns
 pub mod Known
+pub mod Recent
 pub mod Adding
 pub mod Recorded
 pub mod Filled

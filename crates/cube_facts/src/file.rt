@@ -12,11 +12,14 @@ use crate::layout::Layout;
 use crate::records::{has_second_mark, open_records};
 use crate::totals::Points;
 use csv::ByteRecord;
-use cube_model::{Cube, Dims, LimitKind, Shape};
+use cube_model::{Cube, Dims, LimitKind, Recent, Shape};
 use std::alloc::Global;
 
 // The most points.
 const MAX_POINTS: usize = 65_536;
+
+// How many slots there are for the leaves that were found last.
+const RECENT: usize = 16_384;
 
 // The points of a file, with what their facts add up to.
 fn read_points(alloc: Global, dims: &Dims, bytes: &[u8]) -> Result<Points, FactsFault>
@@ -39,6 +42,8 @@ fn read_points(alloc: Global, dims: &Dims, bytes: &[u8]) -> Result<Points, Facts
         Err(fault) => return Err(fault),
     };
     let mut points = Points::new(alloc, dims)?;
+    let mut recent = Recent::none(alloc);
+    recent.make_slots(alloc, RECENT)?;
     let mut leaves = Vec::new(alloc);
     let mut units = Vec::new(alloc);
     'records: for earlier in 0..u64::MAX {
@@ -47,7 +52,7 @@ fn read_points(alloc: Global, dims: &Dims, bytes: &[u8]) -> Result<Points, Facts
             Ok(false) => return Ok(points),
             Err(_) => return Err(FactsFault::NoMemory),
         }
-        match layout.read_fact(alloc, &row, earlier, &mut leaves, &mut units) {
+        match layout.read_fact(alloc, &row, earlier, &mut recent, &mut leaves, &mut units) {
             Ok(()) => {}
             Err(fault) => return Err(fault),
         }

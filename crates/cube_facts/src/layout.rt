@@ -16,7 +16,9 @@ ghost use Rattle.cube_facts.specs.declared.fault.FactsFault.TheVariants as fault
 use crate::FactsFault;
 use crate::records::MAX_FACTS;
 use csv::ByteRecord;
-use cube_model::{Dimension, Dims, Items, LimitKind, Measure, NoMemory, Text, Texts, Values};
+use cube_model::{
+    Dimension, Dims, Items, LimitKind, Measure, NoMemory, Recent, Text, Texts, Values,
+};
 use cube_text::{UnitFault, read_units};
 use std::alloc::Global;
 
@@ -110,6 +112,39 @@ fn find_leaf(dimension: &Dimension, name: &[u8]) -> Option<u32>
         Some(number) => Some(number as u32),
         None => None,
     }
+}
+
+// Whether a leaf has a name.
+fn is_leaf(dimension: &Dimension, leaf: usize, name: &[u8]) -> bool
+    ensures { result ≡ true → leaf_of dimension.now name.now ≡ Some leaf }
+{
+    let levels = dimension.levels();
+    prove!(!levels.is_empty());
+    let names = dimension.members(0);
+    leaf < names.count() && names.name(leaf) == name
+}
+
+// The number of the leaf of a name. Where the name is that of the leaf that was found last in its slot, nothing else is
+// looked at.
+fn find_recent(
+    recent: &mut Recent,
+    number: usize,
+    dimension: &Dimension,
+    name: &[u8],
+) -> Option<u32>
+    ensures { result ≡ leaf_of dimension.now name.now }
+{
+    let slot = recent.slot(number, name);
+    if let Some(guess) = recent.guess(slot) {
+        if guess <= u32::MAX as usize && is_leaf(dimension, guess, name) {
+            return Some(guess as u32);
+        }
+    }
+    let found = find_leaf(dimension, name);
+    if let Some(leaf) = found {
+        recent.note(slot, leaf as usize);
+    }
+    found
 }
 
 // The units of a number.
@@ -253,12 +288,18 @@ impl<'a> Layout<'a> {
     }
 
     // Takes the leaves that a record names in the place of others, and whether it lacks none.
-    fn take_leaves(&self, row: &ByteRecord, leaves: &mut Vec<u32>) -> Result<bool, NoMemory>
+    fn take_leaves(
+        &self,
+        row: &ByteRecord,
+        recent: &mut Recent,
+        leaves: &mut Vec<u32>,
+    ) -> Result<bool, NoMemory>
         ensures { IfOk result (λ whole. whole ≡ true → map (λ d. leaf_of d (field_in self.now.header (fields_of row.now) d.column)) self.now.dims.now.dimensions ≡ map Some leaves.new.items) }
     {
         leaves.clear();
         for (number, dimension) in self.dims.dimensions().iter().enumerate() {
-            let Some(leaf) = find_leaf(dimension, self.field_under(row, number)) else {
+            let name = self.field_under(row, number);
+            let Some(leaf) = find_recent(recent, number, dimension, name) else {
                 return Ok(false);
             };
             leaves.push(leaf)?;
@@ -305,6 +346,7 @@ impl<'a> Layout<'a> {
         alloc: Global,
         row: &ByteRecord,
         earlier: u64,
+        recent: &mut Recent,
         leaves: &mut Vec<u32>,
         units: &mut Vec<i64>,
     ) -> Result<(), FactsFault>
@@ -324,7 +366,7 @@ impl<'a> Layout<'a> {
         if row.len() != self.header.len() {
             return Err(FactsFault::Fields { row: earlier + 1 });
         }
-        if self.take_leaves(row, leaves)? && self.take_units(row, units)? {
+        if self.take_leaves(row, recent, leaves)? && self.take_units(row, units)? {
             Ok(())
         } else {
             Err(self.first_fault(alloc, row, earlier + 1))

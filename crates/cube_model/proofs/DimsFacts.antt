@@ -348,6 +348,21 @@ once_distinct : (xs : List (List ℕ)) → Once (distinct xs)
 once_distinct [] = tt
 once_distinct (x ∷ xs) = (none_alike x (distinct xs), once_filtered (λ z. not (same x z)) (distinct xs) (once_distinct xs))
 
+none_dropped : (x : List ℕ) (zs : List (List ℕ)) → list_any (bytes_eq x) zs ≡ false → filter (λ z. not (same x z)) zs ≡ zs
+none_dropped x [] h = refl
+none_dropped x (z ∷ zs) h =
+    let rest : list_any (bytes_eq x) zs ≡ false = tested (list_any (bytes_eq x) zs) (λ t. absurd (false≢true (sym h ∙ or_right (bytes_eq x z) (list_any (bytes_eq x) zs) t))) (λ f. f) in
+    let other : same x z ≡ false = same-bytes_eq x z ∙ tested (bytes_eq x z) (λ t. absurd (false≢true (sym h ∙ or_left (bytes_eq x z) (list_any (bytes_eq x) zs) t))) (λ f. f) in
+    rw other (ap (λ (ys : List (List ℕ)). z ∷ ys) (none_dropped x zs rest))
+
+once_own : (xs : List (List ℕ)) → Once xs → AreDistinct xs
+once_own [] h = refl
+once_own (x ∷ xs) h = ap (λ (ys : List (List ℕ)). x ∷ filter (λ y. not (same x y)) ys) (once_own xs h.1) ∙ ap (λ (ys : List (List ℕ)). x ∷ ys) (none_dropped x xs h.0)
+
+-- the first of each are distinct
+pub distinct_firsts : (xs : List (List ℕ)) → AreDistinct (distinct xs)
+distinct_firsts xs = once_own (distinct xs) (once_distinct xs)
+
 own_place : (xs : List (List ℕ)) → Once xs → (i : ℕ) → i < length xs → place_of (get_or xs i []) xs ≡ i
 own_place [] h i l = absurd (omega (arith, l))
 own_place (x ∷ xs) h zero l = rw (same_refl x) refl

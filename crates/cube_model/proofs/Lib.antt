@@ -29,6 +29,7 @@ pub mod Parts
 pub mod DimsFacts
 pub mod Numbers
 pub mod Ranks
+pub mod Found
 pub mod Freshly
 pub mod Filled
 pub mod Behind

@@ -1,15 +1,18 @@
 // Dimensions and measures with their names, as a dimension file describes them.
-ghost use Rattle.std.specs.Prelude.{◌≡◌, ◌<◌, ◌≤◌, ◌^◌, ◌++◌, ◌∷◌, [], false, length, map, slice_index_or, vec_len, vec_capacity, if◌then◌else◌, IfOk, OnOk, OnErr};
+ghost use Rattle.std.specs.Prelude.{◌≡◌, ◌<◌, ◌≤◌, ◌^◌, ◌++◌, ◌∷◌, [], false, length, map, slice_index_or, vec_len, vec_capacity, if◌then◌else◌, true, Some, IfOk, OnOk, OnErr};
 ghost use Rattle.std.specs.List.{list_any, position_or_len};
 ghost use Rattle.std.specs.Str.{bytes_eq};
 ghost use Rattle.indexmap.specs.IndexSet.{insert_key};
 ghost use Rattle.cube_model.specs.Cubes.{up, names_at, place_of, distinct};
-ghost use Rattle.cube_model.specs.Dims.{plain, found, dimension_at, measure_at, ancestor_names, IsDimension, IsMeasure, IsDims};
+ghost use Rattle.cube_model.specs.Dims.{AreDistinct, plain, found, dimension_at, measure_at, ancestor_names, IsDimension, IsMeasure, IsDims};
 
-use crate::{Items, NoMemory, Text, Texts};
+use crate::{Items, NoMemory, Recent, Text, Texts};
 use indexmap::IndexSet;
 use std::alloc::Global;
 use std::marker::Model;
+
+// How many slots there are for the names that were put last.
+const RECENT: usize = 4096;
 
 /// Names in a row, each kept once under a number, in the order of their first appearance: the
 /// members of one level, where the names are those of the ancestors of the leaves.
@@ -20,6 +23,7 @@ pub struct NumberedNames {
     names: IndexSet<Vec<u8>>,
     numbers: Vec<u32>,
     firsts: Vec<u32>,
+    recent: Recent,
 }
 
 impl Model for NumberedNames {
@@ -65,22 +69,48 @@ fn add(names: &mut IndexSet<Vec<u8>>, name: Vec<u8>) -> Result<usize, NoMemory>
     Ok(number)
 }
 
+/// Whether a name has a number.
+fn has_number(names: &IndexSet<Vec<u8>>, number: usize, name: &[u8]) -> bool
+    requires { AreDistinct (map (λ k. k.items) names.now.keys) }
+    ensures { result ≡ true → found name.now (map (λ k. k.items) names.now.keys) ≡ Some number }
+{
+    match names.get_index(number) {
+        Some(other) => other.as_slice() == name,
+        None => false,
+    }
+}
+
+/// The number that a name has. Where it is the one that is guessed, nothing else is looked at.
+fn known(names: &IndexSet<Vec<u8>>, guess: Option<usize>, name: &[u8]) -> Option<usize>
+    requires { AreDistinct (map (λ k. k.items) names.now.keys) }
+    ensures { result ≡ found name.now (map (λ k. k.items) names.now.keys) }
+{
+    if let Some(number) = guess {
+        if has_number(names, number, name) {
+            return guess;
+        }
+    }
+    names.get_index_of(name)
+}
+
 /// The number of a name, the one that it has or the next. A new name is noted with its place.
 fn number(
     alloc: Global,
     names: &mut IndexSet<Vec<u8>>,
     firsts: &mut Vec<u32>,
+    guess: Option<usize>,
     name: &[u8],
     place: u32,
 ) -> Result<usize, NoMemory>
-    requires { vec_len firsts.old < vec_capacity firsts.old }
+    requires room { vec_len firsts.old < vec_capacity firsts.old }
+    requires once { AreDistinct (map (λ k. k.items) names.old.keys) }
     ensures names { IfOk result (λ r. map (λ k. k.items) names.new.keys ≡ insert_key bytes_eq (map (λ k. k.items) names.old.keys) name.now) }
     ensures number { IfOk result (λ r. r ≡ position_or_len (bytes_eq name.now) (map (λ k. k.items) names.old.keys)) }
     ensures firsts { IfOk result (λ r. firsts.new.items ≡ (if list_any (bytes_eq name.now) (map (λ k. k.items) names.old.keys) then firsts.old.items else firsts.old.items ++ place ∷ [])) }
     ensures err { OnErr result (names.new.keys ≡ names.old.keys) }
     ensures same { OnErr result (firsts.new.items ≡ firsts.old.items) }
 {
-    match names.get_index_of(name) {
+    match known(names, guess, name) {
         Some(number) => Ok(number),
         None => {
             let number = add(names, Vec::from_slice(alloc, name)?)?;
@@ -99,6 +129,7 @@ impl NumberedNames {
             names: IndexSet::new(alloc),
             numbers: Vec::new(alloc),
             firsts: Vec::new(alloc),
+            recent: Recent::none(alloc),
         }
     }
 
@@ -110,8 +141,12 @@ impl NumberedNames {
     {
         self.numbers.reserve(1)?;
         self.firsts.reserve(1)?;
+        self.recent.make_slots(alloc, RECENT)?;
         let place = self.numbers.len() as u32;
-        let number = number(alloc, &mut self.names, &mut self.firsts, name, place)?;
+        let slot = self.recent.slot(0, name);
+        let guess = self.recent.guess(slot);
+        let number = number(alloc, &mut self.names, &mut self.firsts, guess, name, place)?;
+        self.recent.note(slot, number);
         push_within(&mut self.numbers, number as u32);
         Ok(())
     }

@@ -8,7 +8,7 @@ use Rattle.cube_model.specs.declared.policy.Policy.{Policy}
 use Rattle.cube_io.specs.Causes.{Rose}
 use Rattle.cube_io.specs.Files.{file_of}
 use Rattle.cube_io.specs.Seen.{FolderState, Seen}
-use Rattle.cube_opening.specs.Opening.{dims_said, facts_said, policy_said, FileSays, Unopened, MakesCore, MakesAll, EndsUnfounded, EndsUnopened, HasAll}
+use Rattle.cube_opening.specs.Opening.{dims_said, facts_said, policy_said, FileSays, Unopened, MakesCore, MakesAll, EndsAt, EndsUnfounded, EndsUnopened, HasAll, HasFile}
 use Rattle.cube_opening.specs.declared.cube_files.CubeFiles.{CubeFiles}
 use Rattle.cube_opening.specs.declared.report.Report.{Report}
 
@@ -43,6 +43,16 @@ accepted_one said name folder known r x is says q (inl e) = e.0
 accepted_one said name folder known r x is says q (inr (inl e)) = e.0
 accepted_one said name folder known r x is says q (inr (inr (inl e))) = absurd (q e.1)
 accepted_one said name folder known r x is says q (inr (inr (inr e))) = absurd (not_both said x r.text (file_of known name) says (rw is at e.1))
+
+-- at the last file, where it is accepted
+last_within : {X F : Type 0} (said : List ℕ → Result X (List ℕ)) (name : List ℕ) (folder : Seen FolderState F) (r : Report) (files : Option (List (List ℕ × List ℕ))) → folder.before.files ≡ files → Unopened said name folder r
+    → IsSomeAnd files (λ known. (x : X) × FileSays said name known (Ok x)) → ¬ Rose folder.before.faults folder.after.faults → r.status ≡ 7
+last_within said name folder r None is e h q = absurd h
+last_within said name folder r (Some known) is e (x, says) q = accepted_one said name folder known r x is says q e
+
+pub last_accepted : {X F : Type 0} (earlier : List (List ℕ)) (said : List ℕ → Result X (List ℕ)) (name : List ℕ) (folder : Seen FolderState F) (r : Report) → EndsAt earlier said name folder r → HasFile said name folder.before
+    → ¬ Rose folder.before.faults folder.after.faults → r.status ≡ 7
+last_accepted earlier said name folder r e h q = last_within said name folder r folder.before.files refl e.unopened h q
 
 -- at the files of a core that they make
 pub founded : {F : Type 0} (dims facts : List ℕ) (folder : Seen FolderState F) (known : List (List ℕ × List ℕ)) (r : Report) (core : Core) → folder.before.files ≡ Some known → MakesCore dims facts core known

@@ -1,3 +1,4 @@
 pub mod Accepted
 pub mod Behind
 pub mod Groups
+pub mod Ended

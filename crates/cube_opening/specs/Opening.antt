@@ -153,3 +153,20 @@ EndsUnopened cube folder r =
 -- the files are there and are accepted
 abbrev pub HasAll : CubeFiles → FolderState → Type 0
 HasAll cube folder = IsSomeAnd folder.files (λ known. (core : Core) × ((policy : Policy) × MakesAll cube core policy known))
+
+-- ---- one file more, behind the three
+
+-- the names of all four, in the turn in which they are read
+abbrev pub names_with : CubeFiles → List ℕ → List (List ℕ)
+names_with cube name = names_of cube ++ name ∷ []
+
+-- the three files make a core and a policy, and the run ended at the file of this name
+pub record EndsAtLast {X F : Type 0} (cube : CubeFiles) (said : List ℕ → Result X (List ℕ)) (name : List ℕ) (folder : Seen FolderState F) (r : Report) : Type 0 where
+  pub core : Core
+  pub policy : Policy
+  pub files_make : Make cube folder.before core policy
+  pub ends : EndsAt (names_of cube) said name folder r
+
+-- the file of this name is there and is accepted
+abbrev pub HasFile : {X : Type 0} → (List ℕ → Result X (List ℕ)) → List ℕ → FolderState → Type 0
+HasFile {X} said name folder = IsSomeAnd folder.files (λ known. (value : X) × FileSays said name known (Ok value))

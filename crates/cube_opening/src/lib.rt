@@ -5,8 +5,11 @@ mod cube_files;
 mod opening;
 mod report;
 mod ruling;
+pub mod statuses;
 
 pub use cube_files::{CubeFiles, RuledFiles, Rules};
-pub use opening::{Guarded, Opened, open_flat, open_guarded, read_bytes};
-pub use report::{Report, Room, no_room, spent_room, with_text};
+pub use opening::{
+    Guarded, Opened, Unsealed, open_flat, open_guarded, open_unsealed, read_bytes, refuse,
+};
+pub use report::{Report, Room, no_room, refuse_line, spent_room, with_text};
 pub use ruling::{Ruled, RuledGroup, RuledGroups, called, open_ruled};

@@ -1,5 +1,5 @@
 // The files of a command, read in turn.
-ghost use Rattle.std.specs.Prelude.{◌≡◌, ◌≢◌, ◌⊎◌, ◌≤◌, ◌∷◌, [], length, codes, Ok, Err, IfOk, IfErr, OnOk, IfSome, IsSomeAnd};
+ghost use Rattle.std.specs.Prelude.{◌≡◌, ◌≢◌, ◌⊎◌, ◌≤◌, ◌∷◌, [], length, codes, is_some, Ok, Err, IfOk, IfErr, OnOk, IfSome};
 ghost use Rattle.cube_io.specs.Files.{max_file, file_of};
 ghost use Rattle.cube_io.specs.Seen.{seen};
 ghost use Rattle.cube_dims.specs.Words as dims_words;
@@ -15,6 +15,7 @@ ghost use Rattle.cube_opening.specs.Opening.{fault_text, unreadable_text as unre
 
 use crate::cube_files::CubeFiles;
 use crate::report::{Report, Room, no_room, with_text};
+use crate::statuses;
 use cube_core::Core;
 use cube_dims::{DimsFault, read_dims};
 use cube_facts::{FactsFault, Flat, read_facts, read_flat};
@@ -53,11 +54,36 @@ pub struct Guarded {
     pub facts: Digest,
 }
 
-/// A core, and the digest of the fact file that it was made of.
+/// A core and the policy over it, where nobody asks for the digest of the fact file.
+#[derive(Drop)]
+pub struct Unsealed {
+    /// The core.
+    pub core: Core,
+    /// How each measure is controlled, and what is protected.
+    pub policy: Policy,
+}
+
+/// A core, and where it is asked for the digest of the fact file that it was made of.
 #[derive(Drop)]
 pub(crate) struct Founded {
     pub(crate) core: Core,
-    pub(crate) facts: Digest,
+    pub(crate) facts: Option<Digest>,
+}
+
+// A core, a policy, and where it is asked for that digest.
+#[derive(Drop)]
+struct Parts {
+    core: Core,
+    policy: Policy,
+    facts: Option<Digest>,
+}
+
+// The digest of a fact file, where it is asked for: to take it costs a fifth of a load.
+fn digest_if(sealed: bool, bytes: &[u8]) -> Option<Digest>
+    ensures some { is_some result ≡ sealed }
+    ensures digest { IfSome result (λ digest. digest ≡ digest_in bytes.now) }
+{
+    if sealed { Some(digest_of(bytes)) } else { None }
 }
 
 /// Reads the bytes of a file of a kind, as `dims`, which is named where the file is too long.
@@ -81,22 +107,24 @@ pub fn read_bytes<F: Folder>(
     };
     match files.read_file(alloc, name) {
         Ok(value) => Ok(Opened { room, value }),
-        Err(ReadFault::Failed) => Err(with_text(alloc, 5, unreadable)),
+        Err(ReadFault::Failed) => Err(with_text(alloc, statuses::READ_FAILED, unreadable)),
         Err(ReadFault::TooLong) => Err(
             room.with(kind)
                 .with(b": limit file 67108864\n")
-                .close(alloc, 3),
+                .close(alloc, statuses::FILE_REFUSED),
         ),
-        Err(ReadFault::NoMemory) => Err(room.with(b"no memory\n").close(alloc, 7)),
+        Err(ReadFault::NoMemory) => Err(
+            room.with(b"no memory\n").close(alloc, statuses::NO_MEMORY),
+        ),
     }
 }
 
 /// The report on a fault of a file of a kind, in these words.
-pub(crate) fn refuse(alloc: Global, kind: &[u8], words: &Text) -> Report
+pub fn refuse(alloc: Global, kind: &[u8], words: &Text) -> Report
     ensures { NoRoom result ⊎ IsReport 3 (fault_text kind.now words.now) result }
 {
     match refused_text(alloc, kind, words) {
-        Ok(text) => with_text(alloc, 3, text),
+        Ok(text) => with_text(alloc, statuses::FILE_REFUSED, text),
         Err(_) => no_room(alloc),
     }
 }
@@ -116,7 +144,7 @@ fn refuse_dims(alloc: Global, room: Room, fault: DimsFault) -> Report
     ensures { NoRoom result ⊎ IsReport 7 (codes "no memory\n") result ⊎ ((fault ≢ dims_faults.NoMemory) × IsReport 3 (fault_text (codes "dims") (dims_words.fault_words fault)) result) }
 {
     match fault {
-        DimsFault::NoMemory => room.with(b"no memory\n").close(alloc, 7),
+        DimsFault::NoMemory => room.with(b"no memory\n").close(alloc, statuses::NO_MEMORY),
         other => match cube_dims::fault_text(alloc, &other) {
             Ok(words) => refuse(alloc, b"dims", &words),
             Err(_) => no_room(alloc),
@@ -130,7 +158,7 @@ fn refuse_facts(alloc: Global, room: Room, fault: FactsFault) -> Report
     ensures { NoRoom result ⊎ IsReport 7 (codes "no memory\n") result ⊎ ((fault ≢ facts_faults.NoMemory) × IsReport 3 (fault_text (codes "facts") (facts_words.fault_words fault)) result) }
 {
     match fault {
-        FactsFault::NoMemory => room.with(b"no memory\n").close(alloc, 7),
+        FactsFault::NoMemory => room.with(b"no memory\n").close(alloc, statuses::NO_MEMORY),
         other => match cube_facts::fault_text(alloc, &other) {
             Ok(words) => refuse(alloc, b"facts", &words),
             Err(_) => no_room(alloc),
@@ -144,7 +172,7 @@ fn refuse_policy(alloc: Global, room: Room, kind: &[u8], fault: PolicyFault) -> 
     ensures { NoRoom result ⊎ IsReport 7 (codes "no memory\n") result ⊎ ((fault ≢ policy_faults.NoMemory) × IsReport 3 (fault_text kind.now (policy_words.fault_words fault)) result) }
 {
     match fault {
-        PolicyFault::NoMemory => room.with(b"no memory\n").close(alloc, 7),
+        PolicyFault::NoMemory => room.with(b"no memory\n").close(alloc, statuses::NO_MEMORY),
         other => match cube_policy::fault_text(alloc, &other) {
             Ok(words) => refuse(alloc, kind, &words),
             Err(_) => no_room(alloc),
@@ -191,7 +219,7 @@ fn make_core(alloc: Global, room: Room, dims: Dims, bytes: &[u8]) -> Result<Open
     };
     match Core::new(alloc, dims, shape, cube) {
         Ok(value) => Ok(Opened { room, value }),
-        Err(_) => Err(room.with(b"no memory\n").close(alloc, 7)),
+        Err(_) => Err(room.with(b"no memory\n").close(alloc, statuses::NO_MEMORY)),
     }
 }
 
@@ -201,12 +229,14 @@ fn open_facts<F: Folder>(
     room: Room,
     name: &Text,
     dims: Dims,
+    sealed: bool,
     files: &mut F,
 ) -> Result<Opened<Founded>, Report>
     requires { room ≡ [] }
     ensures ok { IfOk result (λ opened. (opened.room ≡ []) × IfSome (F.state files.old).files (λ known. FileSays (facts_said dims) name.now known (Ok opened.value.core))) }
     ensures dims { IfOk result (λ opened. opened.value.core.dims ≡ dims) }
-    ensures digest { IfOk result (λ opened. IfSome (F.state files.old).files (λ known. IsSomeAnd (file_of known name.now) (λ bytes. opened.value.facts ≡ digest_in bytes))) }
+    ensures digest { IfOk result (λ opened. IfSome opened.value.facts (IsDigestOf name.now (F.state files.old))) }
+    ensures sealed { IfOk result (λ opened. is_some opened.value.facts ≡ sealed) }
     ensures err { IfErr result (EndsAt [] (facts_said dims) name.now (seen F.state files.old files.new)) }
     ensures asks { OnOk result (AskedFor (name.now ∷ []) (seen F.state files.old files.new)) }
     ensures reads { Reads (seen F.state files.old files.new) result }
@@ -215,7 +245,7 @@ fn open_facts<F: Folder>(
         Ok(opened) => opened,
         Err(report) => return Err(report),
     };
-    let facts = digest_of(opened.value.as_slice());
+    let facts = digest_if(sealed, opened.value.as_slice());
     match make_core(alloc, opened.room, dims, opened.value.as_slice()) {
         Ok(Opened { room, value: core }) => Ok(Opened {
             room,
@@ -287,11 +317,13 @@ pub(crate) fn open_founded<F: Folder>(
     room: Room,
     dims_name: &Text,
     facts_name: &Text,
+    sealed: bool,
     files: &mut F,
 ) -> Result<Opened<Founded>, Report>
     requires { room ≡ [] }
     ensures ok { IfOk result (λ opened. (opened.room ≡ []) × IfSome (F.state files.old).files (MakesCore dims_name.now facts_name.now opened.value.core)) }
-    ensures digest { IfOk result (λ opened. IsDigestOf facts_name.now (F.state files.old) opened.value.facts) }
+    ensures digest { IfOk result (λ opened. IfSome opened.value.facts (IsDigestOf facts_name.now (F.state files.old))) }
+    ensures sealed { IfOk result (λ opened. is_some opened.value.facts ≡ sealed) }
     ensures err { IfErr result (EndsUnfounded dims_name.now facts_name.now (seen F.state files.old files.new)) }
     ensures behind { OnOk result (GotBehind (dims_name.now ∷ facts_name.now ∷ []) (seen F.state files.old files.new)) }
     ensures reads { Reads (seen F.state files.old files.new) result }
@@ -300,10 +332,51 @@ pub(crate) fn open_founded<F: Folder>(
         Ok(opened) => (opened.room, opened.value),
         Err(report) => return Err(report),
     };
-    open_facts(alloc, room, facts_name, dims, files)
+    open_facts(alloc, room, facts_name, dims, sealed, files)
 }
 
-/// Reads the dimension file, the fact file and the policy file, in turn.
+// Reads the dimension file, the fact file and the policy file, in turn.
+fn open_parts<F: Folder>(
+    alloc: Global,
+    room: Room,
+    cube: &CubeFiles,
+    sealed: bool,
+    files: &mut F,
+) -> Result<Opened<Parts>, Report>
+    requires { room ≡ [] }
+    ensures ok { IfOk result (λ opened. (opened.room ≡ []) × Make cube.now (F.state files.old) opened.value.core opened.value.policy) }
+    ensures rules { IfOk result (λ opened. IsPolicy opened.value.core.dims opened.value.policy) }
+    ensures digest { IfOk result (λ opened. IfSome opened.value.facts (IsDigest cube.now (F.state files.old))) }
+    ensures sealed { IfOk result (λ opened. is_some opened.value.facts ≡ sealed) }
+    ensures err { IfErr result (EndsUnopened cube.now (seen F.state files.old files.new)) }
+    ensures behind { OnOk result (GotBehind (names_of cube.now) (seen F.state files.old files.new)) }
+    ensures reads { Reads (seen F.state files.old files.new) result }
+{
+    let (room, founded) = match open_founded(alloc, room, &cube.dims, &cube.facts, sealed, files) {
+        Ok(opened) => (opened.room, opened.value),
+        Err(report) => return Err(report),
+    };
+    let Founded { core, facts } = founded;
+    let opened = open_policy(alloc, room, b"policy", &cube.policy, core.dims(), files);
+    match opened {
+        Ok(
+            Opened {
+                room,
+                value: policy,
+            },
+        ) => Ok(Opened {
+            room,
+            value: Parts {
+                core,
+                policy,
+                facts,
+            },
+        }),
+        Err(report) => Err(report),
+    }
+}
+
+/// Reads the dimension file, the fact file and the policy file, in turn, and takes the digest of the fact file.
 pub fn open_guarded<F: Folder>(
     alloc: Global,
     room: Room,
@@ -318,19 +391,17 @@ pub fn open_guarded<F: Folder>(
     ensures behind { OnOk result (GotBehind (names_of cube.now) (seen F.state files.old files.new)) }
     ensures reads { Reads (seen F.state files.old files.new) result }
 {
-    let (room, founded) = match open_founded(alloc, room, &cube.dims, &cube.facts, files) {
+    let (room, parts) = match open_parts(alloc, room, cube, true, files) {
         Ok(opened) => (opened.room, opened.value),
         Err(report) => return Err(report),
     };
-    let Founded { core, facts } = founded;
-    let opened = open_policy(alloc, room, b"policy", &cube.policy, core.dims(), files);
-    match opened {
-        Ok(
-            Opened {
-                room,
-                value: policy,
-            },
-        ) => Ok(Opened {
+    let Parts {
+        core,
+        policy,
+        facts,
+    } = parts;
+    match facts {
+        Some(facts) => Ok(Opened {
             room,
             value: Guarded {
                 core,
@@ -338,6 +409,33 @@ pub fn open_guarded<F: Folder>(
                 facts,
             },
         }),
-        Err(report) => Err(report),
+        None => unreachable!(),
     }
+}
+
+/// Reads the three files in turn, and no digest is taken.
+pub fn open_unsealed<F: Folder>(
+    alloc: Global,
+    room: Room,
+    cube: &CubeFiles,
+    files: &mut F,
+) -> Result<Opened<Unsealed>, Report>
+    requires { room ≡ [] }
+    ensures ok { IfOk result (λ opened. (opened.room ≡ []) × Make cube.now (F.state files.old) opened.value.core opened.value.policy) }
+    ensures rules { IfOk result (λ opened. IsPolicy opened.value.core.dims opened.value.policy) }
+    ensures err { IfErr result (EndsUnopened cube.now (seen F.state files.old files.new)) }
+    ensures behind { OnOk result (GotBehind (names_of cube.now) (seen F.state files.old files.new)) }
+    ensures reads { Reads (seen F.state files.old files.new) result }
+{
+    let (room, parts) = match open_parts(alloc, room, cube, false, files) {
+        Ok(opened) => (opened.room, opened.value),
+        Err(report) => return Err(report),
+    };
+    Ok(Opened {
+        room,
+        value: Unsealed {
+            core: parts.core,
+            policy: parts.policy,
+        },
+    })
 }

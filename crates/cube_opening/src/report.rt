@@ -1,7 +1,8 @@
 // How a run ended, and the room for the text that says so.
-ghost use Rattle.std.specs.Prelude.{◌≡◌, ◌≤◌, ◌+◌, ◌++◌, [], length, decimal, codes, IfOk};
+ghost use Rattle.std.specs.Prelude.{◌≡◌, ◌⊎◌, ◌≤◌, ◌+◌, ◌++◌, [], length, decimal, codes, IfOk};
 ghost use Rattle.cube_opening.specs.Reports.{IsReport, NoRoom};
 
+use crate::statuses;
 use cube_model::{Items, NoMemory, Outcomes, Text};
 use itoa::Buffer;
 use std::alloc::Global;
@@ -20,7 +21,7 @@ pub fn no_room(alloc: Global) -> Report
     ensures { NoRoom result }
 {
     Report {
-        status: 7,
+        status: statuses::NO_MEMORY,
         outcomes: Items::new(alloc),
         text: Text::new(alloc),
     }
@@ -34,6 +35,24 @@ pub fn with_text(alloc: Global, status: u8, text: Text) -> Report
         status,
         outcomes: Items::new(alloc),
         text,
+    }
+}
+
+fn refused_line(alloc: Global, before: &[u8], line: &Text) -> Result<Text, NoMemory>
+    ensures { IfOk result (λ text. text ≡ before.now ++ line.now) }
+{
+    let mut text = Text::from_bytes(alloc, before)?;
+    text.extend(line.as_slice())?;
+    Ok(text)
+}
+
+/// The report on what is refused by a line, behind the words that say what it is, as `cell: `.
+pub fn refuse_line(alloc: Global, before: &[u8], line: &Text) -> Report
+    ensures { IsReport 3 (before.now ++ line.now) result ⊎ NoRoom result }
+{
+    match refused_line(alloc, before, line) {
+        Ok(text) => with_text(alloc, statuses::FILE_REFUSED, text),
+        Err(_) => no_room(alloc),
     }
 }
 

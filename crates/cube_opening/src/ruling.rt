@@ -17,6 +17,7 @@ ghost use Rattle.cube_opening.specs.declared.ruling.RuledGroup.{RuledGroup};
 use crate::cube_files::{RuledFiles, Rules};
 use crate::opening::{Founded, Opened, open_founded, open_policy, read_bytes, refuse};
 use crate::report::{Report, Room, no_room};
+use crate::statuses;
 use cube_core::Core;
 use cube_groups::{GroupFile, GroupList, GroupsFault, read_groups};
 use cube_io::Folder;
@@ -65,7 +66,7 @@ fn refuse_groups(alloc: Global, room: Room, fault: GroupsFault) -> Report
     ensures { NoRoom result ⊎ IsReport 7 (codes "no memory\n") result ⊎ ((fault ≢ groups_faults.NoMemory) × IsReport 3 (fault_text (codes "groups") (groups_words.fault_words fault)) result) }
 {
     match fault {
-        GroupsFault::NoMemory => room.with(b"no memory\n").close(alloc, 7),
+        GroupsFault::NoMemory => room.with(b"no memory\n").close(alloc, statuses::NO_MEMORY),
         other => match cube_groups::fault_text(alloc, &other) {
             Ok(words) => refuse(alloc, b"groups", &words),
             Err(_) => no_room(alloc),
@@ -263,11 +264,12 @@ pub fn open_ruled<F: Folder>(
     ensures err { IfErr result (EndsUnruled cube.now (seen F.state files.old files.new)) }
     ensures reads { Reads (seen F.state files.old files.new) result }
 {
-    let (room, founded) = match open_founded(alloc, room, &cube.dims, &cube.facts, files) {
+    let (room, founded) = match open_founded(alloc, room, &cube.dims, &cube.facts, true, files) {
         Ok(opened) => (opened.room, opened.value),
         Err(report) => return Err(report),
     };
     let Founded { core, facts } = founded;
+    let Some(facts) = facts else { unreachable!() };
     match open_rules(alloc, room, &cube.rules, core.dims(), files) {
         Ok(
             Opened {

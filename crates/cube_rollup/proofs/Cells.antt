@@ -23,9 +23,11 @@ use Rattle.std.proofs.lemmas.Bool.{eqb-true}
 use Rattle.cube_core.specs.Grouping.{pointed, grouped, key_in, picked_in, row_with, ArePoints}
 use Rattle.cube_core.specs.Rows.{ArePlaces}
 use Rattle.cube_core.proofs.Grouped.{rows_all}
+use Rattle.cube_core.proofs.Tallied.{total_bound}
 use Rattle.cube_core.proofs.Totals.{IsMore, sum_more, facts_less, from_increasing, few_at_places, value_bound, place_below as item_below, ArePlaces-filter}
-use Rattle.cube_rollup.specs.Cuboids.{Cuboid, cell_keys, covered_at, summed_cell, first_point, StandsFor, sums_of, AreBounded, whole, takes_all, summed_row, first_of_row, AreRowsOf}
-use Rattle.cube_rollup.proofs.Sums.{at_key, partition_all, gather-pos, over-pos, over_alike, sum_by-ones, pos_same, total_bound, filter_true}
+use Rattle.cube_rollup.specs.Cuboids.{Cuboid, cell_keys, covered_at, summed_cell, first_point, StandsFor, sums_of, whole, takes_all, first_of_row, AreRowsOf}
+use Rattle.cube_core.specs.Tallies.{AreBounded, summed_row}
+use Rattle.cube_rollup.proofs.Sums.{at_key, partition_all, gather-pos, over-pos, over_alike, sum_by-ones, pos_same, filter_true}
 use Rattle.cube_rollup.proofs.Unions.{cells_of, first_place, is_first, has_cell, cell_sum, CanAnswer, rows_from_cells}
 
 -- ---- sums of cells fit

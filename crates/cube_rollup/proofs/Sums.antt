@@ -3,7 +3,6 @@ use Rattle.std.specs.List.{sum_by}
 use Rattle.std.proofs.Common.{◌≡◌, ℕ, suc, ◌+◌, ◌<◌, inl, inr, Bool, true, false, cond, List, [], ◌∷◌, length, filter, get_or, ℤ, pos, ◌+ℤ◌, refl, sym, ap, ap₂, ◌∙◌, arith, true≢false}
 use Rattle.std.proofs.lemmas.Int.{ints}
 use Rattle.std.proofs.lemmas.List.Sums.{sum_by-cons}
-use Rattle.cube_model.specs.Cores.{IsSumOf}
 use Rattle.cube_model.specs.Cubes.{same, before, count_from, IsIn, IsIncreasing}
 use Rattle.cube_model.specs.Requests.{total}
 use Rattle.cube_model.proofs.Boxes.{before_not_itself}
@@ -152,12 +151,3 @@ sum_by-ones (i ∷ is) = let e = sum_by-cons (λ (j : ℕ). 1) i is in let r = s
 
 pub pos_same : (a b : ℕ) → pos a ≡ pos b → a ≡ b
 pos_same a b e = omega (arith, ints, e)
-
--- a sum of values, each of which is one of so many
-pub total_bound : (facts : List ℕ) (vs : List ℤ) (is : List ℕ) → ((i : ℕ) → IsIn i is → IsSumOf (get_or facts i 0) (get_or vs i (pos 0))) → IsSumOf (sum_by (λ i. get_or facts i 0) is) (total vs is)
-total_bound facts vs [] h = (omega (arith, ints), omega (arith, ints))
-total_bound facts vs (i ∷ is) h =
-    let e = sum_by-cons (λ i. get_or facts i 0) i is in
-    let own = h i (inl refl) in
-    let r = total_bound facts vs is (λ j m. h j (inr m)) in
-    (omega (arith, ints, e, own.0, r.0), omega (arith, ints, e, own.1, r.1))

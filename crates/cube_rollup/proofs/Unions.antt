@@ -11,7 +11,8 @@ use Rattle.cube_model.proofs.Members.{same_eq, same_refl, IsIn-filter, filter_ha
 use Rattle.cube_model.proofs.Orders.{in_order_has, in_order_increasing}
 use Rattle.cube_model.proofs.Sources.{Each-get_or, place_below}
 use Rattle.cube_model.proofs.Sums.{gather}
-use Rattle.cube_rollup.specs.Cuboids.{cell_keys, covered_at, first_point, summed_row}
+use Rattle.cube_rollup.specs.Cuboids.{cell_keys, covered_at, first_point}
+use Rattle.cube_core.specs.Tallies.{summed_row}
 use Rattle.cube_rollup.proofs.Sums.{at_key, partition, at_positions, total-gather}
 
 -- the cells as places, each with the first point that it covers

@@ -1,12 +1,12 @@
 -- The nonempty cells of a cuboid with their sums, and when they stand for a core.
-use Rattle.std.specs.List.{list_all, sum}
-use Rattle.std.specs.Prelude.{◌≡◌, ℕ, ◌<◌, ◌≤◌, Bool, true, ◌&&◌, List, [], length, map, slice_index_or, ℤ, is_none}
+use Rattle.std.specs.List.{list_all}
+use Rattle.std.specs.Prelude.{◌≡◌, ℕ, ◌<◌, Bool, true, ◌&&◌, List, [], length, map, slice_index_or, ℤ, is_none}
 use Rattle.cube_model.specs.declared.answer.AnswerRow.{AnswerRow}
 use Rattle.cube_model.specs.declared.answer.Row.{Row}
 use Rattle.cube_model.specs.declared.policy.Policy.{Policy}
 use Rattle.cube_model.specs.declared.request.Request.{Request}
 use Rattle.cube_model.specs.declared.request.What.TheVariants.{Measure}
-use Rattle.cube_model.specs.Cores.{Core, IsCore, AreSumsOf, shown, world}
+use Rattle.cube_model.specs.Cores.{Core, IsCore, shown, world}
 use Rattle.cube_model.specs.Cubes.{Public, World, are_levels, covered, in_order, key_at, places, point, same}
 use Rattle.cube_model.specs.Dims.{Dims, plains}
 use Rattle.cube_model.specs.Requests.{total, values, whole as all_of}
@@ -52,14 +52,6 @@ StandsWith s cuboid = (c : Core) × (c.dims ≡ s) × StandsFor c cuboid
 abbrev pub sums_of : List AnswerRow → List ℤ
 sums_of cells = map (λ cell. cell.sum) cells
 
--- Each sum is one of so many values as a list of numbers says, and these are not more than a core has facts: so every sum
--- of some of them fits.
-pub record AreBounded (sums : List ℤ) : Type 0 where
-  pub facts : List ℕ
-  pub long : length facts ≡ length sums
-  pub few : sum facts ≤ 1000000
-  pub bounded : AreSumsOf facts sums
-
 -- the request of all places by their keys at some levels
 abbrev pub whole : ℕ → List ℕ → Request
 whole m levels = all_of (Measure m) levels
@@ -67,10 +59,6 @@ whole m levels = all_of (Measure m) levels
 -- the request groups at just these levels and picks nothing, so that its rows are the cells at them
 abbrev pub takes_all : List ℕ → Request → Bool
 takes_all levels r = same levels r.group && list_all is_none r.picks
-
--- a row with the plain sum of some values over its places
-abbrev pub summed_row : List ℤ → Row → AnswerRow
-summed_row vs row = record { key = row.key; sum = total vs row.places }
 
 -- a row of places of a core that has so many, at least one
 pub record AreRowsOf (many : ℕ) (row : Row) : Type 0 where

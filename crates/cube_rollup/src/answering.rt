@@ -10,10 +10,11 @@ ghost use Rattle.cube_model.specs.Requests as requests;
 ghost use Rattle.cube_model.specs.Requests.{asks, fits, grain, total};
 ghost use Rattle.cube_model.specs.declared.policy.Policy.{Policy};
 ghost use Rattle.cube_rollup.specs.Cuboids as said;
-ghost use Rattle.cube_rollup.specs.Cuboids.{sums_of, summed_row, StandsFor, StandsWith};
+ghost use Rattle.cube_rollup.specs.Cuboids.{sums_of, StandsFor, StandsWith};
+ghost use Rattle.cube_core.specs.Tallies.{summed_row};
 
 use crate::Cuboid;
-use cube_core::{Steps, rows_of};
+use cube_core::{Steps, rows_of, sums_of as sums_over};
 use cube_model::{Answer, AnswerRow, Dims, NoMemory, Pick, Request, Row, Rows};
 use std::alloc::Global;
 use std::sync::ledger::Ledger;
@@ -91,7 +92,13 @@ impl Cuboid {
         ensures answer { IfOk result (λ answer. (core : Core) (p : Policy) → core.dims ≡ dims.now → StandsFor core self.now → answer ≡ requests.answer (world core p) request.now) }
         ensures steps { steps.new ≤ steps.old + length self.now.cells }
     {
-        let rows = rows_of(alloc, dims, self.points(), request)?;
+        let _bounds = self.cells();
+        let points = self.points();
+        let found = sums_over(alloc, dims, points, request, self.sums(), steps)?;
+        if let Some(answer) = found {
+            return Ok(answer);
+        }
+        let rows = rows_of(alloc, dims, points, request)?;
         self.sum_rows(alloc, rows, steps)
     }
 

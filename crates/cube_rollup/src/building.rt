@@ -4,11 +4,14 @@ ghost use Rattle.std.specs.List.{sum_by, AllByRecursion};
 ghost use Rattle.cube_core.specs.Rows.{ArePlaces};
 ghost use Rattle.cube_model.specs.Cubes.{are_levels};
 ghost use Rattle.cube_model.specs.Dims.{plains};
-ghost use Rattle.cube_rollup.specs.Cuboids.{first_of_row, summed_row, AreRowsOf, StandsFor};
+ghost use Rattle.cube_rollup.specs.Cuboids.{first_of_row, sums_of, AreRowsOf, StandsFor};
+ghost use Rattle.cube_core.specs.Tallies.{summed_row};
 
 use crate::Cuboid;
 use cube_core::{Core, Steps};
-use cube_model::{Answer, AnswerRow, Items, Key, Levels, NoMemory, Request, Row, Rows, What};
+use cube_model::{
+    Answer, AnswerRow, Items, Key, Levels, NoMemory, Request, Row, Rows, Values, What,
+};
 use std::alloc::Global;
 use std::sync::ledger::Ledger;
 
@@ -54,6 +57,17 @@ fn sum_rows<L: Ledger>(
     Ok(cells)
 }
 
+/// The sums of cells by themselves.
+fn sums_in(alloc: Global, cells: &[AnswerRow]) -> Result<Values, NoMemory>
+    ensures { IfOk result (λ sums. sums ≡ sums_of cells.now) }
+{
+    let mut sums = Items::new(alloc);
+    'cells: for cell in cells {
+        sums.push(cell.sum)?;
+    }
+    Ok(sums)
+}
+
 impl Cuboid {
     /// The nonempty cells of a core at some levels, with the sums of a measure. It reads each value
     /// of the measure at most once.
@@ -77,6 +91,7 @@ impl Cuboid {
         let rows = core.rows(alloc, &request)?;
         let points = first_points(alloc, core, rows.as_slice())?;
         let cells = sum_rows(alloc, core, measure, rows, steps)?;
-        Ok(Cuboid::from_parts(kept, measure, cells, points))
+        let sums = sums_in(alloc, cells.as_slice())?;
+        Ok(Cuboid::from_parts(kept, measure, cells, sums, points))
     }
 }

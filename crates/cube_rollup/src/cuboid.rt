@@ -1,9 +1,10 @@
 // The cells of a cuboid.
 ghost use Rattle.std.specs.Prelude.{◌≡◌, ◌+◌, ◌<◌, ◌≤◌, length, slice_index_or, pos};
-ghost use Rattle.cube_rollup.specs.Cuboids.{sums_of, AreBounded};
+ghost use Rattle.cube_rollup.specs.Cuboids.{sums_of};
+ghost use Rattle.cube_core.specs.Tallies.{AreBounded};
 
 use cube_core::Steps;
-use cube_model::{Answer, Items, Key, Levels};
+use cube_model::{Answer, Items, Key, Levels, Values};
 use std::marker::Model;
 use std::sync::ledger::Ledger;
 
@@ -16,19 +17,22 @@ pub struct Cuboid {
     levels: Levels,
     measure: u32,
     cells: Answer,
+    // The sums of the cells by themselves, side by side.
+    sums: Values,
     points: Items<Key>,
 }
 
 impl Model for Cuboid {
     ghost use Rattle.std.specs.Prelude.{◌≡◌, ◌≤◌, length};
     ghost use Rattle.cube_rollup.specs.Cuboids as said;
-    ghost use Rattle.cube_rollup.specs.Cuboids.{sums_of, AreBounded};
+    ghost use Rattle.cube_rollup.specs.Cuboids.{sums_of};
+    ghost use Rattle.cube_core.specs.Tallies.{AreBounded};
 
     ghost Value = { said.Cuboid };
 
     ghost view = { λ s. record { levels = s.levels; measure = s.measure; cells = s.cells; points = s.points } };
 
-    ghost invariant = { λ s. (length s.cells ≤ 65536) × AreBounded (sums_of s.cells) };
+    ghost invariant = { λ s. (length s.cells ≤ 65536) × AreBounded (sums_of s.cells) × (s.sums ≡ sums_of s.cells) };
 }
 
 impl Cuboid {
@@ -37,9 +41,11 @@ impl Cuboid {
         levels: Levels,
         measure: u32,
         cells: Answer,
+        sums: Values,
         points: Items<Key>,
     ) -> Self
         requires few { length cells ≤ 65536 }
+        requires sums { sums ≡ sums_of cells }
         requires bounded { AreBounded (sums_of cells) }
         ensures { result ≡ record { levels = levels; measure = measure; cells = cells; points = points } }
     {
@@ -47,6 +53,7 @@ impl Cuboid {
             levels,
             measure,
             cells,
+            sums,
             points,
         }
     }
@@ -70,6 +77,13 @@ impl Cuboid {
         ensures { result.now ≡ self.now.points }
     {
         self.points.as_slice()
+    }
+
+    /// The sum of each cell.
+    pub(crate) fn sums(&self) -> &[i64]
+        ensures { result.now ≡ sums_of self.now.cells }
+    {
+        self.sums.as_slice()
     }
 
     /// How many cells there are.

@@ -4,7 +4,6 @@ pub mod Turning
 pub mod Adding
 pub mod Started
 pub mod Sealing
-pub mod Unopened
 pub mod Phrases
 pub mod Wired
 pub mod Played

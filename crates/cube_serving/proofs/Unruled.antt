@@ -1,5 +1,5 @@
 -- A run over groups that ended at its files.
-use Rattle.std.proofs.Common.{◌≡◌, ◌⊎◌, ◌∙◌, ℕ, List, [], ◌∷◌, ◌++◌, Option, Some, None, inl, inr, refl, sym, subst, arith}
+use Rattle.std.proofs.Common.{◌≡◌, ℕ, List, [], ◌∷◌, ◌++◌, Option, Some, None, inl, inr, refl, sym, subst, arith}
 use Rattle.std.specs.Prelude.{IsSomeAnd, Result}
 use Rattle.cube_groups.specs.declared.group.GroupFile.{GroupFile}
 use Rattle.cube_io.specs.Causes.{Rose}
@@ -15,17 +15,9 @@ use Rattle.cube_opening.specs.declared.cube_files.RuledFiles.{RuledFiles}
 use Rattle.cube_opening.specs.declared.report.Report.{Report}
 use Rattle.cube_opening.specs.declared.ruling.RuledGroup.{RuledGroup}
 use Rattle.cube_opening.proofs.Accepted.{accepted_one, founded, one_core, says_one}
+use Rattle.cube_opening.proofs.Ended.{IsOfFiles, one_status, one_unasked, other}
 
 -- ---- its status: 3, 5 or 7
-
-abbrev pub IsOfFiles : ℕ → Type 0
-IsOfFiles n = (n ≡ 3) ⊎ (n ≡ 5) ⊎ (n ≡ 7)
-
-pub one_status : {X F : Type 0} (said : List ℕ → Result X (List ℕ)) (name : List ℕ) (folder : Seen FolderState F) (r : Report) → Unopened said name folder r → IsOfFiles r.status
-one_status said name folder r (inl e) = inr (inr e.0)
-one_status said name folder r (inr (inl e)) = inr (inr e.0)
-one_status said name folder r (inr (inr (inl e))) = inr (inl e.0.0)
-one_status said name folder r (inr (inr (inr e))) = inl e.0.0
 
 at_one : {F : Type 0} (s : Dims) (earlier : List (List ℕ)) (fs : List GroupFile) (folder : Seen FolderState F) (r : Report) → EndsAtOne s earlier fs folder r → IsOfFiles r.status
 at_one s earlier [] folder r e = inr (inr e.0.0)
@@ -42,11 +34,6 @@ status cube folder r (inl (inl e)) = one_status dims_said cube.dims folder r e.u
 status cube folder r (inl (inr e)) = one_status (facts_said e.0) cube.facts folder r e.2.unopened
 status cube folder r (inr e) = at_rules e.0.dims (cube.dims ∷ cube.facts ∷ []) cube.rules folder r e.2
 
-pub other : (n k : ℕ) → (k ≡ 3 → ⊥) → (k ≡ 5 → ⊥) → (k ≡ 7 → ⊥) → IsOfFiles n → n ≡ k → ⊥
-other n k three five seven (inl e) is = three (sym is ∙ e)
-other n k three five seven (inr (inl e)) is = five (sym is ∙ e)
-other n k three five seven (inr (inr e)) is = seven (sym is ∙ e)
-
 pub not_two : {F : Type 0} (cube : RuledFiles) (folder : Seen FolderState F) (r : Report) → EndsUnruled cube folder r → r.status ≡ 2 → ⊥
 not_two cube folder r e = other r.status 2 (λ k. omega (arith, k)) (λ k. omega (arith, k)) (λ k. omega (arith, k)) (status cube folder r e)
 
@@ -60,12 +47,6 @@ pub not_nine : {F : Type 0} (cube : RuledFiles) (folder : Seen FolderState F) (r
 not_nine cube folder r e = other r.status 9 (λ k. omega (arith, k)) (λ k. omega (arith, k)) (λ k. omega (arith, k)) (status cube folder r e)
 
 -- ---- it reports no outcomes
-
-pub one_unasked : {X F : Type 0} (said : List ℕ → Result X (List ℕ)) (name : List ℕ) (folder : Seen FolderState F) (r : Report) → Unopened said name folder r → r.outcomes ≡ []
-one_unasked said name folder r (inl e) = e.1
-one_unasked said name folder r (inr (inl e)) = e.1
-one_unasked said name folder r (inr (inr (inl e))) = e.0.1
-one_unasked said name folder r (inr (inr (inr e))) = e.0.1
 
 one_of_them : {F : Type 0} (s : Dims) (earlier : List (List ℕ)) (fs : List GroupFile) (folder : Seen FolderState F) (r : Report) → EndsAtOne s earlier fs folder r → r.outcomes ≡ []
 one_of_them s earlier [] folder r e = e.0.1

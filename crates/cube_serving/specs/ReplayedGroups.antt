@@ -8,7 +8,7 @@ use Rattle.cube_io.specs.Causes.{Rose}
 use Rattle.cube_io.specs.Seen.{FolderState, SinkState, StoreState, Seen, Unused}
 use Rattle.cube_io.specs.Wires.{Arrival, events_in}
 use Rattle.cube_io.specs.Wires.Arrival.{End}
-use Rattle.cube_opening.specs.Opening.{FileSays, EndsAt}
+use Rattle.cube_opening.specs.Opening.{FileSays, EndsAt, HasFile}
 use Rattle.cube_opening.specs.Reports.{IsReport, IsDone}
 use Rattle.cube_opening.specs.Ruling.{HasGroups, MakeGroups, ruled_names}
 use Rattle.cube_opening.specs.declared.cube_files.RuledFiles.{RuledFiles}
@@ -18,7 +18,7 @@ use Rattle.cube_script.specs.Playing.{Playing, IsPlaying, has_torn}
 use Rattle.cube_server.specs.declared.serving.ServeFault.{ServeFault}
 use Rattle.cube_server.specs.declared.serving.ServeFault.TheVariants.{WireFailed}
 use Rattle.cube_serving.specs.Grouping.{EndsClosedGroups, HaveJournals}
-use Rattle.cube_serving.specs.Replaying.{HasScript, Writes, room_for_sends, script_said, wire_of}
+use Rattle.cube_serving.specs.Replaying.{Writes, room_for_sends, script_said, wire_of}
 use Rattle.cube_serving.specs.ServedGroups.{GroupsAsking, ServedGroups, UnservedGroups}
 
 -- the files make a core and groups, and the run ended at the script
@@ -56,5 +56,5 @@ GroupsReplayEnds cube script_name stated files store out r =
 
 -- where the files, the script and the journals are accepted, no count rose and less was taken than is taken at most, all is done
 abbrev pub GroupsReplayComplete : {F S O : Type 0} → RuledFiles → List ℕ → Seen FolderState F → Seen StoreState S → Seen SinkState O → Report → Type 0
-GroupsReplayComplete cube script_name files store out r = HasGroups cube files.before → HasScript script_name files.before → HaveJournals cube files.before store.before → r.status ≢ 10
+GroupsReplayComplete cube script_name files store out r = HasGroups cube files.before → HasFile script_said script_name files.before → HaveJournals cube files.before store.before → r.status ≢ 10
     → ¬ Rose files.before.faults files.after.faults → (r.outcomes ≡ [] → ¬ Rose store.before.faults store.after.faults) → ¬ Rose out.before.faults out.after.faults → IsDone r

@@ -1,17 +1,15 @@
 -- What is written of a script that was played to a cube.
-use Rattle.std.specs.Prelude.{◌≡◌, ◌≢◌, ◌⊎◌, ℕ, Bool, true, false, List, [], ◌∷◌, ◌++◌, length, codes, decimal, if◌then◌else◌, IfSome, IsSomeAnd}
+use Rattle.std.specs.Prelude.{◌≡◌, ◌≢◌, ◌⊎◌, ℕ, Bool, true, false, List, [], ◌∷◌, ◌++◌, length, codes, decimal, if◌then◌else◌, IfSome}
 use Rattle.std.specs.declared.result.Result.{Result}
 use Rattle.std.specs.declared.result.Result.TheVariants.{Ok, Err}
 use Rattle.std.specs.Io.KnownBytes.{Appends}
 use Rattle.cube_model.specs.declared.outcome.Outcome.{Outcome}
-use Rattle.cube_model.specs.declared.policy.Policy.{Policy}
-use Rattle.cube_model.specs.Cores.{Core}
 use Rattle.cube_io.specs.Causes.{Rose}
 use Rattle.cube_io.specs.Content.{AppendsPrefix}
 use Rattle.cube_io.specs.Seen.{FolderState, SinkState, StoreState, Seen, Unused}
 use Rattle.cube_io.specs.Wires.{Arrival, LogEntry, events_in, render}
 use Rattle.cube_io.specs.Wires.Arrival.{End}
-use Rattle.cube_opening.specs.Opening.{fault_text, faulted, unless_long, FileSays, EndsAt, GotBehind, Make, HasAll, names_of}
+use Rattle.cube_opening.specs.Opening.{fault_text, faulted, unless_long, FileSays, EndsAtLast, GotBehind, HasAll, HasFile, names_with}
 use Rattle.cube_opening.specs.Reports.{IsReport, IsDone}
 use Rattle.cube_opening.specs.declared.cube_files.CubeFiles.{CubeFiles}
 use Rattle.cube_opening.specs.declared.report.Report.{Report}
@@ -37,21 +35,6 @@ room_for_sends = record { sends = MAX_SENDS; bytes = MAX_SENT_BYTES }
 -- a wire that is to play these events
 abbrev pub wire_of : List Arrival → Playing
 wire_of script = starting script room_for_sends
-
--- the three files make a core and a policy, and the run ended at the script
-pub record Unscripted {F : Type 0} (cube : CubeFiles) (script_name : List ℕ) (files : Seen FolderState F) (r : Report) : Type 0 where
-  pub core : Core
-  pub policy : Policy
-  pub files_make : Make cube files.before core policy
-  pub ends : EndsAt (names_of cube) script_said script_name files r
-
--- the names of all four files, in the turn in which they are read
-abbrev pub all_names : CubeFiles → List ℕ → List (List ℕ)
-all_names cube script_name = names_of cube ++ script_name ∷ []
-
--- the script is there and is accepted
-abbrev pub HasScript : List ℕ → FolderState → Type 0
-HasScript script_name files = IsSomeAnd files.files (λ known. (script : List Arrival) × FileSays script_said script_name known (Ok script))
 
 -- ---- how a play ended
 
@@ -94,12 +77,12 @@ pub record Replayed {S O : Type 0} (cube : CubeFiles) (script_name : List ℕ) (
 -- the log
 abbrev pub ReplayEnds : {F S O : Type 0} → CubeFiles → List ℕ → ℕ → Seen FolderState F → Seen StoreState S → Seen SinkState O → Report → Type 0
 ReplayEnds cube script_name stated files store out r =
-    (Unscripted cube script_name files r × Unused store × Unused out)
-    ⊎ (EndsClosed cube (all_names cube script_name) files store r × Unused out)
-    ⊎ (Unserved cube files.before store × IsReport 7 (codes "no memory\n") r × GotBehind (all_names cube script_name) files × Unused out)
-    ⊎ (Replayed cube script_name stated files.before store out r × GotBehind (all_names cube script_name) files)
+    (EndsAtLast cube script_said script_name files r × Unused store × Unused out)
+    ⊎ (EndsClosed cube (names_with cube script_name) files store r × Unused out)
+    ⊎ (Unserved cube files.before store × IsReport 7 (codes "no memory\n") r × GotBehind (names_with cube script_name) files × Unused out)
+    ⊎ (Replayed cube script_name stated files.before store out r × GotBehind (names_with cube script_name) files)
 
 -- where the files, the script and the journal are accepted, no count rose and less was taken than is taken at most, all is done
 abbrev pub ReplayCompletes : {F S O : Type 0} → CubeFiles → List ℕ → Seen FolderState F → Seen StoreState S → Seen SinkState O → Report → Type 0
-ReplayCompletes cube script_name files store out r = HasAll cube files.before → HasScript script_name files.before → HasJournal cube files.before store.before → r.status ≢ 10
+ReplayCompletes cube script_name files store out r = HasAll cube files.before → HasFile script_said script_name files.before → HasJournal cube files.before store.before → r.status ≢ 10
     → ¬ Rose files.before.faults files.after.faults → (r.outcomes ≡ [] → ¬ Rose store.before.faults store.after.faults) → ¬ Rose out.before.faults out.after.faults → IsDone r

@@ -18,7 +18,7 @@ use crate::replaying::{open_script, report_play};
 use crate::serving::report_serving;
 use cube_io::{Folder, Sink, Store, Wire};
 use cube_model::Text;
-use cube_opening::{Report, Room, RuledFiles, open_ruled};
+use cube_opening::{Report, Room, RuledFiles, open_ruled, statuses};
 use cube_server::Pool;
 use std::alloc::Global;
 
@@ -63,11 +63,17 @@ pub fn serve_grouped<F: Folder, S: Store, W: Wire>(
         Err(report) => return report,
     };
     let Ok(mut pool) = Pool::new(alloc) else {
-        return started.room.with(b"no memory\n").close(alloc, 7);
+        return started
+            .room
+            .with(b"no memory\n")
+            .close(alloc, statuses::NO_MEMORY);
     };
     match wire.listen(address, idle) {
         Ok(()) => {}
-        Err(_) => return started.room.with(b"wire failed\n").close(alloc, 8),
+        Err(_) => return started
+            .room
+            .with(b"wire failed\n")
+            .close(alloc, statuses::WIRE_FAILED),
     }
     let mut groups = started.value;
     let end = serve_groups(alloc, &mut groups, store, wire, &mut pool);
@@ -117,7 +123,10 @@ pub fn replay_grouped<F: Folder, S: Store, O: Sink>(
         Err(report) => return report,
     };
     let Ok(mut pool) = Pool::new(alloc) else {
-        return started.room.with(b"no memory\n").close(alloc, 7);
+        return started
+            .room
+            .with(b"no memory\n")
+            .close(alloc, statuses::NO_MEMORY);
     };
     let mut wire = played.value;
     let mut groups = started.value;

@@ -19,7 +19,9 @@ use cube_core::Core;
 use cube_engine::SharedCore;
 use cube_io::{SEAL_LOG, Store};
 use cube_model::{Items, Text};
-use cube_opening::{Opened, Report, Room, Ruled, RuledGroup, RuledGroups, called, no_room};
+use cube_opening::{
+    Opened, Report, Room, Ruled, RuledGroup, RuledGroups, called, no_room, statuses,
+};
 use cube_seal::hold_seal;
 use std::alloc::Global;
 
@@ -54,7 +56,7 @@ fn add_group<S: Store>(
         return Err(no_room(alloc));
     };
     let Ok(shared) = core.share() else {
-        return Err(room.with(b"no memory\n").close(alloc, 7));
+        return Err(room.with(b"no memory\n").close(alloc, statuses::NO_MEMORY));
     };
     let mut groups = groups;
     let RuledGroup {
@@ -140,13 +142,16 @@ fn start_groups<S: Store>(
 {
     match store.attach(name) {
         Ok(()) => {}
-        Err(_) => return Err(room.with(b"store failed\n").close(alloc, 9)),
+        Err(_) => return Err(
+            room.with(b"store failed\n")
+                .close(alloc, statuses::STORE_FAILED),
+        ),
     }
     let Ok(groups) = Groups::new(alloc, stated) else {
-        return Err(room.with(b"no memory\n").close(alloc, 7));
+        return Err(room.with(b"no memory\n").close(alloc, statuses::NO_MEMORY));
     };
     let Ok(shared) = SharedCore::new(alloc, core) else {
-        return Err(room.with(b"no memory\n").close(alloc, 7));
+        return Err(room.with(b"no memory\n").close(alloc, statuses::NO_MEMORY));
     };
     add_rest(alloc, room, &shared, ruled, store, groups)
 }

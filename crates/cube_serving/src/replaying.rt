@@ -17,7 +17,7 @@ use crate::serving::{report_serving, serve_engine};
 use crate::starting::open_engine;
 use cube_io::{Failed, Folder, Sink, Store};
 use cube_model::{Outcomes, Text};
-use cube_opening::{CubeFiles, Opened, Report, Room, open_guarded, read_bytes};
+use cube_opening::{CubeFiles, Opened, Report, Room, open_guarded, read_bytes, statuses};
 use cube_script::{ScriptFault, ScriptWire};
 use cube_server::{Pool, ServeFault};
 use std::alloc::Global;
@@ -34,9 +34,11 @@ fn make_wire(alloc: Global, room: Room, bytes: &Text) -> Result<Opened<ScriptWir
             room.with(b"script: line ")
                 .with_number(line)
                 .with(b"\n")
-                .close(alloc, 3),
+                .close(alloc, statuses::FILE_REFUSED),
         ),
-        Err(ScriptFault::NoMemory) => Err(room.with(b"no memory\n").close(alloc, 7)),
+        Err(ScriptFault::NoMemory) => Err(
+            room.with(b"no memory\n").close(alloc, statuses::NO_MEMORY),
+        ),
     }
 }
 
@@ -86,13 +88,15 @@ pub(crate) fn report_play(
     ensures outcomes { result.outcomes ≡ outcomes }
 {
     if written.is_err() {
-        return room.with(b"output failed\n").close_with(6, outcomes);
+        return room
+            .with(b"output failed\n")
+            .close_with(statuses::OUTPUT_FAILED, outcomes);
     }
     if !wire.overrun() {
         return report_serving(room, end, outcomes);
     }
     let requests = outcomes.len() as u64;
-    overrun_room(room, requests, wire.taken()).close_with(10, outcomes)
+    overrun_room(room, requests, wire.taken()).close_with(statuses::ALL_SPENT, outcomes)
 }
 
 /// Plays a script to the cube of the files, from the history on that the journal holds, and writes the log of what was sent.
@@ -137,7 +141,10 @@ pub fn replay_cube<F: Folder, S: Store, O: Sink>(
         Err(report) => return report,
     };
     let Ok(mut pool) = Pool::new(alloc) else {
-        return started.room.with(b"no memory\n").close(alloc, 7);
+        return started
+            .room
+            .with(b"no memory\n")
+            .close(alloc, statuses::NO_MEMORY);
     };
     let mut wire = played.value;
     let mut engine = started.value;

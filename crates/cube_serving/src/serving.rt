@@ -15,7 +15,7 @@ use crate::starting::open_engine;
 use cube_engine::Engine;
 use cube_io::{Folder, Store, Wire};
 use cube_model::{Outcomes, Text};
-use cube_opening::{CubeFiles, Report, Room, open_guarded, spent_room};
+use cube_opening::{CubeFiles, Report, Room, open_guarded, spent_room, statuses};
 use cube_server::{Pool, ServeFault, serve};
 use std::alloc::Global;
 
@@ -59,10 +59,12 @@ pub(crate) fn report_serving(room: Room, end: Result<(), ServeFault>, outcomes: 
     ensures outcomes { result.outcomes ≡ outcomes }
 {
     match end {
-        Ok(()) => room.close_with(0, outcomes),
-        Err(ServeFault::WireFailed) => room.with(b"wire failed\n").close_with(8, outcomes),
+        Ok(()) => room.close_with(statuses::DONE, outcomes),
+        Err(ServeFault::WireFailed) => room
+            .with(b"wire failed\n")
+            .close_with(statuses::WIRE_FAILED, outcomes),
         Err(ServeFault::Spent { requests, events }) => {
-            spent_room(room, requests, events).close_with(10, outcomes)
+            spent_room(room, requests, events).close_with(statuses::ALL_SPENT, outcomes)
         }
     }
 }
@@ -107,11 +109,17 @@ pub fn serve_cube<F: Folder, S: Store, W: Wire>(
         Err(report) => return report,
     };
     let Ok(mut pool) = Pool::new(alloc) else {
-        return started.room.with(b"no memory\n").close(alloc, 7);
+        return started
+            .room
+            .with(b"no memory\n")
+            .close(alloc, statuses::NO_MEMORY);
     };
     match wire.listen(address, idle) {
         Ok(()) => {}
-        Err(_) => return started.room.with(b"wire failed\n").close(alloc, 8),
+        Err(_) => return started
+            .room
+            .with(b"wire failed\n")
+            .close(alloc, statuses::WIRE_FAILED),
     }
     let mut engine = started.value;
     let end = serve_engine(alloc, &mut engine, store, wire, &mut pool);

@@ -15,7 +15,7 @@ use cube_engine::{Engine, EngineFault};
 use cube_io::{SEAL_LOG, Store};
 use cube_journal::Digest;
 use cube_model::{NoMemory, Policy, Text};
-use cube_opening::{Guarded, Opened, Report, Room, no_room, with_text};
+use cube_opening::{Guarded, Opened, Report, Room, no_room, statuses, with_text};
 use cube_seal::{SealFault, hold_seal};
 use std::alloc::Global;
 
@@ -53,7 +53,7 @@ fn other_digest(
     ensures { IsReport 4 (called.now ++ front.now ++ kept.now ++ words.now ++ now.now ++ codes "\n") result ⊎ NoRoom result }
 {
     match two_digests(alloc, called, front, kept, words, now) {
-        Ok(text) => with_text(alloc, 4, text),
+        Ok(text) => with_text(alloc, statuses::JOURNAL_REFUSED, text),
         Err(_) => no_room(alloc),
     }
 }
@@ -78,14 +78,22 @@ pub(crate) fn refuse_journal(alloc: Global, room: Room, called: &[u8], fault: En
     ensures { IsReport (status_for fault) (journal_words called.now fault) result ⊎ ((status_for fault ≡ 4) × NoRoom result) }
 {
     match fault {
-        EngineFault::Failed => room.with(b"store failed\n").close(alloc, 9),
-        EngineFault::NoMemory => room.with(b"no memory\n").close(alloc, 7),
-        EngineFault::TooLong => room.with(called).with(b": too long\n").close(alloc, 4),
+        EngineFault::Failed => room
+            .with(b"store failed\n")
+            .close(alloc, statuses::STORE_FAILED),
+        EngineFault::NoMemory => room.with(b"no memory\n").close(alloc, statuses::NO_MEMORY),
+        EngineFault::TooLong => room
+            .with(called)
+            .with(b": too long\n")
+            .close(alloc, statuses::JOURNAL_REFUSED),
         EngineFault::Damaged { line } => {
-            line_room(room, called, line, b" damaged\n").close(alloc, 4)
+            line_room(room, called, line, b" damaged\n").close(alloc, statuses::JOURNAL_REFUSED)
         }
         EngineFault::Inadmissible { line } => {
-            line_room(room, called, line, b" inadmissible\n").close(alloc, 4)
+            line_room(room, called, line, b" inadmissible\n").close(
+                alloc,
+                statuses::JOURNAL_REFUSED,
+            )
         }
         EngineFault::OtherCube { kept, now } => {
             other_digest(alloc, called, b": digest ", &kept, b" is not ", &now)
@@ -99,9 +107,13 @@ pub(crate) fn refuse_seal(alloc: Global, room: Room, fault: SealFault, facts: &D
     ensures { IsReport (seal_status fault) (seal_words facts.now fault) result ⊎ ((seal_status fault ≡ 4) × NoRoom result) }
 {
     match fault {
-        SealFault::Failed => room.with(b"store failed\n").close(alloc, 9),
-        SealFault::NoMemory => room.with(b"no memory\n").close(alloc, 7),
-        SealFault::Damaged => room.with(b"journal: seal damaged\n").close(alloc, 4),
+        SealFault::Failed => room
+            .with(b"store failed\n")
+            .close(alloc, statuses::STORE_FAILED),
+        SealFault::NoMemory => room.with(b"no memory\n").close(alloc, statuses::NO_MEMORY),
+        SealFault::Damaged => room
+            .with(b"journal: seal damaged\n")
+            .close(alloc, statuses::JOURNAL_REFUSED),
         SealFault::OtherFacts { kept } => {
             other_digest(alloc, b"journal", b": facts ", &kept, b" are not ", facts)
         }
@@ -139,7 +151,10 @@ fn start_engine<S: Store>(
 {
     match store.attach(name) {
         Ok(()) => {}
-        Err(_) => return Err(room.with(b"store failed\n").close(alloc, 9)),
+        Err(_) => return Err(
+            room.with(b"store failed\n")
+                .close(alloc, statuses::STORE_FAILED),
+        ),
     }
     match Engine::start(alloc, core, policy, store, LOG, stated) {
         Ok(value) => {

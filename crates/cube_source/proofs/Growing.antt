@@ -6,7 +6,7 @@ use Rattle.cube_model.specs.Cubes.{count_from}
 use Rattle.cube_model.proofs.DimsFacts.{count_from-more}
 use Rattle.cube_source.proofs.Once.{filter_joined}
 
-next : {X : Type 0} (xs : List X) (i : ℕ) (x : X) → i < length xs → x ≡ get_or xs i x → take (i + 1) xs ≡ take i xs ++ x ∷ []
+pub next : {X : Type 0} (xs : List X) (i : ℕ) (x : X) → i < length xs → x ≡ get_or xs i x → take (i + 1) xs ≡ take i xs ++ x ∷ []
 next xs i x l is = take_more xs i x l ∙ ap (λ y. take i xs ++ y ∷ []) (sym is)
 
 pub passed_more : {X : Type 0} (p : X → Bool) (xs : List X) (i : ℕ) (x : X) → i < length xs → x ≡ get_or xs i x → p x ≡ true → filter p (take (i + 1) xs) ≡ filter p (take i xs) ++ x ∷ []
@@ -72,7 +72,7 @@ filter_fewer p (x ∷ xs) = go (p x) (filter_fewer p xs)
 
 -- ---- numbers in order that pass a test
 
-number_last : (k : ℕ) → count_from 0 (k + 1) ≡ count_from 0 k ++ k ∷ []
+pub number_last : (k : ℕ) → count_from 0 (k + 1) ≡ count_from 0 k ++ k ∷ []
 number_last k = count_from-more 0 k ∙ ap (λ (j : ℕ). count_from 0 k ++ j ∷ []) (zero-add k)
 
 pub number_passed : (p : ℕ → Bool) (k : ℕ) → p k ≡ true → filter p (count_from 0 (k + 1)) ≡ filter p (count_from 0 k) ++ k ∷ []

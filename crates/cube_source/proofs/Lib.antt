@@ -12,3 +12,6 @@ pub mod Repeats
 pub mod Once
 pub mod Growing
 pub mod Tables
+pub mod Counted
+pub mod Contained
+pub mod AllCut

@@ -4,7 +4,7 @@ use Rattle.std.proofs.Common.{◌≡◌, ℕ, zero, suc, ◌≤◌, inl, inr, Bo
 use Rattle.cube_model.specs.declared.cell.Cell.{Cell}
 use Rattle.cube_model.specs.declared.policy.Object.{Object}
 use Rattle.cube_model.specs.Cubes.{Public, in_order, key_at, places, cuboids_below, count_from, IsIn, IsIncreasing}
-use Rattle.cube_model.specs.Protection.{in_slice, touched, under, same_cell, each_once}
+use Rattle.cube_model.specs.Protection.{in_slice, under, same_cell, each_once}
 use Rattle.cube_model.proofs.Members.{tested, IsIn-map, IsIn-append, IsIn-flat_map, IsIn-count_from}
 use Rattle.cube_model.proofs.Objects.{same_cell_eq}
 use Rattle.cube_model.proofs.Orders.{in_order_increasing}
@@ -58,13 +58,17 @@ apart_keys : (ks : List (List ℕ)) → IsIncreasing ks → AreApart ks
 apart_keys [] i = tt
 apart_keys (k ∷ ks) i = ((λ m. not_before k (later k k ks i.0 m)), apart_keys ks i.1)
 
+-- cells of the cuboids at or below one, by their keys
+pub apart_cells : (g : Public) (test : List ℕ → ℕ → Bool) (ls : List ℕ) → AreApart (flat_map (λ c. map (cell c) (in_order (map (key_at g c) (filter (test c) (places g))))) (cuboids_below ls))
+apart_cells g test ls = apart_flat (λ c. map (cell c) (in_order (map (key_at g c) (filter (test c) (places g))))) (λ t. t.levels) (cuboids_below ls)
+    (λ c. apart_map (cell c) (λ t. t.key) (in_order (map (key_at g c) (filter (test c) (places g)))) (λ k. refl)
+    (apart_keys (in_order (map (key_at g c) (filter (test c) (places g)))) (in_order_increasing (map (key_at g c) (filter (test c) (places g))))))
+    (λ c t m. let r = IsIn-map (cell c) t (in_order (map (key_at g c) (filter (test c) (places g)))) m in ap (λ (s : Cell). s.levels) (sym r.2))
+    (apart_below ls)
+
 -- within one object no cell repeats
 pub apart_under : (g : Public) (o : Object) → AreApart (under g o)
-apart_under g o = apart_flat (touched g o) (λ t. t.levels) (cuboids_below o.levels)
-    (λ c. apart_map (cell c) (λ t. t.key) (in_order (map (key_at g c) (filter (in_slice g o) (places g)))) (λ k. refl)
-    (apart_keys (in_order (map (key_at g c) (filter (in_slice g o) (places g)))) (in_order_increasing (map (key_at g c) (filter (in_slice g o) (places g))))))
-    (λ c t m. let r = IsIn-map (cell c) t (in_order (map (key_at g c) (filter (in_slice g o) (places g)))) m in ap (λ (s : Cell). s.levels) (sym r.2))
-    (apart_below o.levels)
+apart_under g o = apart_cells g (λ c. in_slice g o) o.levels
 
 -- ---- each cell once
 

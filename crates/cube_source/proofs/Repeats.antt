@@ -16,14 +16,13 @@ use Rattle.cube_model.proofs.Numbers.{blocks_length}
 use Rattle.cube_model.proofs.Objects.{below_finer, finer_below, same_cell_eq, touched_is, touched_has}
 use Rattle.cube_model.proofs.Orders.{place_of}
 use Rattle.cube_model.proofs.Sources.{place_below, Each-get_or}
-use Rattle.cube_model.proofs.Sums.{length-count_from}
 use Rattle.cube_model.proofs.Walks.{any_from, any_has, any_alike, same_truth}
 use Rattle.cube_source.specs.Blocks.{whole, row_cell}
 use Rattle.cube_source.specs.Fresh.{is_fresh, is_repeated}
 use Rattle.cube_source.specs.Objects.{of_measure, IsPlaced}
 use Rattle.cube_source.proofs.Among.{same_itself}
 use Rattle.cube_source.proofs.Cuts.{cell, row_covers, keys_whole, any_filter}
-use Rattle.cube_source.proofs.Growing.{passed_more, failed_more, flat_last, flat_more, filter_fewer}
+use Rattle.cube_source.proofs.Growing.{passed_more, failed_more, flat_last, flat_more}
 use Rattle.cube_source.proofs.Guards.{any_kept}
 use Rattle.cube_source.proofs.Keys.{not_equal}
 use Rattle.cube_source.proofs.Once.{apart_under, once_apart, once_append, filter_joined}
@@ -82,7 +81,7 @@ repeated_is g earlier m c key =
 
 -- ---- the fresh cells of a cuboid
 
-filter_kept : (make : List ℕ → Row) (c : List ℕ) (test : Row → Bool) (keep : List ℕ → Bool) (passes : Cell → Bool) (keys : List (List ℕ)) → ((k : List ℕ) → (make k).key ≡ k) → ((k : List ℕ) → test (make k) ≡ (keep k && passes (cell c k)))
+pub filter_kept : (make : List ℕ → Row) (c : List ℕ) (test : Row → Bool) (keep : List ℕ → Bool) (passes : Cell → Bool) (keys : List (List ℕ)) → ((k : List ℕ) → (make k).key ≡ k) → ((k : List ℕ) → test (make k) ≡ (keep k && passes (cell c k)))
     → map (row_cell c) (filter test (map make keys)) ≡ filter passes (map (cell c) (filter keep keys))
 filter_kept make c test keep passes [] own h = refl
 filter_kept make c test keep passes (k ∷ ks) own h =
@@ -155,23 +154,11 @@ length-with_key k (a ∷ ks) = go (same k a) (before k a) (length-with_key k ks)
     go false true r = omega arith
     go false false r = omega (arith, r)
 
-length-in_order : (ks : List (List ℕ)) → length (in_order ks) ≤ length ks
+pub length-in_order : (ks : List (List ℕ)) → length (in_order ks) ≤ length ks
 length-in_order [] = omega arith
 length-in_order (k ∷ ks) = let a = length-with_key k (in_order ks) in let b = length-in_order ks in omega (arith, a, b)
 
--- an object protects at most as many cells of a cuboid as there are places
-pub few_touched : (g : Public) (earlier : List Object) (o : Object) (c : List ℕ) → length (filter (is_fresh g earlier o.measure) (touched g o c)) ≤ length g.shape.points
-few_touched g earlier o c =
-    let is = filter (in_slice g o) (places g) in
-    let a = filter_fewer (is_fresh g earlier o.measure) (touched g o c) in
-    let b = length-map (in_order (map (key_at g c) (filter (in_slice g o) (places g)))) (cell c) in
-    let d = length-in_order (map (key_at g c) (filter (in_slice g o) (places g))) in
-    let e = length-map (filter (in_slice g o) (places g)) (key_at g c) in
-    let f = filter_fewer (in_slice g o) (places g) in
-    let h = length-count_from 0 (length g.shape.points) in
-    omega (arith, a, b, d, e, f, h)
-
--- and there are at most as many cuboids below one as there are cuboids
+-- there are at most as many cuboids below one as there are cuboids
 pub few_below : (ds : List Dimension) (ls : List ℕ) → are_levels ds ls ≡ true → length (cuboids_below ls) ≤ cuboid_count ds
 few_below [] [] e = omega arith
 few_below [] (l ∷ ls) e = absurd (false≢true e)

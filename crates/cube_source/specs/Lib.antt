@@ -1,4 +1,5 @@
 pub mod Blocks
+pub mod Containing
 pub mod Fresh
 pub mod Judged
 pub mod Keys

@@ -1,9 +1,9 @@
--- The objects of a measure, and what a walk over objects needs of them.
+-- The objects of a measure, what a walk over objects needs of them, and what they protect at a cuboid.
 use Rattle.std.specs.List.{list_any}
-use Rattle.std.specs.Prelude.{◌≡◌, ℕ, Bool, true, ◌&&◌, ◌==◌, List, filter}
+use Rattle.std.specs.Prelude.{◌≡◌, ℕ, Bool, true, ◌&&◌, ◌==◌, List, filter, map}
 use Rattle.cube_model.specs.declared.cell.Cell.{Cell}
 use Rattle.cube_model.specs.declared.policy.Object.{Object}
-use Rattle.cube_model.specs.Cubes.{Public, Each, are_levels, covers, places}
+use Rattle.cube_model.specs.Cubes.{Public, Each, are_levels, covers, places, is_finer, in_order, key_at}
 use Rattle.cube_model.specs.Dims.{Dims, plains}
 use Rattle.cube_model.specs.Policies.{IsWithin}
 use Rattle.cube_model.specs.Protection.{in_slice}
@@ -19,3 +19,19 @@ pub record IsPlaced (s : Dims) (o : Object) : Type 0 where
 -- the cell covers a place of the object's slice
 abbrev pub covers_slice : Public → Cell → Object → Bool
 covers_slice g t o = list_any (λ i. covers g t i && in_slice g o i) (places g)
+
+-- the object is of the measure, and the place is in its slice
+abbrev pub is_sliced : Public → ℕ → Object → ℕ → Bool
+is_sliced g m o i = o.measure == m && in_slice g o i
+
+-- the same of each place
+abbrev pub slice_of : Public → ℕ → Object → List Bool
+slice_of g m o = map (is_sliced g m o) (places g)
+
+-- the place is in the slice of an object of the measure that stands at or above the cuboid
+abbrev pub stands_over : Public → List Object → ℕ → List ℕ → ℕ → Bool
+stands_over g os m c i = list_any (λ o. is_finer c o.levels && is_sliced g m o i) os
+
+-- the cells of the cuboid that cover such a place, by key
+abbrev pub cells_over : Public → List Object → ℕ → List ℕ → List Cell
+cells_over g os m c = map (λ key. record { levels = c; key = key }) (in_order (map (key_at g c) (filter (stands_over g os m c) (places g))))

@@ -38,7 +38,7 @@ fn is_split(core: &Core, levels: &[u32], places: &[u32]) -> bool
 }
 
 /// So many flags, none of them set.
-fn no_flags(alloc: Global, many: usize) -> Result<Vec<bool>, NoMemory>
+pub(crate) fn no_flags(alloc: Global, many: usize) -> Result<Vec<bool>, NoMemory>
     ensures { IfOk result (λ flags. flags.items ≡ replicate many false) }
 {
     Ok(vec![in alloc; false; many]?)

@@ -1,5 +1,5 @@
 // Whether a source cuboid cuts each protected cell of a measure.
-ghost use Rattle.std.specs.Prelude.{◌≡◌, ◌<◌, true, false, not, ◌&&◌, find, flat_map, filter, map, length, slice_index_or, IfOk};
+ghost use Rattle.std.specs.Prelude.{◌≡◌, ◌<◌, true, false, not, ◌&&◌, find, flat_map, filter, map, length, slice_index_or, None, IfOk};
 ghost use Rattle.std.specs.List.{list_any, All};
 ghost use Rattle.std.specs.Option.{option_map};
 ghost use Rattle.cube_model.specs.Cores.{shown};
@@ -13,12 +13,17 @@ ghost use Rattle.cube_source.specs.Judged.{judged_of};
 ghost use Rattle.cube_source.specs.Objects.{IsPlaced, of_measure};
 
 use crate::blocks::{meets, mixed_places, rows_at};
+use crate::containing::is_contained;
+use crate::cutting::are_all_cut;
 use crate::places::{finest, in_slice, key_of, touches};
 use crate::protecting::is_guarded;
 use cube_core::Core;
 use cube_lattice::cuboids_below;
 use cube_model::{Cell, Key, Levels, Method, NoMemory, Object, Policy, Row};
 use std::alloc::Global;
+
+/// Where a policy has more objects than so many, it is looked first whether all cells are parted, cuboid by cuboid.
+const FEW_OBJECTS: usize = 4;
 
 /// The verdict on a source cuboid.
 #[derive(Drop)]
@@ -138,6 +143,28 @@ fn uncut_under(
     Ok(None)
 }
 
+/// The same, where each cell is parted that earlier objects of the measure protect: an object that one of these contains is
+/// passed over.
+fn uncut_new(
+    alloc: Global,
+    core: &Core,
+    blocks: &[Row],
+    earlier: &[Object],
+    object: &Object,
+) -> Result<Option<Cell>, NoMemory>
+    requires blocks { AreBlocks (length core.now.shape.points) blocks.now }
+    requires earlier { Each (IsPlaced core.now.dims) earlier.now }
+    requires levels { are_levels (plains core.now.dims) object.now.levels ≡ true }
+    requires slice { Each (IsWithin core.now.dims) object.now.slice }
+    requires passed { find (λ cell. not (is_parted (bare core.now) blocks.now cell)) (flat_map (under (bare core.now)) (of_measure object.now.measure earlier.now)) ≡ None }
+    ensures { IfOk result (λ found. found ≡ find (λ cell. not (is_parted (bare core.now) blocks.now cell)) (under (bare core.now) object.now)) }
+{
+    if is_contained(core, earlier, object) {
+        return Ok(None);
+    }
+    uncut_under(alloc, core, blocks, object)
+}
+
 /// The first cell that objects of a measure protect and no block parts.
 fn uncut_lattice(
     alloc: Global,
@@ -150,9 +177,13 @@ fn uncut_lattice(
     requires objects { Each (IsPlaced core.now.dims) objects.now }
     ensures { IfOk result (λ found. found ≡ find (λ cell. not (is_parted (bare core.now) blocks.now cell)) (flat_map (under (bare core.now)) (of_measure measure objects.now))) }
 {
-    'objects: for object in objects {
+    if objects.len() > FEW_OBJECTS && are_all_cut(alloc, core, blocks, objects, measure)? {
+        return Ok(None);
+    }
+    'objects: for number in 0..objects.len() {
+        let object = &objects[number];
         if object.measure == measure {
-            if let Some(cell) = uncut_under(alloc, core, blocks, object)? {
+            if let Some(cell) = uncut_new(alloc, core, blocks, &objects[..number], object)? {
                 return Ok(Some(cell));
             }
         }
@@ -230,7 +261,8 @@ fn first_uncut(
 /// measure under the parity rule in the order of the places.
 ///
 /// It groups all places once by the cuboid, and once more for each cuboid at or below an object at which a
-/// place of the object's slice has only places of its own cell beside it. It lists no protected cells.
+/// place of the object's slice has only places of its own cell beside it. It lists no protected cells, and
+/// passes over an object that an earlier one contains.
 pub fn judge(
     alloc: Global,
     core: &Core,

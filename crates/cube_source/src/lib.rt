@@ -5,13 +5,16 @@
 #![tactic(auto)]
 
 mod blocks;
+mod containing;
 mod counting;
+mod cutting;
 mod fresh;
 mod judging;
 mod listing;
 mod pair;
 mod places;
 mod protecting;
+mod slices;
 mod table;
 
 pub use counting::count_protected;

@@ -15,7 +15,7 @@ use cube_model::{Cell, Key, Levels, NoMemory, Object, Within};
 use std::alloc::Global;
 
 /// Whether a member is among members in increasing order. Takes the logarithm of their number.
-fn is_listed(members: &[u32], member: u32) -> bool
+pub(crate) fn is_listed(members: &[u32], member: u32) -> bool
     requires { are_rising members.now ≡ true }
     ensures { result ≡ listed member members.now }
 {

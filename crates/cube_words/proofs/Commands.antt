@@ -3,7 +3,7 @@ use Rattle.std.proofs.Common.{◌≡◌, ◌≤◌, Some, ℕ, suc, ◌+◌, ◌
 use Rattle.std.proofs.Math.Seq.{take-suc}
 use Rattle.std.proofs.lemmas.List.{take_all}
 use Rattle.cube_words.specs.declared.words.Command.{Command}
-use Rattle.cube_words.specs.Words.{command_of, is_option, is_wrong_value, stands_in, options_in, first_wrong, begin_with_groups, ruled_as, with_rules, orders_of}
+use Rattle.cube_words.specs.Words.{command_of, is_option, is_wrong_value, stands_in, options_in, first_wrong, with_command, orders_of}
 
 -- the words from a place on begin with two words, and those up to it end with them one pair further
 pair_behind : (words : List (List ℕ)) (at : ℕ) → at + 2 ≤ length words → drop at words ≡ get_or words at [] ∷ get_or words (suc at) [] ∷ drop (at + 2) words
@@ -53,7 +53,7 @@ wrong_step c words at option value long is that known once right =
 
 -- what a command orders with the words behind it, where it is the first word
 pub ordered_by : (words : List (List ℕ)) (word : List ℕ) (c : Command) → 1 ≤ length words → word ≡ get_or words 0 word → command_of word ≡ Some c
-    → with_rules (take (length words - 1) (drop 1 words)) (ruled_as c (begin_with_groups (options_in (take (length words - 1) (drop 1 words))))) ≡ orders_of words
+    → with_command (take (length words - 1) (drop 1 words)) (Some c) ≡ orders_of words
 ordered_by [] word c some is known = absurd (omega (arith, some))
 ordered_by (x ∷ xs) word c some is known =
     let all : take (length (x ∷ xs) - 1) xs ≡ xs = take_all (length (x ∷ xs) - 1) xs (omega arith) in

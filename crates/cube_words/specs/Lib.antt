@@ -1,1 +1,3 @@
+pub mod Drafting
+pub mod Help
 pub mod Words

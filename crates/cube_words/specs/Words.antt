@@ -4,23 +4,26 @@ use Rattle.std.specs.List.{list_any}
 use Rattle.std.specs.Str.{bytes_eq}
 use Rattle.std.specs.Str.Parse.{digits_value}
 use Rattle.cube_text.specs.Units.{is_digits}
+use Rattle.cube_words.specs.Drafting.{drafted}
 use Rattle.cube_words.specs.declared.words.Command.{Command}
 use Rattle.cube_words.specs.declared.words.Command.TheVariants as command
 use Rattle.cube_opening.specs.declared.cube_files.CubeFiles.{CubeFiles}
 use Rattle.cube_opening.specs.declared.cube_files.RuledFiles.{RuledFiles}
 use Rattle.cube_opening.specs.declared.cube_files.Rules.TheVariants as rules
+use Rattle.cube_words.specs.declared.drafting.Drafting.{Drafting as DraftOrders}
 use Rattle.cube_words.specs.declared.ordered.Making.{Making}
 use Rattle.cube_words.specs.declared.ordered.Orders.{Orders}
 use Rattle.cube_words.specs.declared.ordered.Orders.TheVariants as orders
 use Rattle.cube_words.specs.declared.words.TheConstants.{MAX_REQUESTS, USUAL_REQUESTS, MAX_IDLE, USUAL_IDLE, MAX_DIGITS, OVER, MAX_SIZE}
 use Rattle.cube_words.specs.declared.words.Setting.{Setting}
-use Rattle.cube_words.specs.declared.words.Setting.TheVariants.{Dims, Facts, Policy, Groups, Journal, Cell, Query, Reason, Transcript, Workload, Out, Address, Script, Requests, Idle, Number, Size}
+use Rattle.cube_words.specs.declared.words.Setting.TheVariants.{Dims, Facts, Policy, Groups, Journal, Cell, Query, Reason, Transcript, Workload, Out, Address, Script, Requests, Idle, Number, Size, Levels, Members}
 use Rattle.cube_words.specs.declared.words.Usage.{Usage}
 use Rattle.cube_words.specs.declared.words.Usage.TheVariants.{NoCommand, Wrong, Missing}
 
 abbrev pub command_word : Command → List ℕ
 command_word command.Help = codes "--help"
 command_word command.Version = codes "--version"
+command_word command.Draft = codes "draft"
 command_word command.Sum = codes "sum"
 command_word command.Check = codes "check"
 command_word command.Ask = codes "ask"
@@ -54,14 +57,17 @@ option_word Requests = codes "--requests"
 option_word Idle = codes "--idle"
 option_word Number = codes "--number"
 option_word Size = codes "--size"
+option_word Levels = codes "--levels"
+option_word Members = codes "--members"
 
 abbrev pub commands : List Command
-commands = command.Help ∷ command.Version ∷ command.Sum ∷ command.Check ∷ command.Ask ∷ command.Witness ∷ command.Twin ∷ command.Compact ∷ command.Why ∷ command.Audit ∷ command.Advise ∷ command.Serve ∷ command.Replay ∷ command.Demo ∷ []
+commands = command.Help ∷ command.Version ∷ command.Draft ∷ command.Sum ∷ command.Check ∷ command.Ask ∷ command.Witness ∷ command.Twin ∷ command.Compact ∷ command.Why ∷ command.Audit ∷ command.Advise ∷ command.Serve ∷ command.Replay ∷ command.Demo ∷ []
 
 -- the options that a command needs, in the order in which a missing one is named
 abbrev pub needed : Command → List Setting
 needed command.Help = []
 needed command.Version = []
+needed command.Draft = Facts ∷ []
 needed command.Sum = Facts ∷ []
 needed command.Check = Dims ∷ Facts ∷ Policy ∷ []
 needed command.Ask = Dims ∷ Facts ∷ Policy ∷ Journal ∷ []
@@ -81,6 +87,7 @@ needed command.Demo = Number ∷ Size ∷ []
 abbrev pub allowed : Command → List Setting
 allowed command.Help = []
 allowed command.Version = []
+allowed command.Draft = Facts ∷ []
 allowed command.Sum = Facts ∷ []
 allowed command.Check = Dims ∷ Facts ∷ Policy ∷ []
 allowed command.Ask = Dims ∷ Facts ∷ Policy ∷ Journal ∷ Requests ∷ []
@@ -198,12 +205,17 @@ idle words = stated_by USUAL_IDLE (value_behind (option_word Idle) words)
 abbrev pub making_of : List (List ℕ) → Making
 making_of words = record { number = digits_value 10 (value_of Number words); size = digits_value 10 (value_of Size words) }
 
+-- the draft of a fact file of whose columns nothing is stated
+abbrev pub plain_drafting : List (List ℕ) → DraftOrders
+plain_drafting words = record { facts = value_of Facts words; policy = false; choices = record { dimensions = []; members = [] } }
+
 -- ---- the orders
 
 -- the orders of a command by the words behind it, of which none is wrong and none is missing
 abbrev pub orders_with : Command → List (List ℕ) → Orders
-orders_with command.Help words = orders.Help
+orders_with command.Help words = orders.Help None
 orders_with command.Version words = orders.Version
+orders_with command.Draft words = orders.Draft (plain_drafting words)
 orders_with command.Sum words = orders.Sum (value_of Facts words)
 orders_with command.Check words = orders.Check (files_of words)
 orders_with command.Ask words = orders.Ask (files_of words) (value_of Journal words) (stated USUAL_REQUESTS words)
@@ -230,12 +242,25 @@ unless_wrong c words (Some n) = Err (Wrong n)
 abbrev pub with_rules : List (List ℕ) → Command → Result Orders Usage
 with_rules words c = unless_wrong c words (first_wrong c [] words)
 
+abbrev pub is_draft : Command → Bool
+is_draft command.Draft = true
+is_draft other = false
+
+-- What a command orders with the words behind it. Those of `draft` are read by rules of their own.
+abbrev pub behind_command : List (List ℕ) → Command → Result Orders Usage
+behind_command words c = if is_draft c then drafted words else with_rules words (ruled_as c (begin_with_groups (options_in words)))
+
+-- the first of the words behind a command asks how it is used
+abbrev pub asks_help : List (List ℕ) → Bool
+asks_help [] = false
+asks_help (word ∷ more) = bytes_eq word (codes "--help")
+
 abbrev pub with_command : List (List ℕ) → Option Command → Result Orders Usage
 with_command words None = Err (Wrong 0)
-with_command words (Some c) = with_rules words (ruled_as c (begin_with_groups (options_in words)))
+with_command words (Some c) = if asks_help words then Ok (orders.Help (Some c)) else behind_command words c
 
 -- What the words order, with the values of the options; or what is wrong with them: no word, the first wrong word by its number
--- from 0, or the first option that is missing.
+-- from 0, or the first option that is missing. Behind a command `--help` asks for that one's part of the help.
 abbrev pub orders_of : List (List ℕ) → Result Orders Usage
 orders_of [] = Err NoCommand
 orders_of (word ∷ words) = with_command words (command_of word)
@@ -246,6 +271,20 @@ orders_of (word ∷ words) = with_command words (command_of word)
 abbrev pub out_of : Orders → Option (List ℕ)
 out_of (orders.Compact files journal out) = out
 out_of other = None
+
+-- the files of the cube, where one policy is for all users
+abbrev pub cube_of : Orders → Option CubeFiles
+cube_of (orders.Check files) = Some files
+cube_of (orders.Ask files journal stated) = Some files
+cube_of (orders.Witness files journal cell) = Some files
+cube_of (orders.Twin files journal cell) = Some files
+cube_of (orders.Compact files journal out) = Some files
+cube_of (orders.Why files journal query reason) = Some files
+cube_of (orders.Audit files transcript) = Some files
+cube_of (orders.Advise files journal workload) = Some files
+cube_of (orders.Serve files journal address stated idle) = Some files
+cube_of (orders.Replay files journal script stated) = Some files
+cube_of other = None
 
 -- none of the words behind the command is wrong, and none is missing
 abbrev pub IsRight : Command → List (List ℕ) → Type 0

@@ -5,13 +5,15 @@ ghost use Rattle.cube_model.specs.Cubes.{IsIn};
 ghost use Rattle.cube_words.specs.declared.words.Command.TheVariants as command;
 ghost use Rattle.cube_words.specs.declared.words.Setting.TheVariants as setting;
 ghost use Rattle.cube_words.specs.declared.words.TheConstants.{MAX_REQUESTS, MAX_SIZE};
-ghost use Rattle.cube_words.specs.Words.{option_word, needed as needed_by, value_behind as value_in, value_of, files_of as files_in, grouped_files_of as grouped_files_in, stated as stated_in, idle as idle_in_words, making_of as making_in, orders_with as orders_behind, out_of, IsRight, IsMade, Fits};
+ghost use Rattle.cube_words.specs.Words.{option_word, needed as needed_by, value_behind as value_in, value_of, files_of as files_in, grouped_files_of as grouped_files_in, stated as stated_in, idle as idle_in_words, making_of as making_in, plain_drafting as plain_drafting_in, orders_with as orders_behind, out_of, cube_of, IsRight, IsMade, Fits};
 
+use crate::drafting::Drafting;
 use crate::words::{
     Command, MAX_REQUESTS, Setting, USUAL_IDLE, USUAL_REQUESTS, idle_in, number_in, requests_in,
     size_in, value_behind,
 };
-use cube_model::{NoMemory, Text};
+use cube_draft::Choices;
+use cube_model::{Items, NoMemory, Text};
 use cube_opening::{CubeFiles, RuledFiles, Rules};
 use std::alloc::Global;
 
@@ -27,10 +29,16 @@ pub struct Making {
 /// What the program is asked to do, with the values of its options.
 #[derive(Debug, Drop)]
 pub enum Orders {
-    /// Print how it is used.
-    Help,
+    /// Print how it is used, or how one of its commands is.
+    Help {
+        on: Option<Command>,
+    },
     /// Print its version.
     Version,
+    /// Draft the dimension file or the policy file for a fact file.
+    Draft {
+        drafting: Drafting,
+    },
     /// Answer lines over a flat fact file.
     Sum {
         facts: Text,
@@ -126,6 +134,25 @@ impl Orders {
     {
         match self {
             Orders::Compact { out, .. } => out.as_ref(),
+            _ => None,
+        }
+    }
+
+    /// The names of the cube's files, where one policy is for all users.
+    pub fn cube(&self) -> Option<&CubeFiles>
+        ensures { option_copied result ≡ cube_of self.now }
+    {
+        match self {
+            Orders::Check { files }
+            | Orders::Ask { files, .. }
+            | Orders::Witness { files, .. }
+            | Orders::Twin { files, .. }
+            | Orders::Compact { files, .. }
+            | Orders::Why { files, .. }
+            | Orders::Audit { files, .. }
+            | Orders::Advise { files, .. }
+            | Orders::Serve { files, .. }
+            | Orders::Replay { files, .. } => Some(files),
             _ => None,
         }
     }
@@ -428,6 +455,21 @@ fn replay_groups_with(alloc: Global, words: &[Text]) -> Result<Orders, NoMemory>
     })
 }
 
+// The draft of a fact file of whose columns nothing is stated.
+fn plain_drafting(alloc: Global, words: &[Text]) -> Result<Drafting, NoMemory>
+    requires { IsRight command.Draft words.now }
+    ensures { IfOk result (λ drafting. drafting ≡ plain_drafting_in words.now) }
+{
+    Ok(Drafting {
+        facts: needed_text(alloc, words, Command::Draft, Setting::Facts)?,
+        policy: false,
+        choices: Choices {
+            dimensions: Items::new(alloc),
+            members: Items::new(alloc),
+        },
+    })
+}
+
 /// The orders of a command by the words behind it, with which nothing is wrong.
 pub fn orders_with(alloc: Global, command: Command, words: &[Text]) -> Result<Orders, NoMemory>
     requires { IsRight command words.now }
@@ -435,8 +477,11 @@ pub fn orders_with(alloc: Global, command: Command, words: &[Text]) -> Result<Or
     ensures fits { IfOk result Fits }
 {
     match command {
-        Command::Help => Ok(Orders::Help),
+        Command::Help => Ok(Orders::Help { on: None }),
         Command::Version => Ok(Orders::Version),
+        Command::Draft => Ok(Orders::Draft {
+            drafting: plain_drafting(alloc, words)?,
+        }),
         Command::Sum => Ok(Orders::Sum {
             facts: needed_text(alloc, words, command, Setting::Facts)?,
         }),

@@ -4,8 +4,9 @@ ghost use Rattle.std.specs.Char.{is_ascii_digit};
 ghost use Rattle.std.specs.List.{list_all};
 ghost use Rattle.std.specs.Str.{bytes_eq};
 ghost use Rattle.std.specs.Str.Parse.{digits_value};
-ghost use Rattle.cube_words.specs.Words.{command_word, option_word, needed as needed_by, allowed as allowed_by, is_requests, is_idle, is_number, is_size, is_wrong_value as is_wrong, command_of as command_in, is_option as is_option_of, stands_in, options_in, begin_with_groups, ruled_as, first_wrong as first_wrong_behind, with_rules, orders_of as orders_in, value_behind as value_in, Fits};
+ghost use Rattle.cube_words.specs.Words.{command_word, option_word, needed as needed_by, allowed as allowed_by, is_requests, is_idle, is_number, is_size, is_wrong_value as is_wrong, command_of as command_in, is_option as is_option_of, stands_in, options_in, begin_with_groups, ruled_as, first_wrong as first_wrong_behind, with_rules, asks_help as asks_for_help, is_draft as is_draft_of, with_command, orders_of as orders_in, value_behind as value_in, Fits};
 
+use crate::drafting::drafting_of;
 use crate::ordered::{Orders, orders_with};
 use cube_model::{NoMemory, Text};
 use cube_text::read_digits;
@@ -18,6 +19,8 @@ pub enum Command {
     Help,
     /// Print its version.
     Version,
+    /// Draft the files of a cube for a fact file.
+    Draft,
     /// Answer lines over a flat fact file.
     Sum,
     /// Say what the files of a cube hold.
@@ -85,6 +88,10 @@ pub enum Setting {
     Number,
     /// The size that it is made of.
     Size,
+    /// A dimension that is drafted, and its columns.
+    Levels,
+    /// A column whose numbers are members.
+    Members,
 }
 
 /// What is wrong with the words.
@@ -98,9 +105,10 @@ pub enum Usage {
     Missing(Setting),
 }
 
-const COMMANDS: [Command; 14] = [
+const COMMANDS: [Command; 15] = [
     Command::Help,
     Command::Version,
+    Command::Draft,
     Command::Sum,
     Command::Check,
     Command::Ask,
@@ -143,6 +151,7 @@ impl Command {
         match self {
             Command::Help => b"--help",
             Command::Version => b"--version",
+            Command::Draft => b"draft",
             Command::Sum => b"sum",
             Command::Check => b"check",
             Command::Ask => b"ask",
@@ -164,7 +173,7 @@ impl Command {
         match self {
             Command::Help => &[],
             Command::Version => &[],
-            Command::Sum => &[Setting::Facts],
+            Command::Draft | Command::Sum => &[Setting::Facts],
             Command::Check | Command::Advise => {
                 &[Setting::Dims, Setting::Facts, Setting::Policy]
             }
@@ -232,7 +241,7 @@ impl Command {
         match self {
             Command::Help => &[],
             Command::Version => &[],
-            Command::Sum => &[Setting::Facts],
+            Command::Draft | Command::Sum => &[Setting::Facts],
             Command::Check => &[Setting::Dims, Setting::Facts, Setting::Policy],
             Command::Ask => &[
                 Setting::Dims,
@@ -338,6 +347,8 @@ impl Setting {
             Setting::Idle => b"--idle",
             Setting::Number => b"--number",
             Setting::Size => b"--size",
+            Setting::Levels => b"--levels",
+            Setting::Members => b"--members",
         }
     }
 }
@@ -505,6 +516,23 @@ fn first_lacking(settings: &[Setting], words: &[Text]) -> Option<Setting>
         .find(|setting| is_lacking(*setting, words))
 }
 
+// Whether the words behind a command are read by the rules of `draft`.
+fn is_draft(command: Command) -> bool
+    ensures { result ≡ is_draft_of command }
+{
+    matches!(command, Command::Draft)
+}
+
+// Whether the first of the words behind a command asks how it is used.
+fn asks_help(words: &[Text]) -> bool
+    ensures { result ≡ asks_for_help words.now }
+{
+    match words {
+        [] => false,
+        [word, ..] => word.as_slice() == Command::Help.word(),
+    }
+}
+
 // What a command orders with these words behind it, or what is wrong with them.
 fn orders_as(
     alloc: Global,
@@ -523,6 +551,24 @@ fn orders_as(
     }
 }
 
+// What a command that was named orders: its help, or what the words behind it say.
+fn orders_behind(
+    alloc: Global,
+    command: Command,
+    words: &[Text],
+) -> Result<Result<Orders, Usage>, NoMemory>
+    ensures orders { IfOk result (λ given. given ≡ with_command words.now (Some command)) }
+    ensures fits { IfOk result (λ given. IfOk given Fits) }
+{
+    if asks_help(words) {
+        return Ok(Ok(Orders::Help { on: Some(command) }));
+    }
+    if is_draft(command) {
+        return drafting_of(alloc, words);
+    }
+    orders_as(alloc, with_groups(command, words), words)
+}
+
 /// What the words order, or what is wrong with them.
 pub fn orders_of(alloc: Global, words: &[Text]) -> Result<Result<Orders, Usage>, NoMemory>
     ensures orders { IfOk result (λ given. given ≡ orders_in words.now) }
@@ -533,7 +579,7 @@ pub fn orders_of(alloc: Global, words: &[Text]) -> Result<Result<Orders, Usage>,
     };
     match command_of(word.as_slice()) {
         None => Ok(Err(Usage::Wrong(0))),
-        Some(command) => orders_as(alloc, with_groups(command, more), more),
+        Some(command) => orders_behind(alloc, command, more),
     }
 }
 

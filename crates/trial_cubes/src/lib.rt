@@ -1,11 +1,9 @@
 //! Trials of small cubes that are known by heart: their cuboids and rows, what is protected of them and what cuts it, links and their colouring,
-//! roll-ups, answers, shapes, witnesses.
+//! roll-ups.
 //!
 //! There is nothing here but tests, each of something that no clause of the crates below says, and what they share.
 #![tactic(auto)]
 
-#[cfg(test)]
-mod answers;
 #[cfg(test)]
 mod colourings;
 #[cfg(test)]
@@ -19,8 +17,4 @@ mod rollups;
 #[cfg(test)]
 mod rows;
 #[cfg(test)]
-mod shapes;
-#[cfg(test)]
 mod sources;
-#[cfg(test)]
-mod witnesses;

@@ -1,19 +1,14 @@
-//! Trials of cubes that are asked: engines over logs and stores that fail, groups over one store and on one wire, what is recovered from logs, and the
-//! demonstration of a made cube.
+//! Trials of cubes that are asked: engines over logs and stores that fail, and groups over one store and on one wire.
 //!
 //! There is nothing here but tests, each of something that no clause of the crates below says, and what they share.
 #![tactic(auto)]
 
-#[cfg(test)]
-mod demos;
 #[cfg(test)]
 mod engines;
 #[cfg(test)]
 mod groups;
 #[cfg(test)]
 mod images;
-#[cfg(test)]
-mod journals;
 #[cfg(test)]
 mod makers;
 #[cfg(test)]

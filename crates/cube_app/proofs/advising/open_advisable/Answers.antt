@@ -16,10 +16,10 @@ returns-in-Err-open_workload-clause-err g c =
     let old = c.args.files.now in
     let new = c.open_workload.new.files in
     let r = c.in-Err-open_workload.report in
-    inr (record {
+    inr (subst (λ (w : Option (List ℕ)). EndsAtWorkload cube w (seen tells old new) r) (sym c.in-Some.is) (
+    record {
       core = c.in-Ok.opened.value.core;
       policy = c.in-Ok.opened.value.policy;
       files_make = x.ok.1;
-      ends = subst (λ (w : Option (List ℕ)). EndsAtWorkload (names_of cube) w (seen tells old new) r) (sym c.in-Some.is)
-          (ends_behind (names_of cube) workload_said c.in-Some.name tells old c.open_guarded.new.files new r x.behind.asked x.reads.files x.behind.steady c.in-Err-open_workload.ensures.err);
-    })
+      ends = ends_behind (names_of cube) workload_said c.in-Some.name tells old c.open_guarded.new.files new r x.behind.asked x.reads.files x.behind.steady c.in-Err-open_workload.ensures.err;
+    }))

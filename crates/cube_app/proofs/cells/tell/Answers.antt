@@ -2,11 +2,10 @@ use Rattle.std.proofs.Common.{inl, inr, refl, subst}
 use Rattle.cube_engine.specs.Engines.{Engine}
 use Rattle.cube_io.specs.Seen.{seen}
 use Rattle.cube_opening.proofs.Accepted.{all_accepted}
+use Rattle.cube_opening.proofs.Ended.{not_nine, unasked}
 use Rattle.cube_serving.proofs.Started.{opened}
-use Rattle.cube_serving.proofs.Unopened.{not_nine}
 use Rattle.cube_app.specs.Cells.{Tells, KeepsIf, told_text}
 use Rattle.cube_app.proofs.Compacts.{keeps_if}
-use Rattle.cube_app.proofs.Unasked.{unasked}
 use Rattle.cube_app.proofs.cells.tell.Goals as goal
 
 pub returns-clause-answers : goal.returns-clause-answers

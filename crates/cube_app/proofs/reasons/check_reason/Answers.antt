@@ -5,11 +5,10 @@ use Rattle.cube_io.specs.Seen.{seen}
 use Rattle.cube_opening.specs.Opening.{FileSays, names_of}
 use Rattle.cube_opening.proofs.Accepted.{all_accepted}
 use Rattle.cube_opening.proofs.Behind.{asked_then, ends_behind}
+use Rattle.cube_opening.proofs.Ended.{not_nine, unasked}
 use Rattle.cube_serving.proofs.Started.{opened}
-use Rattle.cube_serving.proofs.Unopened.{not_nine}
 use Rattle.cube_app.specs.Reasons.{IsWhetherOf, SaysOne, reason_said}
 use Rattle.cube_app.proofs.Said.{says_by}
-use Rattle.cube_app.proofs.Unasked.{unasked}
 use Rattle.cube_app.proofs.reasons.check_reason.Goals as goal
 
 pub returns-in-Err-clause-answers : goal.returns-in-Err-clause-answers

@@ -9,8 +9,8 @@ use Rattle.cube_talk.specs.Asks.{Talk}
 use Rattle.cube_talk.specs.Crashes.{TalkedOver}
 use Rattle.cube_serving.proofs.Started.{opened, still_open}
 use Rattle.cube_serving.proofs.Sealing.{seal_is_other}
-use Rattle.cube_serving.proofs.Unopened.{not_nine}
 use Rattle.cube_opening.proofs.Accepted.{all_accepted}
+use Rattle.cube_opening.proofs.Ended.{not_nine}
 use Rattle.cube_app.proofs.Lives.{moment_of, survived}
 use Rattle.cube_app.proofs.Worlds.{hides}
 use Rattle.cube_app.proofs.run.ask.Goals as goal

@@ -8,8 +8,8 @@ use Rattle.cube_app.proofs.run.obey.Goals as goal
 
 pub returns-in-Help : goal.returns-in-Help
 returns-in-Help g c =
-    let x = c.print.ensures in
-    obeyed_as c.args.orders orders.Help c.in-Help.is (record {
+    let x = c.print_help.ensures in
+    obeyed_as c.args.orders (orders.Help c.in-Help.on) c.in-Help.is (record {
       does = x.prints;
       leaves = (refl, refl, refl, refl, x.outcomes);
       causes = record {
@@ -27,7 +27,7 @@ returns-in-Help g c =
 
 pub returns-in-Version : goal.returns-in-Version
 returns-in-Version g c =
-    let x = c.print-in-Version.ensures in
+    let x = c.print.ensures in
     obeyed_as c.args.orders orders.Version c.in-Version.is (record {
       does = x.prints;
       leaves = (refl, refl, refl, refl, x.outcomes);
@@ -38,6 +38,25 @@ returns-in-Version g c =
         unkept = λ is. absurd (x.store is);
         steady = λ no. (refl, refl);
         output_steady = x.steady;
+        wire_steady = λ no. refl;
+      };
+      ordered = x.words;
+      others = λ told k far seal. refl;
+    })
+
+pub returns-in-Draft : goal.returns-in-Draft
+returns-in-Draft g c =
+    let x = c.draft.ensures in
+    obeyed_as c.args.orders (orders.Draft c.in-Draft.drafting) c.in-Draft.is (record {
+      does = x.answers;
+      leaves = (refl, refl, refl, x.outcomes);
+      causes = record {
+        unreadable = λ is. inl (x.unreadable is, refl);
+        output = x.output;
+        unheard = λ is. absurd (x.wire is);
+        unkept = λ is. absurd (x.store is);
+        steady = λ no. (x.steady no, refl);
+        output_steady = x.output_steady;
         wire_steady = λ no. refl;
       };
       ordered = x.words;

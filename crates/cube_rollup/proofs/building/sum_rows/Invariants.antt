@@ -1,7 +1,8 @@
 use Rattle.std.specs.List.{sum_by, AllByRecursion}
 use Rattle.std.specs.Vec.Iter.{into_iter_items}
 use Rattle.std.proofs.Common.{◌≡◌, ◌+◌, ◌++◌, [], length, map, get_or}
-use Rattle.cube_rollup.specs.Cuboids.{summed_row, AreRowsOf}
+use Rattle.cube_rollup.specs.Cuboids.{AreRowsOf}
+use Rattle.cube_core.specs.Tallies.{summed_row}
 use Rattle.cube_rollup.proofs.building.sum_rows.Given as goal
 
 abbrev pub invariant-rows : goal.invariant-rows

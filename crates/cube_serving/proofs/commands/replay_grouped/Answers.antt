@@ -6,6 +6,7 @@ use Rattle.cube_io.specs.Wires.{Plan}
 use Rattle.cube_opening.specs.Opening.{FileSays, GotBehind}
 use Rattle.cube_opening.specs.Ruling.{ruled_names}
 use Rattle.cube_opening.proofs.Behind.{asked_then, ends_behind}
+use Rattle.cube_opening.proofs.Ended as ended
 use Rattle.cube_script.specs.Playing.{Playing, has_torn}
 use Rattle.cube_serving.specs.Replaying.{script_said, wire_of, room_for_sends}
 use Rattle.cube_serving.proofs.OpenGroups.{only_sixteen, seal_left, served, unserved}
@@ -263,16 +264,16 @@ pub returns-in-Err-open_script-clause-others : goal.returns-in-Err-open_script-c
 returns-in-Err-open_script-clause-others g c = λ told k far seal. refl
 
 pub returns-in-Err-open_script-clause-unkept : goal.returns-in-Err-open_script-clause-unkept
-returns-in-Err-open_script-clause-unkept g c = λ nine. absurd (unruled.other c.in-Err-open_script.report.status 9 (λ k. omega (arith, k)) (λ k. omega (arith, k)) (λ k. omega (arith, k)) (unruled.one_status script_said c.args.script_name.now (seen g.F.Folder.state c.open_ruled.new.files c.open_script.new.files) c.in-Err-open_script.report c.in-Err-open_script.ensures.err.unopened) nine)
+returns-in-Err-open_script-clause-unkept g c = λ nine. absurd (ended.other c.in-Err-open_script.report.status 9 (λ k. omega (arith, k)) (λ k. omega (arith, k)) (λ k. omega (arith, k)) (ended.one_status script_said c.args.script_name.now (seen g.F.Folder.state c.open_ruled.new.files c.open_script.new.files) c.in-Err-open_script.report c.in-Err-open_script.ensures.err.unopened) nine)
 
 pub returns-in-Err-open_script-clause-calls : goal.returns-in-Err-open_script-clause-calls
-returns-in-Err-open_script-clause-calls g c = λ nine. absurd (unruled.other c.in-Err-open_script.report.status 9 (λ k. omega (arith, k)) (λ k. omega (arith, k)) (λ k. omega (arith, k)) (unruled.one_status script_said c.args.script_name.now (seen g.F.Folder.state c.open_ruled.new.files c.open_script.new.files) c.in-Err-open_script.report c.in-Err-open_script.ensures.err.unopened) nine)
+returns-in-Err-open_script-clause-calls g c = λ nine. absurd (ended.other c.in-Err-open_script.report.status 9 (λ k. omega (arith, k)) (λ k. omega (arith, k)) (λ k. omega (arith, k)) (ended.one_status script_said c.args.script_name.now (seen g.F.Folder.state c.open_ruled.new.files c.open_script.new.files) c.in-Err-open_script.report c.in-Err-open_script.ensures.err.unopened) nine)
 
 pub returns-in-Err-open_script-clause-unreadable : goal.returns-in-Err-open_script-clause-unreadable
 returns-in-Err-open_script-clause-unreadable g c = λ five. subst (λ (n : ℕ). Rose n (g.F.Folder.state c.open_script.new.files).faults) c.in-Ok.ensures.reads.steady (unruled.one_unreadable script_said c.args.script_name.now (seen g.F.Folder.state c.open_ruled.new.files c.open_script.new.files) c.in-Err-open_script.report c.in-Err-open_script.ensures.err.unopened five)
 
 pub returns-in-Err-open_script-clause-output : goal.returns-in-Err-open_script-clause-output
-returns-in-Err-open_script-clause-output g c = λ six. absurd (unruled.other c.in-Err-open_script.report.status 6 (λ k. omega (arith, k)) (λ k. omega (arith, k)) (λ k. omega (arith, k)) (unruled.one_status script_said c.args.script_name.now (seen g.F.Folder.state c.open_ruled.new.files c.open_script.new.files) c.in-Err-open_script.report c.in-Err-open_script.ensures.err.unopened) six)
+returns-in-Err-open_script-clause-output g c = λ six. absurd (ended.other c.in-Err-open_script.report.status 6 (λ k. omega (arith, k)) (λ k. omega (arith, k)) (λ k. omega (arith, k)) (ended.one_status script_said c.args.script_name.now (seen g.F.Folder.state c.open_ruled.new.files c.open_script.new.files) c.in-Err-open_script.report c.in-Err-open_script.ensures.err.unopened) six)
 
 pub returns-in-Err-open_script-clause-output_steady : goal.returns-in-Err-open_script-clause-output_steady
 returns-in-Err-open_script-clause-output_steady g c = λ no. refl
@@ -281,10 +282,10 @@ pub returns-in-Err-open_script-clause-steady : goal.returns-in-Err-open_script-c
 returns-in-Err-open_script-clause-steady g c = λ no. c.in-Err-open_script.ensures.reads.steady_err no ∙ c.in-Ok.ensures.reads.steady
 
 pub returns-in-Err-open_script-clause-memory : goal.returns-in-Err-open_script-clause-memory
-returns-in-Err-open_script-clause-memory g c = λ seven. (unruled.one_unasked script_said c.args.script_name.now (seen g.F.Folder.state c.open_ruled.new.files c.open_script.new.files) c.in-Err-open_script.report c.in-Err-open_script.ensures.err.unopened, refl)
+returns-in-Err-open_script-clause-memory g c = λ seven. (ended.one_unasked script_said c.args.script_name.now (seen g.F.Folder.state c.open_ruled.new.files c.open_script.new.files) c.in-Err-open_script.report c.in-Err-open_script.ensures.err.unopened, refl)
 
 pub returns-in-Err-open_script-clause-wire : goal.returns-in-Err-open_script-clause-wire
-returns-in-Err-open_script-clause-wire g c = λ eight. unruled.other c.in-Err-open_script.report.status 8 (λ k. omega (arith, k)) (λ k. omega (arith, k)) (λ k. omega (arith, k)) (unruled.one_status script_said c.args.script_name.now (seen g.F.Folder.state c.open_ruled.new.files c.open_script.new.files) c.in-Err-open_script.report c.in-Err-open_script.ensures.err.unopened) eight
+returns-in-Err-open_script-clause-wire g c = λ eight. ended.other c.in-Err-open_script.report.status 8 (λ k. omega (arith, k)) (λ k. omega (arith, k)) (λ k. omega (arith, k)) (ended.one_status script_said c.args.script_name.now (seen g.F.Folder.state c.open_ruled.new.files c.open_script.new.files) c.in-Err-open_script.report c.in-Err-open_script.ensures.err.unopened) eight
 
 pub returns-in-Err-open_script-clause-words : goal.returns-in-Err-open_script-clause-words
-returns-in-Err-open_script-clause-words g c = λ two. unruled.other c.in-Err-open_script.report.status 2 (λ k. omega (arith, k)) (λ k. omega (arith, k)) (λ k. omega (arith, k)) (unruled.one_status script_said c.args.script_name.now (seen g.F.Folder.state c.open_ruled.new.files c.open_script.new.files) c.in-Err-open_script.report c.in-Err-open_script.ensures.err.unopened) two
+returns-in-Err-open_script-clause-words g c = λ two. ended.other c.in-Err-open_script.report.status 2 (λ k. omega (arith, k)) (λ k. omega (arith, k)) (λ k. omega (arith, k)) (ended.one_status script_said c.args.script_name.now (seen g.F.Folder.state c.open_ruled.new.files c.open_script.new.files) c.in-Err-open_script.report c.in-Err-open_script.ensures.err.unopened) two

@@ -12,7 +12,7 @@ use Rattle.cube_serving.specs.Serving.{asking}
 use Rattle.cube_serving.specs.Replaying.{script_said, wire_of, room_for_sends}
 use Rattle.cube_serving.proofs.Played.{whole, unfailed, writes, finished, no_wire_failed, ends_none, ends_whole, rose_from, same_room}
 use Rattle.cube_serving.proofs.Started.{opened, still_open}
-use Rattle.cube_serving.proofs.Unopened as unopened
+use Rattle.cube_opening.proofs.Ended as unopened
 use Rattle.cube_serving.proofs.Wired.{served}
 use Rattle.cube_serving.proofs.replaying.replay_cube.Goals as goal
 

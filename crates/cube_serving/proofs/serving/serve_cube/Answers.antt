@@ -7,7 +7,7 @@ use Rattle.cube_opening.proofs.Accepted.{all_accepted}
 use Rattle.cube_serving.specs.Serving.{asking}
 use Rattle.cube_serving.proofs.Listening.{heard_or_failed, not_two, not_five, not_six, not_seven, not_nine, eight_failed, failed_eight, all_served}
 use Rattle.cube_serving.proofs.Started.{opened, still_open}
-use Rattle.cube_serving.proofs.Unopened as unopened
+use Rattle.cube_opening.proofs.Ended as unopened
 use Rattle.cube_serving.proofs.Wired.{served}
 use Rattle.cube_serving.proofs.serving.serve_cube.Goals as goal
 

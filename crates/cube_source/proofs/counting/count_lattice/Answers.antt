@@ -1,57 +1,46 @@
 use Rattle.std.specs.List.{flat_map}
-use Rattle.std.proofs.Common.{List, length, filter, take, ap, ◌∙◌, arith}
+use Rattle.std.proofs.Common.{ℕ, List, length, map, take, ap, ◌∙◌, arith}
 use Rattle.std.proofs.lemmas.List.{take_all, length-append}
-use Rattle.cube_model.specs.declared.policy.Object.{Object}
-use Rattle.cube_model.specs.Protection.{under, each_once}
+use Rattle.cube_model.specs.Dims.{plains}
 use Rattle.cube_source.specs.Blocks.{bare}
-use Rattle.cube_source.specs.Fresh.{is_fresh}
-use Rattle.cube_source.specs.Objects.{of_measure}
-use Rattle.cube_source.proofs.Repeats.{object_more, object_other, placed_taken, placed_at}
+use Rattle.cube_source.specs.Objects.{cells_over}
+use Rattle.cube_source.proofs.Counted.{all_counted, all_cuboids, top_levels, top_count}
+use Rattle.cube_source.proofs.Growing.{flat_more}
+use Rattle.cube_source.proofs.Keys.{below_levels}
 use Rattle.cube_source.proofs.counting.count_lattice.Goals as goal
-use Rattle.cube_source.proofs.counting.count_lattice.Goals.{then-object-measure+in_ok-total, else-object-measure}
 
-pub count_under-requires-clause-earlier : goal.count_under-requires-clause-earlier
-count_under-requires-clause-earlier c = placed_taken c.args.core.now.dims c.args.objects.now c.objects.number c.requires.objects
-
-pub count_under-requires-clause-levels : goal.count_under-requires-clause-levels
-count_under-requires-clause-levels c = (placed_at c.args.core.now.dims c.args.objects.now c.objects.number c.index-objects-number.result c.requires.objects c.objects-test.true c.index-objects-number.is).levels
-
-pub count_under-requires-clause-slice : goal.count_under-requires-clause-slice
-count_under-requires-clause-slice c = (placed_at c.args.core.now.dims c.args.objects.now c.objects.number c.index-objects-number.result c.requires.objects c.objects-test.true c.index-objects-number.is).slice
+pub count_at-requires-clause-levels : goal.count_at-requires-clause-levels
+count_at-requires-clause-levels c = below_levels (plains c.args.core.now.dims) (map (λ d. d.levels) (plains c.args.core.now.dims)) c.as_slice-levels-items.result.now c.levels.levels-index c.levels-item.result (top_levels (plains c.args.core.now.dims)) (c.as_slice-levels-items.ensures ∙ all_cuboids c.args.core.now.dims c.dims-dims.result.now c.in_ok-cuboids.cuboids c.dims-dims.ensures.dims c.in_ok-cuboids.ensures) c.levels-test.true c.levels-item.is
 
 pub overflow_add-total : goal.overflow_add-total
 overflow_add-total c =
-    let bound = c.objects.invariant.small in
+    let few = top_count (plains c.args.core.now.dims) in
+    let cuboids = c.dims-dims.ensures.rules.dims.few_cuboids in
+    let size = ap length (c.as_slice-levels-items.ensures ∙ all_cuboids c.args.core.now.dims c.dims-dims.result.now c.in_ok-cuboids.cuboids c.dims-dims.ensures.dims c.in_ok-cuboids.ensures) in
+    let so_far = c.levels.invariant.small in
     let own = c.in_ok-total.ensures.small in
-    omega (arith, bound, own, c.requires.few, c.objects-test.true)
+    omega (arith, few, cuboids, size, so_far, own, c.levels-test.true)
 
-pub objects-preserved : goal.objects-preserved
-objects-preserved c =
-    let g = bare c.args.core.now in
-    let done = each_once (flat_map (under g) (of_measure c.args.measure (take c.objects.number c.args.objects.now))) in
-    let more = filter (is_fresh g (take c.objects.number c.args.objects.now) c.index-objects-number.result.measure) (under g c.index-objects-number.result) in
-    let so_far = c.objects.invariant.counted in
-    let bound = c.objects.invariant.small in
-    elim c.if-object-measure.branch [
-      | then-object-measure+in_ok-total w ↦ (
-          let next = ap length (object_more g c.args.measure c.args.objects.now c.objects.number c.index-objects-number.result c.objects-test.true c.index-objects-number.is w.if-object-measure.true) ∙ length-append done more in
-          let own = w.in_ok-total.ensures.count in
-          let small = w.in_ok-total.ensures.small in
-          let now = w.total-is in
-          record { counted = omega (arith, next, so_far, own, now); small = omega (arith, bound, small, now) })
-      | else-object-measure w ↦ (
-          let next = ap length (object_other g c.args.measure c.args.objects.now c.objects.number c.index-objects-number.result c.objects-test.true c.index-objects-number.is w.if-object-measure.false) in
-          let now = w.total-is in
-          record { counted = omega (arith, next, so_far, now); small = omega (arith, bound, now) })
-    ]
+pub levels-preserved : goal.levels-preserved
+levels-preserved c =
+    let cells = cells_over (bare c.args.core.now) c.args.objects.now c.args.measure in
+    let done = flat_map cells (take c.levels.levels-index c.as_slice-levels-items.result.now) in
+    let next = ap length (flat_more cells c.as_slice-levels-items.result.now c.levels.levels-index c.levels-item.result c.levels-test.true c.levels-item.is) ∙ length-append done (cells c.levels-item.result) in
+    let so_far = c.levels.invariant.counted in
+    let bound = c.levels.invariant.small in
+    let own = c.in_ok-total.ensures.count in
+    let small = c.in_ok-total.ensures.small in
+    record { counted = omega (arith, next, so_far, own); small = omega (arith, bound, small) }
 
-pub returns-clause-small : goal.returns-clause-small
-returns-clause-small c =
-    let bound = c.objects.invariant.small in
-    let end = c.objects.auto.number-end in
-    omega (arith, bound, end, c.requires.few)
-
-pub returns-clause-count : goal.returns-clause-count
-returns-clause-count c =
-    c.objects.invariant.counted
-    ∙ ap (λ (os : List Object). length (each_once (flat_map (under (bare c.args.core.now)) (of_measure c.args.measure os)))) (take_all c.objects.number c.args.objects.now c.objects-test.false)
+pub returns : goal.returns
+returns c =
+    let few = top_count (plains c.args.core.now.dims) in
+    let cuboids = c.dims-dims.ensures.rules.dims.few_cuboids in
+    let all = c.as_slice-levels-items.ensures ∙ all_cuboids c.args.core.now.dims c.dims-dims.result.now c.in_ok-cuboids.cuboids c.dims-dims.ensures.dims c.in_ok-cuboids.ensures in
+    let size = ap length all in
+    let end = c.levels.auto.levels-index-end in
+    let bound = c.levels.invariant.small in
+    let count = c.levels.invariant.counted
+    ∙ ap (λ (cs : List (List ℕ)). length (flat_map (cells_over (bare c.args.core.now) c.args.objects.now c.args.measure) cs)) (take_all c.levels.levels-index c.as_slice-levels-items.result.now c.levels-test.false ∙ all)
+    ∙ all_counted (bare c.args.core.now) c.args.core.now.dims c.args.objects.now c.args.measure c.requires.objects in
+    record { count = count; small = omega (arith, few, cuboids, size, end, bound) }

@@ -1,12 +1,11 @@
 use Rattle.std.specs.List.{flat_map}
 use Rattle.std.proofs.Common.{◌≡◌, ◌≤◌, ◌*◌, length, take}
-use Rattle.cube_model.specs.Protection.{under, each_once}
 use Rattle.cube_source.specs.Blocks.{bare}
-use Rattle.cube_source.specs.Objects.{of_measure}
+use Rattle.cube_source.specs.Objects.{cells_over}
 use Rattle.cube_source.proofs.counting.count_lattice.Given as goal
 
-abbrev pub invariant-objects : goal.invariant-objects
-invariant-objects l = record {
-  counted : l.total ≡ length (each_once (flat_map (under (bare l.core)) (of_measure l.measure (take l.number l.objects))));
-  small : l.total ≤ l.number * 16777216;
+abbrev pub invariant-levels : goal.invariant-levels
+invariant-levels l = record {
+  counted : l.total ≡ length (flat_map (cells_over (bare l.core) l.objects l.measure) (take l.levels-index l.levels-items));
+  small : l.total ≤ l.levels-index * 65536;
 }

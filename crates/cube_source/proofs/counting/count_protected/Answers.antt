@@ -1,5 +1,5 @@
 use Rattle.std.specs.List.{flat_map}
-use Rattle.std.proofs.Common.{◌≡◌, ℕ, List, length, filter, sym, ap, ◌∙◌, subst, arith}
+use Rattle.std.proofs.Common.{◌≡◌, ℕ, List, length, filter, sym, ap, ◌∙◌, subst}
 use Rattle.std.proofs.lemmas.List.{length-map}
 use Rattle.std.proofs.lemmas.Result.{IfOk-weaker}
 use Rattle.cube_model.specs.declared.policy.Method.TheVariants.{Plain}
@@ -13,14 +13,8 @@ use Rattle.cube_source.proofs.Among.{of_method, lattice_all, parity_all}
 use Rattle.cube_source.proofs.Uncut.{placed}
 use Rattle.cube_source.proofs.counting.count_protected.Goals as goal
 
-pub count_lattice-requires-clause-objects : goal.count_lattice-requires-clause-objects
-count_lattice-requires-clause-objects c = subst (Each (IsPlaced c.args.core.now.dims)) (sym c.as_slice-objects.ensures) (placed c.args.core.now.dims c.args.policy.now c.args.policy.now.objects c.requires.policy.objects)
-
-pub count_lattice-requires-clause-few : goal.count_lattice-requires-clause-few
-count_lattice-requires-clause-few c =
-    let size = ap length c.as_slice-objects.ensures in
-    let few = c.requires.policy.few in
-    omega (arith, size, few)
+pub count_lattice-requires : goal.count_lattice-requires
+count_lattice-requires c = record { objects = subst (Each (IsPlaced c.args.core.now.dims)) (sym c.as_slice-objects.ensures) (placed c.args.core.now.dims c.args.policy.now c.args.policy.now.objects c.requires.policy.objects) }
 
 pub count_parity-requires : goal.count_parity-requires
 count_parity-requires c = record { objects = subst (Each (IsPlaced c.args.core.now.dims)) (sym c.as_slice-objects.ensures) (placed c.args.core.now.dims c.args.policy.now c.args.policy.now.objects c.requires.policy.objects) }

@@ -1,5 +1,5 @@
 use Rattle.std.specs.List.{list_all, list_any}
-use Rattle.std.proofs.Common.{◌&&◌, List, eqb, sym, ap, ◌∙◌, subst, arith}
+use Rattle.std.proofs.Common.{◌&&◌, List, eqb, sym, ap, ◌∙◌, subst}
 use Rattle.cube_model.specs.declared.policy.Object.{Object}
 use Rattle.cube_model.specs.Cubes.{Each, covers, places}
 use Rattle.cube_model.specs.Protection.{is_guarded}

@@ -17,8 +17,8 @@ loop-number-preserved c =
     let long = ap length items in
     let l : i < length s.dimensions = omega (arith, long, c.loop-number-test.true) in
     let at = c.dimension-item.is ∙ ap (λ xs. get_or xs i d) items in
-    let column = c.field_under.ensures ∙ ap (field_in header fields) (dimension_column s i d l at) in
-    let leaf = sym (sym c.in-Some.is ∙ c.find_leaf.ensures ∙ ap (leaf_of d) column) in
+    let column = c.field_under-name.ensures ∙ ap (field_in header fields) (dimension_column s i d l at) in
+    let leaf = sym (sym c.in-Some.is ∙ c.find_recent.ensures ∙ ap (leaf_of d) column) in
     said_more (λ d. leaf_of d (field_in header fields d.column)) Some s.dimensions i d c.loop-number.leaves.items c.push.new.self.items c.in-Some.leaf l at c.loop-number.invariant leaf c.in_ok-push.ensures.items
 
 pub returns : goal.returns

@@ -1,8 +1,12 @@
-use Rattle.std.proofs.Common.{◌≡◌, ℕ, List, ◌++◌, ◌∷◌, [], map, length, cond, ap, ◌∙◌, arith}
+use Rattle.std.proofs.Common.{◌≡◌, ℕ, List, ◌++◌, ◌∷◌, [], map, length, cond, sym, ap, subst, ◌∙◌, arith}
 use Rattle.std.specs.List.{list_any}
 use Rattle.std.specs.Str.{bytes_eq}
-use Rattle.cube_model.proofs.DimsFacts.{number_fits, pushed, closed, names_of_numbers}
+use Rattle.cube_model.specs.Dims.{AreDistinct}
+use Rattle.cube_model.proofs.DimsFacts.{number_fits, pushed, closed, names_of_numbers, distinct_firsts}
 use Rattle.cube_model.proofs.dims.NumberedNames.push.Goals as goal
+
+pub number-requires-clause-once : goal.number-requires-clause-once
+number-requires-clause-once c = subst AreDistinct (sym c.self.invariant.once) (distinct_firsts _)
 
 pub overflow_cast-number : goal.overflow_cast-number
 overflow_cast-number c =

@@ -8,7 +8,8 @@ use Rattle.cube_model.specs.Cores.{Core, IsCore, shown}
 use Rattle.cube_model.specs.Cubes.{are_levels}
 use Rattle.cube_model.specs.Dims.{plains}
 use Rattle.cube_model.specs.Requests.{rows}
-use Rattle.cube_rollup.specs.Cuboids.{Cuboid, StandsFor, AreRowsOf, whole, summed_row, first_of_row}
+use Rattle.cube_rollup.specs.Cuboids.{Cuboid, StandsFor, AreRowsOf, whole, first_of_row}
+use Rattle.cube_core.specs.Tallies.{summed_row}
 use Rattle.cube_rollup.proofs.Cells.{no_policy, few_in_rows, whole_fits, are_rows, stands, few_cells, bounded}
 use Rattle.cube_rollup.proofs.cuboid.Cuboid.build.Goals as goal
 
@@ -41,6 +42,9 @@ sum_rows-requires-clause-rows g c = are_rows c.args.core.now c.args.measure c.ar
 
 pub returns-in_err-cells-clause-steps : goal.returns-in_err-cells-clause-steps
 returns-in_err-cells-clause-steps g c = once c.args.core.now c.in_ok-request.request c.in_ok-rows.rows c.args.steps.now c.sum_rows.new.steps c.in_ok-rows.ensures.rows c.sum_rows.ensures.steps
+
+pub returns-in_err-sums-clause-steps : goal.returns-in_err-sums-clause-steps
+returns-in_err-sums-clause-steps g c = once c.args.core.now c.in_ok-request.request c.in_ok-rows.rows c.args.steps.now c.sum_rows.new.steps c.in_ok-rows.ensures.rows c.sum_rows.ensures.steps
 
 pub from_parts-requires-clause-few : goal.from_parts-requires-clause-few
 from_parts-requires-clause-few g c = few_cells c.args.core.now _ (together c.args.core.now c.args.measure c.args.levels.now c.in_ok-kept.kept c.in_ok-request.request c.in_ok-rows.rows c.as_slice.result.now c.in_ok-cells.cells c.in_ok-points.points c.dims-rules.ensures.rules c.requires.levels c.requires.measure c.in_ok-kept.ensures c.in_ok-request.ensures c.in_ok-rows.ensures.rows c.in_ok-cells.ensures.sums c.as_slice.ensures c.in_ok-points.ensures)

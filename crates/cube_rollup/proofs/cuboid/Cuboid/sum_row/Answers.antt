@@ -2,7 +2,8 @@ use Rattle.std.specs.List.{sum_by}
 use Rattle.std.proofs.Common.{◌≡◌, ◌+◌, ℤ, ◌+ℤ◌, take, get_or, sym, ap, subst, ◌∙◌, arith, w64, to_z, of_z}
 use Rattle.std.proofs.lemmas.Int.{to_z-of_z}
 use Rattle.cube_model.specs.Cores.{IsSumOf}
-use Rattle.cube_rollup.specs.Cuboids.{sums_of, AreBounded}
+use Rattle.cube_rollup.specs.Cuboids.{sums_of}
+use Rattle.cube_core.specs.Tallies.{AreBounded}
 use Rattle.cube_rollup.proofs.Cells.{next}
 use Rattle.cube_rollup.proofs.cuboid.Cuboid.sum_row.Goals as goal
 

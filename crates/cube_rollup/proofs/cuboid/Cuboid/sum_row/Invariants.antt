@@ -2,7 +2,8 @@ use Rattle.std.specs.List.{sum_by}
 use Rattle.std.proofs.Common.{◌≡◌, ◌+◌, take, get_or}
 use Rattle.cube_model.specs.Cores.{IsSumOf}
 use Rattle.cube_model.specs.Requests.{total}
-use Rattle.cube_rollup.specs.Cuboids.{sums_of, AreBounded}
+use Rattle.cube_rollup.specs.Cuboids.{sums_of}
+use Rattle.cube_core.specs.Tallies.{AreBounded}
 use Rattle.cube_rollup.proofs.cuboid.Cuboid.sum_row.Given as goal
 
 abbrev pub invariant-cells : goal.invariant-cells

@@ -2,7 +2,8 @@ use Rattle.std.specs.List.{sum_by, AllByRecursion}
 use Rattle.std.specs.Vec.Iter.{into_iter_items}
 use Rattle.std.proofs.Common.{◌≡◌, ◌+◌, ◌++◌, length, map}
 use Rattle.cube_core.specs.Rows.{ArePlaces}
-use Rattle.cube_rollup.specs.Cuboids.{sums_of, summed_row}
+use Rattle.cube_rollup.specs.Cuboids.{sums_of}
+use Rattle.cube_core.specs.Tallies.{summed_row}
 use Rattle.cube_rollup.proofs.cuboid.Cuboid.sum_rows.Given as goal
 
 abbrev pub invariant-rows : goal.invariant-rows

@@ -1,0 +1,37 @@
+-- All that `draft` does.
+use Rattle.std.specs.Prelude.{◌≡◌, ◌≢◌, ◌⊎◌, ℕ, List, [], ◌∷◌, Some, codes, if◌then◌else◌, IfSome}
+use Rattle.cube_io.specs.Files.{file_of}
+use Rattle.cube_io.specs.Seen.{FolderState, SinkState, Seen, Unused}
+use Rattle.cube_draft.specs.Drafts.{IsDraft}
+use Rattle.cube_draft.specs.Words.{fault_words}
+use Rattle.cube_draft.specs.declared.fault.DraftFault.{DraftFault}
+use Rattle.cube_draft.specs.declared.fault.DraftFault.TheVariants.{NoMemory}
+use Rattle.cube_draft.specs.declared.whole.Draft.{Draft}
+use Rattle.cube_opening.specs.Opening.{fault_text, Unread, AskedUpTo, GotBehind}
+use Rattle.cube_opening.specs.Reports.{IsReport, NoRoom, Prints}
+use Rattle.cube_opening.specs.declared.report.Report.{Report}
+use Rattle.cube_words.specs.declared.drafting.Drafting.{Drafting}
+
+-- the text of a draft that is asked for
+abbrev pub text_in : Drafting → Draft → List ℕ
+text_in drafting draft = if drafting.policy then draft.policy else draft.dims
+
+-- The fact file has these bytes, and one of the files that were drafted for it was printed: the dimension file is read without a fault, the
+-- very fact file is accepted under it, and so is the policy file.
+pub record Drafted {O : Type 0} (drafting : Drafting) (files : FolderState) (out : Seen SinkState O) (r : Report) : Type 0 where
+  pub bytes : List ℕ
+  pub draft : Draft
+  pub file : IfSome files.files (λ known. file_of known drafting.facts ≡ Some bytes)
+  pub is_draft : IsDraft bytes draft.dims draft.policy
+  pub printed : Prints (text_in drafting draft) out r
+
+-- nothing can be drafted, for a reason that is told, or memory ran out
+abbrev pub Undrafted : Report → Type 0
+Undrafted r = NoRoom r ⊎ IsReport 7 (codes "no memory\n") r ⊎ ((fault : DraftFault) × (fault ≢ NoMemory) × IsReport 3 (fault_text (codes "draft") (fault_words fault)) r)
+
+-- A run of `draft` ends at the fact file, or nothing can be drafted for it, or it prints what it drafted.
+abbrev pub DraftRun : {F O : Type 0} → Drafting → Seen FolderState F → Seen SinkState O → Report → Type 0
+DraftRun drafting files out r =
+    (Unread (codes "facts") drafting.facts files r × AskedUpTo [] drafting.facts files r × Unused out)
+    ⊎ (Undrafted r × GotBehind (drafting.facts ∷ []) files × Unused out)
+    ⊎ (Drafted drafting files.before out r × GotBehind (drafting.facts ∷ []) files)

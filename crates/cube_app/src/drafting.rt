@@ -1,0 +1,73 @@
+// `draft`: the dimension file or the policy file for a fact file.
+ghost use Rattle.std.specs.Prelude.{◌≡◌, ◌≢◌, []};
+ghost use Rattle.cube_io.specs.Causes.{Rose};
+ghost use Rattle.cube_io.specs.Seen.{seen};
+ghost use Rattle.cube_opening.specs.Opening.{IsSteady};
+ghost use Rattle.cube_app.specs.Drafting.{DraftRun, Undrafted, text_in};
+
+use crate::run::print;
+use cube_draft::{Draft, DraftFault, draft_files, fault_text};
+use cube_io::{Folder, Sink};
+use cube_model::Text;
+use cube_opening::{Report, Room, no_room, read_bytes, refuse, statuses};
+use cube_words::Drafting;
+use std::alloc::Global;
+
+// The report on a fault of a draft.
+fn refuse_draft(alloc: Global, room: Room, fault: DraftFault) -> Report
+    requires { room ≡ [] }
+    ensures { Undrafted result }
+{
+    match fault {
+        DraftFault::NoMemory => room.with(b"no memory\n").close(alloc, statuses::NO_MEMORY),
+        other => match fault_text(alloc, &other) {
+            Ok(words) => refuse(alloc, b"draft", &words),
+            Err(_) => no_room(alloc),
+        },
+    }
+}
+
+// The text that is asked for.
+fn text_of<'a>(drafting: &Drafting, draft: &'a Draft) -> &'a Text
+    ensures { result.now ≡ text_in drafting.now draft.now }
+{
+    if drafting.policy {
+        &draft.policy
+    } else {
+        &draft.dims
+    }
+}
+
+/// Prints the dimension file or the policy file that is drafted for a fact file.
+pub fn draft<F: Folder, O: Sink>(
+    alloc: Global,
+    room: Room,
+    drafting: &Drafting,
+    files: &mut F,
+    out: &mut O,
+) -> Report
+    requires { room ≡ [] }
+    ensures answers { DraftRun drafting.now (seen F.state files.old files.new) (seen O.state out.old out.new) result }
+    ensures unreadable { result.status ≡ 5 → Rose (F.state files.old).faults (F.state files.new).faults }
+    ensures output { result.status ≡ 6 → Rose (O.state out.old).faults (O.state out.new).faults }
+    ensures steady { result.status ≢ 5 → IsSteady (seen F.state files.old files.new) }
+    ensures output_steady { result.status ≢ 6 → (O.state out.new).faults ≡ (O.state out.old).faults }
+    ensures words { result.status ≢ 2 }
+    ensures wire { result.status ≢ 8 }
+    ensures store { result.status ≢ 9 }
+    ensures outcomes { result.outcomes ≡ [] }
+{
+    let opened = match read_bytes(alloc, room, b"facts", &drafting.facts, files) {
+        Ok(opened) => opened,
+        Err(report) => return report,
+    };
+    match draft_files(alloc, opened.value.as_slice(), &drafting.choices) {
+        Ok(drafted) => print(
+            alloc,
+            opened.room,
+            text_of(drafting, &drafted).as_slice(),
+            out,
+        ),
+        Err(fault) => refuse_draft(alloc, opened.room, fault),
+    }
+}

@@ -1,0 +1,71 @@
+// Notes for a person beside the report of a run: the files are read once more, and nothing of a run rests on them.
+use cube_dims::read_dims;
+use cube_io::Folder;
+use cube_model::{Dims, Text};
+use cube_notes::{note_on_facts, note_on_flat, note_on_policy, note_on_table};
+use cube_opening::{CubeFiles, Report};
+use cube_policy::read_policy;
+use cube_words::Orders;
+use std::alloc::Global;
+
+fn dims_in<F: Folder>(alloc: Global, name: &Text, files: &mut F) -> Option<Dims> {
+    let bytes = files.read_file(alloc, name).ok()?;
+    read_dims(alloc, bytes.as_slice()).ok()
+}
+
+fn table_note<F: Folder>(alloc: Global, name: &Text, files: &mut F) -> Option<Text> {
+    let bytes = files.read_file(alloc, name).ok()?;
+    note_on_table(alloc, name, bytes.as_slice()).ok()
+}
+
+fn facts_note<F: Folder>(alloc: Global, cube: &CubeFiles, files: &mut F) -> Option<Text> {
+    let dims = dims_in(alloc, &cube.dims, files)?;
+    let bytes = files.read_file(alloc, &cube.facts).ok()?;
+    note_on_facts(alloc, &cube.facts, &dims, bytes.as_slice()).ok()
+}
+
+fn flat_note<F: Folder>(alloc: Global, name: &Text, files: &mut F) -> Option<Text> {
+    let bytes = files.read_file(alloc, name).ok()?;
+    note_on_flat(alloc, name, bytes.as_slice()).ok()
+}
+
+fn policy_note<F: Folder>(alloc: Global, cube: &CubeFiles, files: &mut F) -> Option<Text> {
+    let dims = dims_in(alloc, &cube.dims, files)?;
+    let bytes = files.read_file(alloc, &cube.policy).ok()?;
+    let policy = read_policy(alloc, &dims, bytes.as_slice()).ok()?;
+    note_on_policy(alloc, &dims, &policy).ok()
+}
+
+// Of a file of a cube that the report refuses.
+fn refused_note<F: Folder>(
+    alloc: Global,
+    cube: &CubeFiles,
+    text: &[u8],
+    files: &mut F,
+) -> Option<Text> {
+    if text.starts_with(b"dims: not toml") {
+        table_note(alloc, &cube.dims, files)
+    } else if text.starts_with(b"policy: not toml") {
+        table_note(alloc, &cube.policy, files)
+    } else if text.starts_with(b"facts: ") {
+        facts_note(alloc, cube, files)
+    } else {
+        None
+    }
+}
+
+/// What a person may want to know beside the report of a run of these orders, where there is something.
+pub fn note<F: Folder>(
+    alloc: Global,
+    orders: &Orders,
+    report: &Report,
+    files: &mut F,
+) -> Option<Text> {
+    let text = report.text.as_slice();
+    match (orders, report.status) {
+        (Orders::Check { files: cube }, 0) => policy_note(alloc, cube, files),
+        (Orders::Sum { facts }, 3) => flat_note(alloc, facts, files),
+        (_, 3) => refused_note(alloc, orders.cube()?, text, files),
+        _ => None,
+    }
+}

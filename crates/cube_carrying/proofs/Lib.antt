@@ -1,0 +1,4 @@
+pub mod Firsts
+pub mod Found
+pub mod Compared
+pub mod Tables

@@ -1,0 +1,157 @@
+-- The columns of a fact file, record by record, and dimensions made of them.
+use Rattle.std.proofs.Common.{true, ◌≡◌, ◌<◌, ◌≤◌, ℕ, suc, ◌+◌, Bool, false, List, [], ◌∷◌, ◌++◌, length, map, take, get_or, slice_set, refl, sym, ap, ap₂, subst, ◌∙◌, arith, ltb, length-append}
+use Rattle.std.specs.List.{list_all}
+use Rattle.std.proofs.lemmas.List.{take_more, map_more, take_all, get_or-map, get_or_default, map-append, append_assoc, append-nil, get_or-set_same, get_or-set_other}
+use Rattle.std.proofs.lemmas.Bool.{ltb-true, ltb-false}
+use Rattle.cube_model.proofs.Members.{tested}
+use Rattle.cube_facts.specs.Records.{records_of}
+use Rattle.cube_model.specs.Dims.{Dims, NamedDimension, dimension_at}
+use Rattle.cube_draft.specs.Drafts.{field_of, path_of, is_used, IsAmong, IsMade, AreTrue}
+use Rattle.cube_draft.specs.Kept.{Begins, Holds, Scanned, IsMarked, Grows, IsKept, kept_path}
+
+-- ---- lists that are compared item by item
+
+-- one item more is what its place says
+pub compared_more : (f : ℕ → List ℕ) (xs : List (List ℕ)) (places : List ℕ) (i : ℕ) (x : List ℕ) → i < length xs → length xs ≡ length places
+    → take i xs ≡ map f (take i places) → x ≡ get_or xs i x → x ≡ f (get_or places i 0) → take (i + 1) xs ≡ map f (take (i + 1) places)
+compared_more f xs places i x l long so_far at same =
+    take_more xs i x l ∙ ap₂ (λ (ys : List (List ℕ)) (y : List ℕ). ys ++ y ∷ []) so_far (sym at ∙ same) ∙ sym (map_more f places i 0 (omega (arith, l, long)))
+
+-- all of them are
+pub compared_all : (f : ℕ → List ℕ) (xs : List (List ℕ)) (places : List ℕ) (i : ℕ) → length xs ≤ i → length xs ≡ length places
+    → take i xs ≡ map f (take i places) → xs ≡ map f places
+compared_all f xs places i l long so_far = sym (take_all i xs l) ∙ so_far ∙ ap (map f) (take_all i places (omega (arith, l, long)))
+
+-- what holds below a number and at it holds below the next
+pub one_more : (P : ℕ → Type 0) (n : ℕ) → ((k : ℕ) → k < n → P k) → P n → (k : ℕ) → k < n + 1 → P k
+one_more P n before here k l =
+    tested (ltb k n) (λ t. before k (ltb-true k n t)) (λ f. let not_less = ltb-false k n f in let same : n ≡ k = omega (arith, l, not_less) in subst P same here)
+
+-- ---- one record more
+
+-- a record is kept in the columns before a place, and not yet in those behind
+pub record Pushed (members : List Bool) (fields : List (List ℕ)) (old new : List (List (List ℕ))) (place : ℕ) : Type 0 where
+  pub before : (k : ℕ) → k < place → IsMarked members k → get_or new k [] ≡ get_or old k [] ++ field_of k fields ∷ []
+  pub behind : (k : ℕ) → place ≤ k → get_or new k [] ≡ get_or old k []
+
+pub pushed_start : (members : List Bool) (fields : List (List ℕ)) (old : List (List (List ℕ))) → Pushed members fields old old 0
+pushed_start members fields old = record {
+  before = λ k l m. absurd (omega (arith, l));
+  behind = λ k l. refl;
+}
+
+-- a column with members
+pub pushed_marked : (members : List Bool) (fields : List (List ℕ)) (old new more : List (List (List ℕ))) (place : ℕ) (column : List (List ℕ))
+    → Pushed members fields old new place → place < length new → column ≡ get_or new place [] ++ field_of place fields ∷ [] → more ≡ slice_set new place column
+    → Pushed members fields old more (place + 1)
+pushed_marked members fields old new more place column p within grown is = record {
+  before = one_more (λ k. IsMarked members k → get_or more k [] ≡ get_or old k [] ++ field_of k fields ∷ []) place
+      (λ k l m. ap (λ xs. get_or xs k []) is ∙ get_or-set_other new place k column [] (omega (arith, l)) ∙ p.before k l m)
+      (λ m. ap (λ xs. get_or xs place []) is ∙ get_or-set_same new place column [] within ∙ grown ∙ ap (λ xs. xs ++ field_of place fields ∷ []) (p.behind place (omega arith)));
+  behind = λ k l. ap (λ xs. get_or xs k []) is ∙ get_or-set_other new place k column [] (omega (arith, l)) ∙ p.behind k (omega (arith, l));
+}
+
+-- a column of numbers
+pub pushed_unmarked : (members : List Bool) (fields : List (List ℕ)) (old new : List (List (List ℕ))) (place : ℕ)
+    → Pushed members fields old new place → get_or members place false ≡ false → Pushed members fields old new (place + 1)
+pushed_unmarked members fields old new place p is = record {
+  before = one_more (λ k. IsMarked members k → get_or new k [] ≡ get_or old k [] ++ field_of k fields ∷ []) place p.before (λ m. absurd (cc));
+  behind = λ k l. p.behind k (omega (arith, l));
+}
+
+-- ---- all records
+
+-- how the columns stand behind some records
+pub record Passed (bytes : List ℕ) (members : List Bool) (fields : List (List (List ℕ))) (count : ℕ) (left : List (List (List ℕ))) : Type 0 where
+  pub header : List (List ℕ)
+  pub earlier : List (List (List ℕ))
+  pub counted : count ≡ length earlier
+  pub records : records_of bytes ≡ header ∷ (earlier ++ left)
+  pub held : (k : ℕ) → k < length members → IsMarked members k → get_or fields k [] ≡ map (field_of k) earlier
+
+pub passed_start : (bytes : List ℕ) (members : List Bool) (fields : List (List (List ℕ))) (header : List (List ℕ)) (left : List (List (List ℕ)))
+    → records_of bytes ≡ header ∷ left → ((k : ℕ) → get_or fields k [] ≡ []) → Passed bytes members fields 0 left
+passed_start bytes members fields header left is empty = record {
+  header = header;
+  earlier = [];
+  counted = refl;
+  records = is;
+  held = λ k l m. empty k;
+}
+
+pub passed_more : (bytes : List ℕ) (members : List Bool) (fields more : List (List (List ℕ))) (count : ℕ) (left behind : List (List (List ℕ))) (f : List (List ℕ))
+    → Passed bytes members fields count left → left ≡ f ∷ behind → Grows members f fields more → Passed bytes members more (count + 1) behind
+passed_more bytes members fields more count left behind f p next grows = record {
+  header = p.header;
+  earlier = p.earlier ++ f ∷ [];
+  counted = rw (length-append p.earlier (f ∷ [])) (ap (λ (n : ℕ). n + 1) p.counted);
+  records = p.records ∙ ap (λ (rows : List (List (List ℕ))). p.header ∷ (p.earlier ++ rows)) next ∙ ap (λ (rows : List (List (List ℕ))). p.header ∷ rows) (sym (append_assoc p.earlier (f ∷ []) behind));
+  held = λ k l m. grows k l m ∙ ap (λ (xs : List (List ℕ)). xs ++ field_of k f ∷ []) (p.held k l m) ∙ sym (map-append (field_of k) p.earlier (f ∷ []));
+}
+
+pub passed_end : (bytes : List ℕ) (members : List Bool) (fields : List (List (List ℕ))) (count : ℕ) (left : List (List (List ℕ)))
+    → Passed bytes members fields count left → left ≡ [] → Scanned bytes members fields count
+passed_end bytes members fields count left p none = record {
+  header = p.header;
+  holds = record {
+    rows = p.earlier;
+    records = p.records ∙ ap (λ (rows : List (List (List ℕ))). p.header ∷ (p.earlier ++ rows)) none ∙ ap (λ (rows : List (List (List ℕ))). p.header ∷ rows) (append-nil p.earlier);
+    counted = p.counted;
+    held = p.held;
+  };
+}
+
+-- ---- dimensions that are made of columns
+
+-- a path that stands in its place
+pub among : (paths : List (List (List ℕ))) (path is : List (List ℕ)) (leaf : ℕ) → leaf < length paths → path ≡ get_or paths leaf path → path ≡ is → IsAmong paths is
+among paths path is leaf within at same = record { leaf = leaf; within = within; is = sym (at ∙ get_or_default paths leaf path [] within) ∙ same }
+
+module _ (header : List (List ℕ)) (members : List Bool) (fields : List (List (List ℕ))) (rows : List (List (List ℕ)))
+    (held : (k : ℕ) → k < length members → IsMarked members k → get_or fields k [] ≡ map (field_of k) rows) where
+  -- the path of a row that is kept is that of its record
+  same_path : (places : List ℕ) (row : ℕ) → row < length rows → ((k : ℕ) → k < length places → (get_or places k 0 < length members) × IsMarked members (get_or places k 0))
+      → kept_path fields places row ≡ path_of places (get_or rows row [])
+  same_path [] row l marked = refl
+  same_path (p ∷ ps) row l marked =
+      let mark = marked 0 (omega arith) in
+      let first : get_or (get_or fields p []) row [] ≡ field_of p (get_or rows row []) =
+      ap (λ (xs : List (List ℕ)). get_or xs row []) (held p mark.0 mark.1) ∙ get_or-map (field_of p) rows row [] [] l in
+      ap₂ (λ (x : List ℕ) (xs : List (List ℕ)). x ∷ xs) first (same_path ps row l (λ k lk. marked (suc k) (omega (arith, lk))))
+
+  -- what is kept as a dimension is one of the file
+  made : (d : NamedDimension) (many : ℕ) → many ≡ length rows → IsKept header members fields many d → IsMade header rows d
+  made d many counted kept = record {
+    places = kept.places;
+    levels = kept.levels;
+    column = kept.column;
+    paths = λ row l. let among = kept.paths row (omega (arith, l, counted)) in
+        record { leaf = among.leaf; within = among.within; is = among.is ∙ same_path kept.places row l kept.marked };
+  }
+
+-- the dimensions of which each is made of columns that are kept
+pub true_of : (s : Dims) (bytes : List ℕ) (header : List (List ℕ)) (members : List Bool) (fields : List (List (List ℕ))) (many n : ℕ)
+    → Holds bytes header members fields many → list_all (is_used s) header ≡ true → length s.dimensions ≤ n → ((k : ℕ) → k < n → IsKept header members fields many (dimension_at s k)) → AreTrue bytes s
+true_of s bytes header members fields many n holds used long kept = record {
+  header = header;
+  rows = holds.rows;
+  records = holds.records;
+  used = used;
+  each = λ i l. made header members fields holds.rows holds.held (dimension_at s i) many holds.counted (kept i (omega (arith, l, long)));
+}
+
+-- the header is the one that a file begins with
+pub same_header : (bytes : List ℕ) (h header : List (List ℕ)) (more rows : List (List (List ℕ))) → records_of bytes ≡ h ∷ more → records_of bytes ≡ header ∷ rows → records_of bytes ≡ header ∷ more
+same_header bytes h header more rows a b =
+    let same : h ∷ more ≡ header ∷ rows = sym a ∙ b in
+    let head : h ≡ header = cc in
+    a ∙ ap (λ (x : List (List ℕ)). x ∷ more) head
+
+-- what a scan holds, under the header that was read
+pub under_header : (bytes : List ℕ) (header : List (List ℕ)) (members : List Bool) (fields : List (List (List ℕ))) (many : ℕ) → Begins bytes header → Scanned bytes members fields many → Holds bytes header members fields many
+under_header bytes header members fields many b s = record {
+  rows = s.holds.rows;
+  records = same_header bytes s.header header s.holds.rows b.rows s.holds.records b.records;
+  counted = s.holds.counted;
+  held = s.holds.held;
+}

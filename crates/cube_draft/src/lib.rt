@@ -1,0 +1,17 @@
+//! A draft of the dimension file and of the policy file that fit a fact file.
+#![tactic(auto)]
+
+mod accept;
+mod check;
+mod choices;
+mod columns;
+mod fault;
+mod hierarchy;
+mod plan;
+mod table;
+mod text;
+mod whole;
+
+pub use choices::{Choices, Stated};
+pub use fault::{DraftFault, fault_text};
+pub use whole::{Draft, draft_files};

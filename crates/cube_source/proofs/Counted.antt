@@ -1,0 +1,227 @@
+-- The cells that objects protect, cuboid by cuboid.
+use Rattle.std.specs.List.{list_any, flat_map}
+use Rattle.std.proofs.Common.{◌≡◌, ℕ, zero, suc, ◌+◌, ◌<◌, ◌≤◌, ◌⊎◌, inl, inr, Bool, true, false, cond, ◌&&◌, ◌||◌, List, [], ◌∷◌, length, map, filter, take, get_or, refl, sym, ap, ap₂, ◌∙◌, subst, arith, eqb, leb, ⊎_elim}
+use Rattle.std.proofs.lemmas.Bool.{false≢true, and_parts, and_from, le-leb}
+use Rattle.std.proofs.lemmas.List.{length-map, get_or-map}
+use Rattle.std.proofs.lemmas.List.Folds.{list_any_more}
+use Rattle.cube_model.specs.declared.answer.Row.{Row}
+use Rattle.cube_model.specs.declared.cell.Cell.{Cell}
+use Rattle.cube_model.specs.declared.policy.Object.{Object}
+use Rattle.cube_model.specs.Cubes.{Dimension, Public, same, in_order, are_levels, cuboid_count, Each, key_at, covers, places, is_finer, cuboids_below, count_from, IsIn}
+use Rattle.cube_model.specs.Dims.{Dims, plains}
+use Rattle.cube_model.specs.Meanings.{IsDistinct}
+use Rattle.cube_model.specs.Protection.{in_slice, touched, under, each_once}
+use Rattle.cube_model.specs.Requests.{row_at, rows}
+use Rattle.cube_model.proofs.Finer.{is_finer_trans}
+use Rattle.cube_model.proofs.Leasts.{once}
+use Rattle.cube_model.proofs.Members.{IsIn-filter, filter_has, IsIn-map, map_has, IsIn-flat_map, flat_map_has, IsIn-in_order, same_eq, same_refl}
+use Rattle.cube_model.proofs.Objects.{below_finer, finer_below, touched_is, touched_has, each_once_has}
+use Rattle.cube_model.proofs.Orders.{place_of, in_order_has}
+use Rattle.cube_model.proofs.Sources.{place_below, IsIn-each_once}
+use Rattle.cube_model.proofs.Walks.{any_from, any_has, any_alike}
+use Rattle.cube_source.specs.Blocks.{whole, row_cell, AreFlags}
+use Rattle.cube_source.specs.Objects.{of_measure, IsPlaced, is_sliced, slice_of, stands_over, cells_over}
+use Rattle.cube_source.proofs.Cuts.{cell, row_covers, keys_whole, any_filter}
+use Rattle.cube_source.proofs.Growing.{filter_fewer}
+use Rattle.cube_source.proofs.Once.{AreApart, apart_cells}
+use Rattle.cube_source.proofs.Ordered.{kept_keys}
+use Rattle.cube_source.proofs.Repeats.{length-in_order, filter_kept, few_below}
+use Rattle.cube_model.proofs.Sums.{length-count_from}
+
+-- ---- flags
+
+index_from : (f : ℕ → Bool) (s n k : ℕ) → k < n → get_or (map f (count_from s n)) k false ≡ f (s + k)
+index_from f s zero k h = absurd (omega (arith, h))
+index_from f s (suc n) zero h = ap f (omega arith)
+index_from f s (suc n) (suc k) h = index_from f (suc s) n k (omega (arith, h)) ∙ ap f (omega arith)
+
+pub flag_at : (f : ℕ → Bool) (n k : ℕ) → k < n → get_or (map f (count_from 0 n)) k false ≡ f k
+flag_at f n k l = index_from f 0 n k l ∙ ap f (omega arith)
+
+pub slice_long : (g : Public) (m : ℕ) (o : Object) → length (slice_of g m o) ≡ length g.shape.points
+slice_long g m o = length-map (places g) (is_sliced g m o) ∙ length-count_from 0 (length g.shape.points)
+
+-- the flags of an object at its place
+pub slice_here : (g : Public) (m : ℕ) (os : List Object) (slices : List (List Bool)) (i : ℕ) (o : Object) (slice : List Bool) → slices ≡ map (slice_of g m) os → i < length os → o ≡ get_or os i o → slice ≡ get_or slices i slice → slice ≡ slice_of g m o
+slice_here g m os slices i o slice all l is here =
+    here ∙ ap (λ (xs : List (List Bool)). get_or xs i slice) all ∙ get_or-map (slice_of g m) os i o slice l ∙ ap (slice_of g m) (sym is)
+
+-- no object, no flag
+pub over_none : (g : Public) (m : ℕ) (c : List ℕ) (many : ℕ) (flags : List Bool) → length flags ≡ many → ((k : ℕ) → k < many → get_or flags k false ≡ false) → AreFlags many (stands_over g [] m c) flags
+over_none g m c many flags size h = record { long = size; at = h }
+
+-- one object more
+pub over_more : (g : Public) (m : ℕ) (c : List ℕ) (os : List Object) (i : ℕ) (o : Object) (slice old new : List Bool) → i < length os → o ≡ get_or os i o → slice ≡ slice_of g m o
+    → length new ≡ length old → ((k : ℕ) → k < length old → get_or new k false ≡ (get_or old k false || (is_finer c o.levels && get_or slice k false)))
+    → AreFlags (length g.shape.points) (stands_over g (take i os) m c) old → AreFlags (length g.shape.points) (stands_over g (take (i + 1) os) m c) new
+over_more g m c os i o slice old new l is own size added f = record {
+  long = size ∙ f.long;
+  at = λ k b. (
+      let whole = f.long in
+      added k (omega (arith, b, whole))
+      ∙ ap₂ (λ (x y : Bool). x || (is_finer c o.levels && y)) (f.at k b) (ap (λ (xs : List Bool). get_or xs k false) own ∙ flag_at (is_sliced g m o) (length g.shape.points) k b)
+      ∙ sym (list_any_more (λ (x : Object). is_finer c x.levels && is_sliced g m x k) os i o l
+      ∙ ap (λ (x : Object). stands_over g (take i os) m c k || (is_finer c x.levels && is_sliced g m x k)) (sym is)));
+}
+
+-- ---- the cells of one cuboid
+
+filter_true : {X : Type 0} (xs : List X) → filter (λ x. true) xs ≡ xs
+filter_true [] = refl
+filter_true (x ∷ xs) = ap (λ ys. x ∷ ys) (filter_true xs)
+
+-- a row has a flagged place where its cell covers a place that passes
+row_flagged : (g : Public) (test : ℕ → Bool) (flags : List Bool) (c key : List ℕ) → AreFlags (length g.shape.points) test flags
+    → list_any (λ i. get_or flags i false) (row_at g (whole c) key).places ≡ (list_any (λ i. test i && same (key_at g c i) key) (places g) && true)
+row_flagged g test flags c key f =
+    ap (list_any (λ i. get_or flags i false)) (row_covers g c key)
+    ∙ any_alike (λ i. get_or flags i false) test (filter (covers g (cell c key)) (places g)) (λ i m. f.at i (place_below g i (IsIn-filter (covers g (cell c key)) i (places g) m).1))
+    ∙ any_filter test (covers g (cell c key)) (places g)
+    ∙ and_true (list_any (λ i. test i && same (key_at g c i) key) (places g))
+  where
+    and_true : (b : Bool) → b ≡ (b && true)
+    and_true true = refl
+    and_true false = refl
+
+pub cells_counted : (g : Public) (os : List Object) (m : ℕ) (c : List ℕ) (flags : List Bool) → AreFlags (length g.shape.points) (stands_over g os m c) flags
+    → length (filter (λ (row : Row). list_any (λ i. get_or flags i false) row.places) (rows g (whole c))) ≡ length (cells_over g os m c)
+cells_counted g os m c flags f =
+    let test = λ (row : Row). list_any (λ i. get_or flags i false) row.places in
+    let keep = λ (k : List ℕ). list_any (λ i. stands_over g os m c i && same (key_at g c i) k) (places g) in
+    sym (length-map (filter test (rows g (whole c))) (row_cell c))
+    ∙ ap length (ap (λ (ks : List (List ℕ)). map (row_cell c) (filter test (map (row_at g (whole c)) ks))) (keys_whole g c)
+    ∙ filter_kept (row_at g (whole c)) c test keep (λ t. true) (in_order (map (key_at g c) (places g))) (λ k. refl) (λ k. row_flagged g (stands_over g os m c) flags c k f)
+    ∙ filter_true (map (cell c) (filter keep (in_order (map (key_at g c) (places g)))))
+    ∙ ap (map (cell c)) (sym (kept_keys (key_at g c) (stands_over g os m c) (places g))))
+
+-- where no object of the measure stands at or above a cuboid, none of its cells is protected
+pub none_over : (g : Public) (os : List Object) (m : ℕ) (c : List ℕ) → list_any (λ (o : Object). eqb o.measure m && is_finer c o.levels) os ≡ false → (i : ℕ) → stands_over g os m c i ≡ false
+none_over g [] m c e i = refl
+none_over g (o ∷ os) m c e i = go (eqb o.measure m) (is_finer c o.levels) (in_slice g o i) e (none_over g os m c)
+  where
+    go : (a b s : Bool) → ((a && b) || list_any (λ (o : Object). eqb o.measure m && is_finer c o.levels) os) ≡ false → (list_any (λ (o : Object). eqb o.measure m && is_finer c o.levels) os ≡ false → (i : ℕ) → stands_over g os m c i ≡ false)
+        → ((b && (a && s)) || stands_over g os m c i) ≡ false
+    go true true s q r = absurd (cc)
+    go true false s q r = r q i
+    go false true s q r = r q i
+    go false false s q r = r q i
+
+filter_none : {X : Type 0} (p : X → Bool) (xs : List X) → ((x : X) → p x ≡ false) → filter p xs ≡ []
+filter_none p [] h = refl
+filter_none p (x ∷ xs) h = ap₂ (λ (b : Bool) (ys : List _). cond b (x ∷ ys) ys) (h x) (filter_none p xs h)
+
+pub no_cells : (g : Public) (os : List Object) (m : ℕ) (c : List ℕ) → list_any (λ (o : Object). eqb o.measure m && is_finer c o.levels) os ≡ false → 0 ≡ length (cells_over g os m c)
+no_cells g os m c e = sym (ap (λ (is : List ℕ). length (map (cell c) (in_order (map (key_at g c) is)))) (filter_none (stands_over g os m c) (places g) (none_over g os m c e)))
+
+pub few_cells : (g : Public) (os : List Object) (m : ℕ) (c : List ℕ) → length (cells_over g os m c) ≤ length g.shape.points
+few_cells g os m c =
+    let is = filter (stands_over g os m c) (places g) in
+    let b = length-map (in_order (map (key_at g c) (filter (stands_over g os m c) (places g)))) (cell c) in
+    let d = length-in_order (map (key_at g c) (filter (stands_over g os m c) (places g))) in
+    let e = length-map (filter (stands_over g os m c) (places g)) (key_at g c) in
+    let f = filter_fewer (stands_over g os m c) (places g) in
+    let h = length-count_from 0 (length g.shape.points) in
+    omega (arith, b, d, e, f, h)
+
+-- ---- which cells these are
+
+pub over_is : (g : Public) (os : List Object) (m : ℕ) (c : List ℕ) (t : Cell) → IsIn t (cells_over g os m c) → (c ≡ t.levels) × ((i : ℕ) × (i < length g.shape.points) × (stands_over g os m c i ≡ true) × (covers g t i ≡ true))
+over_is g os m c t h =
+    let test = stands_over g os m c in
+    let a = IsIn-map (cell c) t (in_order (map (key_at g c) (filter test (places g)))) h in
+    let b = IsIn-map (key_at g c) a.0 (filter test (places g)) (IsIn-in_order a.0 (map (key_at g c) (filter test (places g))) a.1) in
+    let p = IsIn-filter test b.0 (places g) b.1 in
+    (ap (λ (s : Cell). s.levels) a.2, (b.0, place_below g b.0 p.1, p.0, subst (λ (s : Cell). covers g s b.0 ≡ true) a.2 (ap (λ k. same k a.0) b.2 ∙ same_refl a.0)))
+
+over_has : (g : Public) (os : List Object) (m : ℕ) (t : Cell) (i : ℕ) → i < length g.shape.points → stands_over g os m t.levels i ≡ true → covers g t i ≡ true → IsIn t (cells_over g os m t.levels)
+over_has g os m t i l s e =
+    let test = stands_over g os m t.levels in
+    map_has (cell t.levels) t.key (in_order (map (key_at g t.levels) (filter test (places g))))
+    (in_order_has t.key (map (key_at g t.levels) (filter test (places g)))
+    (subst (λ k. IsIn k (map (key_at g t.levels) (filter test (places g)))) (same_eq (key_at g t.levels i) t.key e)
+    (map_has (key_at g t.levels) i (filter test (places g)) (filter_has test i (places g) s (place_of g i l)))))
+
+pub each_in : {X : Type 0} (P : X → Type 0) (xs : List X) (x : X) → Each P xs → IsIn x xs → P x
+each_in P [] x h m = absurd m
+each_in P (y ∷ ys) x h (inl e) = subst P e h.0
+each_in P (y ∷ ys) x h (inr m) = each_in P ys x h.1 m
+
+-- levels are at most the coarsest
+pub under_top : (ds : List Dimension) (ls : List ℕ) → are_levels ds ls ≡ true → is_finer ls (map (λ d. d.levels) ds) ≡ true
+under_top [] [] e = refl
+under_top [] (l ∷ ls) e = absurd (false≢true e)
+under_top (d ∷ ds) [] e = absurd (false≢true e)
+under_top (d ∷ ds) (l ∷ ls) e =
+    let p = and_parts (leb l d.levels) (are_levels ds ls) e in
+    and_from (leb l d.levels) (is_finer ls (map (λ d. d.levels) ds)) p.0 (under_top ds ls p.1)
+
+over_in_under : (g : Public) (os : List Object) (m : ℕ) (tops : List ℕ) (t : Cell) → IsIn t (flat_map (cells_over g os m) (cuboids_below tops)) → IsIn t (flat_map (under g) (of_measure m os))
+over_in_under g os m tops t h =
+    let a = IsIn-flat_map (cells_over g os m) t (cuboids_below tops) h in
+    let b = over_is g os m a.0 t a.2 in
+    let o = any_from (λ (x : Object). is_finer a.0 x.levels && is_sliced g m x b.1.0) os b.1.2 in
+    let p = and_parts (is_finer a.0 o.0.levels) (is_sliced g m o.0 b.1.0) o.2 in
+    let q = and_parts (eqb o.0.measure m) (in_slice g o.0 b.1.0) p.1 in
+    flat_map_has (under g) o.0 t (of_measure m os) (filter_has (λ (x : Object). eqb x.measure m) o.0 os q.0 o.1)
+    (flat_map_has (touched g o.0) t.levels t (cuboids_below o.0.levels) (finer_below o.0.levels t.levels (subst (λ (ls : List ℕ). is_finer ls o.0.levels ≡ true) b.0 p.0))
+    (touched_has g o.0 t b.1.0 b.1.1 q.1 b.1.3))
+
+pub under_in_over : (g : Public) (os : List Object) (m : ℕ) (tops : List ℕ) (t : Cell) → ((o : Object) → IsIn o os → is_finer o.levels tops ≡ true) → IsIn t (flat_map (under g) (of_measure m os)) → IsIn t (flat_map (cells_over g os m) (cuboids_below tops))
+under_in_over g os m tops t top h =
+    let o = IsIn-flat_map (under g) t (of_measure m os) h in
+    let p = IsIn-filter (λ (x : Object). eqb x.measure m) o.0 os o.1 in
+    let c = IsIn-flat_map (touched g o.0) t (cuboids_below o.0.levels) o.2 in
+    let d = touched_is g o.0 c.0 t c.2 in
+    let finer = subst (λ (ls : List ℕ). is_finer ls o.0.levels ≡ true) d.0 (below_finer o.0.levels c.0 c.1) in
+    flat_map_has (cells_over g os m) t.levels t (cuboids_below tops) (finer_below tops t.levels (is_finer_trans t.levels o.0.levels tops finer (top o.0 p.1)))
+    (over_has g os m t d.1.0 d.1.1
+    (any_has (λ (x : Object). is_finer t.levels x.levels && is_sliced g m x d.1.0) o.0 os p.1
+    (and_from (is_finer t.levels o.0.levels) (is_sliced g m o.0 d.1.0) finer (and_from (eqb o.0.measure m) (in_slice g o.0 d.1.0) p.0 d.1.2)))
+    d.1.3)
+
+-- ---- two lists with the same elements, each once
+
+-- the list without one of its elements
+without : {X : Type 0} (x : X) (ys : List X) → IsIn x ys → (zs : List X) × (length ys ≡ suc (length zs)) × ((y : X) → IsIn y ys → (x ≡ y) ⊎ IsIn y zs)
+without x [] m = absurd m
+without x (y ∷ ys) (inl e) = (ys, refl, λ z k. ⊎_elim (λ q. inl (sym e ∙ q)) (λ n. inr n) k)
+without x (y ∷ ys) (inr m) =
+    let r = without x ys m in
+    (y ∷ r.0, ap suc r.1, λ z k. ⊎_elim (λ q. inr (inl q)) (λ n. ⊎_elim (λ q. inl q) (λ j. inr (inr j)) (r.2 z n)) k)
+
+apart_fewer : {X : Type 0} (xs ys : List X) → AreApart xs → ((x : X) → IsIn x xs → IsIn x ys) → length xs ≤ length ys
+apart_fewer [] ys a h = omega arith
+apart_fewer (x ∷ xs) ys a h =
+    let r = without x ys (h x (inl refl)) in
+    let size = r.1 in
+    let rest = apart_fewer xs r.0 a.1 (λ y m. ⊎_elim (λ e. absurd (a.0 (subst (λ z. IsIn z xs) (sym e) m))) (λ n. n) (r.2 y (h y (inr m)))) in
+    omega (arith, size, rest)
+
+apart_once : (ts : List Cell) → IsDistinct ts → AreApart ts
+apart_once [] d = tt
+apart_once (t ∷ ts) d = (d.0, apart_once ts d.1)
+
+-- so many cells objects protect together
+pub all_counted : (g : Public) (s : Dims) (os : List Object) (m : ℕ) → Each (IsPlaced s) os
+    → length (flat_map (cells_over g os m) (cuboids_below (map (λ d. d.levels) (plains s)))) ≡ length (each_once (flat_map (under g) (of_measure m os)))
+all_counted g s os m placed =
+    let tops = map (λ (d : Dimension). d.levels) (plains s) in
+    let own = flat_map (cells_over g os m) (cuboids_below tops) in
+    let all = each_once (flat_map (under g) (of_measure m os)) in
+    let there = apart_fewer own all (apart_cells g (stands_over g os m) tops) (λ t k. each_once_has t (flat_map (under g) (of_measure m os)) (over_in_under g os m tops t k)) in
+    let back = apart_fewer all own (apart_once all (once (flat_map (under g) (of_measure m os))))
+    (λ t k. under_in_over g os m tops t (λ o j. under_top (plains s) o.levels (each_in (IsPlaced s) os o placed j).levels) (IsIn-each_once t (flat_map (under g) (of_measure m os)) k)) in
+    omega (arith, there, back)
+
+-- ---- the coarsest cuboid
+
+pub top_levels : (ds : List Dimension) → are_levels ds (map (λ d. d.levels) ds) ≡ true
+top_levels [] = refl
+top_levels (d ∷ ds) = and_from (leb d.levels d.levels) (are_levels ds (map (λ d. d.levels) ds)) (le-leb d.levels d.levels (omega arith)) (top_levels ds)
+
+pub top_count : (ds : List Dimension) → length (cuboids_below (map (λ d. d.levels) ds)) ≤ cuboid_count ds
+top_count ds = few_below ds (map (λ d. d.levels) ds) (top_levels ds)
+
+-- all cuboids, by the dimensions of a core
+pub all_cuboids : (d e : Dims) (cuboids : List (List ℕ)) → e ≡ d → cuboids ≡ cuboids_below (map (λ x. x.levels) (plains e)) → cuboids ≡ cuboids_below (map (λ x. x.levels) (plains d))
+all_cuboids d e cuboids is all = all ∙ ap (λ (x : Dims). cuboids_below (map (λ y. y.levels) (plains x))) is
