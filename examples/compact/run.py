@@ -13,10 +13,10 @@ import time
 
 sys.path.insert(0, str(pathlib.Path(__file__).resolve().parent.parent))
 
-from servers import CUBE, Wrong, build, check  # noqa: E402
+from cubes import Cube  # noqa: E402
+from servers import Wrong, build, check  # noqa: E402
 from small import GRID, PAY  # noqa: E402
 
-PATIENCE = 120
 MOST = 16_384
 LEAVES = 20_000
 
@@ -30,41 +30,6 @@ LINE = {
 MONTHS = "slice pay by time.month"
 AREAS = "slice pay by region.area"
 REFUSED = "403 102\nsource: the cuboid (region.area, time.month) does not cut the cell (region.city=Lyon, time.month=Feb)\n"
-
-
-class Cube:
-    """The files of a cube in a folder, and journals beside them."""
-
-    def __init__(self, folder, name, files):
-        self.folder = folder / name
-        self.folder.mkdir()
-        for kind, text in files.items():
-            (self.folder / kind).write_text(text)
-        self.digest = self.run("check").splitlines()[-1].removeprefix("digest ")
-
-    def path(self, name):
-        return self.folder / name
-
-    def ends(self, command, *words, given=""):
-        """Runs a command to its end: its status, what it wrote, and its notes and text."""
-        files = [word for kind in ("dims", "facts", "policy") for word in (f"--{kind}", self.path(kind))]
-        done = subprocess.run([CUBE, command, *files, *words], input=given.encode(), capture_output=True, timeout=PATIENCE)
-        return done.returncode, done.stdout.decode(), done.stderr.decode()
-
-    def run(self, command, *words, given=""):
-        status, written, said = self.ends(command, *words, given=given)
-        check(status == 0, f"{command} {words}: status {status}, {said}")
-        return written
-
-    def ask(self, journal, *lines):
-        return self.run("ask", "--journal", self.path(journal), given="".join(f"{line}\n" for line in lines))
-
-    def compact(self, journal):
-        return self.run("compact", "--journal", self.path(journal))
-
-    def text(self, *lines):
-        """The text of a journal of the second version with these lines behind the first."""
-        return "".join(f"{line}\n" for line in (f"cube-journal 2 {self.digest}", *lines))
 
 
 def a_source(folder):

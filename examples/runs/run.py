@@ -100,7 +100,7 @@ def help_is_given_whole_and_by_command():
     room = Room({})
     whole = room.run("--help")
     expect(whole, 0, None, "", "--help")
-    for command in "draft check sum ask serve replay advise why witness twin audit compact demo".split():
+    for command in "draft check sum ask serve replay advise why witness twin audit compact carry demo".split():
         part = room.run([command, "--help", "and", "more"])
         expect(part, 0, None, "", command)
         lines = part.stdout.splitlines(keepends=True)

@@ -1,6 +1,8 @@
 pub mod Worlds
 mod Advised
 mod Compacts
+pub mod Handed
+mod Handing
 pub mod Lives
 pub mod Ordered
 mod Statuses

@@ -30,13 +30,14 @@ use Rattle.cube_words.specs.Help.{help_said}
 use Rattle.cube_words.specs.declared.drafting.Drafting.{Drafting}
 use Rattle.cube_words.specs.declared.ordered.Making.{Making}
 use Rattle.cube_words.specs.declared.ordered.Orders.{Orders}
-use Rattle.cube_words.specs.declared.ordered.Orders.TheVariants.{Help, Version, Draft, Sum, Check, Ask, Witness, Twin, Compact, Why, Audit, Advise, Serve, ServeGroups, Replay, ReplayGroups, Demo}
+use Rattle.cube_words.specs.declared.ordered.Orders.TheVariants.{Help, Version, Draft, Sum, Check, Ask, Witness, Twin, Compact, Carry, Why, Audit, Advise, Serve, ServeGroups, Replay, ReplayGroups, Demo}
 use Rattle.cube_advise.specs.Telling.{first_text, later_text}
 use Rattle.cube_audit.specs.Audits.{audited}
 use Rattle.cube_audit.specs.AuditText.{audited_text}
 use Rattle.cube_app.specs.Advising.{workload_said, EndsUnread, Puts, FirstEnds, LaterEnds}
 use Rattle.cube_app.specs.Auditing.{transcript_said, PrintsAudit, AuditEnds}
 use Rattle.cube_app.specs.Reasons.{reason_said, IsWhyOf, IsWhetherOf, Says, SaysOne, WhyEnds, WhetherEnds}
+use Rattle.cube_app.specs.Carrying.{Handing, Hands, HandsOver, CarryEnds}
 use Rattle.cube_app.specs.Cells.{Tells, TellEnds, told_text}
 use Rattle.cube_app.specs.declared.cells.Telling.{Telling}
 use Rattle.cube_app.specs.declared.cells.Telling.TheVariants as telling
@@ -205,6 +206,20 @@ told : {F S O : Type 0} (what : Telling) (cube : CubeFiles) (name : List ℕ) (f
 told what cube name files store out r (inl e) = closed cube (names_of cube) files store r e.0
 told what cube name files store out r (inr e) = tells (told_text what e.0.core e.0.policy e.0.history name) out r e.0.tells
 
+hands : {O : Type 0} (said : Result (List ℕ) (List ℕ)) (out : Seen SinkState O) (r : Report) → Hands said out r → Known r.status
+hands (Ok text) out r e = prints text out r e
+hands (Err line) out r (inl e, same) = refused e.0
+hands (Err line) out r (inr e, same) = no_memory e.0
+
+hands_over : {O : Type 0} (x : Handing) (out : Seen SinkState O) (r : Report) → HandsOver x out r → Known r.status
+hands_over x out r (inl (said, is, e)) = hands said out r e
+hands_over x out r (inr e) = no_memory e.0.0
+
+carries : {F S O : Type 0} (cube older : CubeFiles) (files : Seen FolderState F) (store : Seen StoreState S) (out : Seen SinkState O) (r : Report) → CarryEnds cube older files store out r → Known r.status
+carries cube older files store out r (inl e) = all_files cube files r e.0
+carries cube older files store out r (inr (inl e)) = closed older (names_of older) (record { before = e.0.between; after = files.after; old = e.0.moment; new = files.new }) store r e.0.ends
+carries cube older files store out r (inr (inr e)) = hands_over e.0.handing out r e.0.hands
+
 says : {O : Type 0} (said : Result (List ℕ) (List ℕ)) (out : Seen SinkState O) (r : Report) → Says said out r → Known r.status
 says (Ok text) out r e = prints text out r e
 says (Err line) out r (inl e, same) = refused e.0
@@ -284,6 +299,7 @@ known (Ask cube name stated) objects r d = asks cube stated objects.files object
 known (Witness cube name text) objects r d = told telling.Changes cube text objects.files objects.store objects.out r d.answers
 known (Twin cube name text) objects r d = told telling.Twin cube text objects.files objects.store objects.out r d.answers
 known (Compact cube name out) objects r d = told telling.Compacted cube [] objects.files objects.store objects.out r d.answers
+known (Carry cube older name) objects r d = carries cube older objects.files objects.store objects.out r d.answers
 known (Why cube name query None) objects r d = whys cube query objects.files objects.store objects.out r d.answers
 known (Why cube name query (Some reason)) objects r d = whethers cube query reason objects.files objects.store objects.out r d.answers
 known (Audit cube transcript) objects r d = audits cube transcript objects.files objects.out r d.answers

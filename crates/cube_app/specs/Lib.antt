@@ -1,5 +1,6 @@
 pub mod Advising
 pub mod Auditing
+pub mod Carrying
 pub mod Cells
 pub mod Drafting
 pub mod Ends

@@ -7,10 +7,11 @@ use Rattle.cube_opening.specs.declared.report.Report.{Report}
 use Rattle.cube_serving.specs.Grouping.{OnlyFirst}
 use Rattle.cube_words.specs.Help.{help_said}
 use Rattle.cube_words.specs.declared.ordered.Orders.{Orders}
-use Rattle.cube_words.specs.declared.ordered.Orders.TheVariants.{Help, Version, Draft, Sum, Check, Ask, Witness, Twin, Compact, Why, Audit, Advise, Serve, ServeGroups, Replay, ReplayGroups, Demo}
+use Rattle.cube_words.specs.declared.ordered.Orders.TheVariants.{Help, Version, Draft, Sum, Check, Ask, Witness, Twin, Compact, Carry, Why, Audit, Advise, Serve, ServeGroups, Replay, ReplayGroups, Demo}
 use Rattle.cube_words.specs.declared.words.Usage.{Usage}
 use Rattle.cube_app.specs.Advising.{AdviseRun}
 use Rattle.cube_app.specs.Auditing.{AuditRun}
+use Rattle.cube_app.specs.Carrying.{CarryRun}
 use Rattle.cube_app.specs.Cells.{TellRun}
 use Rattle.cube_app.specs.declared.cells.Telling.TheVariants as telling
 use Rattle.cube_app.specs.Drafting.{DraftRun}
@@ -32,7 +33,7 @@ pub record Outside (F S I O W : Type 0) : Type 0 where
 -- ---- what each command does
 
 -- What is done where this is ordered: texts about the program are printed, files are drafted for a fact file, the lines of the input are answered by sums or as asks, the files
--- are summed up, a cell or the compacted history is told, connections are served, a script is played, or a made cube is shown.
+-- are summed up, a cell or the compacted history is told, a history is carried over, connections are served, a script is played, or a made cube is shown.
 abbrev pub Does : {F S I O W : Type 0} → Orders → Outside F S I O W → Report → Type 0
 Does (Help on) objects r = Prints (help_said on) objects.out r
 Does Version objects r = Prints version_text objects.out r
@@ -43,6 +44,7 @@ Does (Ask cube journal stated) objects r = AskRun cube journal stated objects.fi
 Does (Witness cube journal cell) objects r = TellRun telling.Changes cube journal cell objects.files objects.store objects.out r
 Does (Twin cube journal cell) objects r = TellRun telling.Twin cube journal cell objects.files objects.store objects.out r
 Does (Compact cube journal out) objects r = TellRun telling.Compacted cube journal [] objects.files objects.store objects.out r
+Does (Carry cube older journal) objects r = CarryRun cube older journal objects.files objects.store objects.out r
 Does (Why cube journal query reason) objects r = ReasonRun cube journal query reason objects.files objects.store objects.out r
 Does (Audit cube transcript) objects r = AuditRun cube transcript objects.files objects.out r
 Does (Advise cube journal workload) objects r = AdviseRun cube journal workload objects.files objects.store objects.out r
@@ -63,6 +65,7 @@ Leaves (Ask cube journal stated) objects r = Unused objects.wire
 Leaves (Witness cube journal cell) objects r = Unused objects.input × Unused objects.wire × (r.outcomes ≡ [])
 Leaves (Twin cube journal cell) objects r = Unused objects.input × Unused objects.wire × (r.outcomes ≡ [])
 Leaves (Compact cube journal out) objects r = Unused objects.input × Unused objects.wire × (r.outcomes ≡ [])
+Leaves (Carry cube older journal) objects r = Unused objects.input × Unused objects.wire × (r.outcomes ≡ [])
 Leaves (Why cube journal query reason) objects r = Unused objects.input × Unused objects.wire × (r.outcomes ≡ [])
 Leaves (Audit cube transcript) objects r = Unused objects.store × Unused objects.input × Unused objects.wire × (r.outcomes ≡ [])
 Leaves (Advise cube journal workload) objects r = Unused objects.input × Unused objects.wire × (r.outcomes ≡ [])

@@ -3,6 +3,7 @@
 
 mod advising;
 mod auditing;
+mod carrying;
 mod cells;
 mod drafting;
 mod making;

@@ -54,6 +54,20 @@ fn refused_note<F: Folder>(
     }
 }
 
+// Of the one of two cubes whose file it is.
+fn either_note<F: Folder>(
+    alloc: Global,
+    cube: &CubeFiles,
+    older: &CubeFiles,
+    text: &[u8],
+    files: &mut F,
+) -> Option<Text> {
+    match refused_note(alloc, cube, text, files) {
+        Some(note) if !note.is_empty() => Some(note),
+        _ => refused_note(alloc, older, text, files),
+    }
+}
+
 /// What a person may want to know beside the report of a run of these orders, where there is something.
 pub fn note<F: Folder>(
     alloc: Global,
@@ -65,6 +79,14 @@ pub fn note<F: Folder>(
     match (orders, report.status) {
         (Orders::Check { files: cube }, 0) => policy_note(alloc, cube, files),
         (Orders::Sum { facts }, 3) => flat_note(alloc, facts, files),
+        (
+            Orders::Carry {
+                files: cube,
+                older,
+                ..
+            },
+            3,
+        ) => either_note(alloc, cube, older, text, files),
         (_, 3) => refused_note(alloc, orders.cube()?, text, files),
         _ => None,
     }

@@ -15,6 +15,7 @@ ghost use Rattle.cube_app.specs.Texts.{usage_text as usage_words, status_of as s
 
 use crate::advising::advise;
 use crate::auditing::audit;
+use crate::carrying::carry_over;
 use crate::cells::{Telling, tell};
 use crate::drafting::draft;
 use crate::making::show;
@@ -348,6 +349,11 @@ fn obey<F: Folder, S: Store, I: Source, O: Sink, W: Wire>(
                 out,
             )
         }
+        Orders::Carry {
+            files: cube,
+            older,
+            journal,
+        } => carry_over(alloc, room, &cube, &older, &journal, files, store, out),
         Orders::Why {
             files: cube,
             journal,

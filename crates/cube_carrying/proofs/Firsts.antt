@@ -1,5 +1,5 @@
 -- The first of the numbers that has something.
-use Rattle.std.proofs.Common.{◌≡◌, ℕ, zero, suc, ◌+◌, ◌<◌, ◌≤◌, ◌⊎◌, inl, inr, List, [], ◌∷◌, Option, Some, None, refl, sym, ap, subst, ◌∙◌, arith, ltb}
+use Rattle.std.proofs.Common.{◌≡◌, ℕ, zero, suc, ◌+◌, ◌<◌, ◌≤◌, ◌⊎◌, inl, inr, Option, Some, None, refl, ap, ◌∙◌, arith, ltb}
 use Rattle.cube_model.specs.Cubes.{count_from}
 use Rattle.cube_carrying.specs.Firsts.{first_with, with_number}
 use Rattle.std.proofs.lemmas.Bool.{ltb-true, ltb-false}

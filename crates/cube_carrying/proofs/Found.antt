@@ -1,11 +1,11 @@
 -- What is found by its name.
-use Rattle.std.proofs.Common.{◌≡◌, ℕ, ◌<◌, ◌≤◌, ◌&&◌, Bool, true, false, List, [], ◌∷◌, length, map, get_or, position, Some, None, refl, sym, ap, subst, ◌∙◌, arith}
+use Rattle.std.proofs.Common.{◌≡◌, ℕ, ◌<◌, ◌≤◌, ◌&&◌, Bool, true, false, List, [], ◌∷◌, length, map, get_or, position, Some, None, refl, sym, ap, ◌∙◌, arith}
 use Rattle.std.specs.List.{list_any}
 use Rattle.std.specs.Str.{bytes_eq}
 use Rattle.std.proofs.lemmas.Bool.{false≢true}
 use Rattle.std.proofs.lemmas.List.{length-map}
 use Rattle.std.proofs.lemmas.List.Quantifiers.{position-Some}
-use Rattle.cube_model.specs.Cubes.{same, distinct, place_of, names_at, IsIn}
+use Rattle.cube_model.specs.Cubes.{same, distinct, place_of, names_at}
 use Rattle.cube_model.specs.Dims.{Dims, NamedDimension, IsDimension, plain, found, no_dimension, dimension_names}
 use Rattle.cube_model.proofs.DimsFacts.{same-bytes_eq, place_of-position, place_of-absent, place_of-below, length-names_at}
 use Rattle.cube_model.proofs.Found.{found_in, found-none}
@@ -13,7 +13,7 @@ use Rattle.cube_model.proofs.Members.{tested, same_refl}
 use Rattle.cube_model.proofs.Parts.{position-map, position-is, list_any-map}
 use Rattle.cube_model.proofs.Walks.{any_from, any_has, any_alike}
 use Rattle.cube_carry.specs.Continues.{same_texts, has_dimension, has_levels}
-use Rattle.cube_carry.specs.Names.{dimension_in, same_dimension}
+use Rattle.cube_carry.specs.Names.{dimension_in}
 use Rattle.cube_carry.proofs.Dimensions.{texts_eq, stands, in_at, beyond, name_at_is}
 use Rattle.cube_carry.proofs.Orders.{is_among}
 

@@ -1,2 +1,12 @@
 pub mod Firsts
 pub mod Leaves
+pub mod Places
+pub mod Points
+pub mod Comparing
+pub mod Histories
+pub mod Telling
+pub mod Exposed
+pub mod KeptCells
+pub mod Standing
+pub mod Links
+pub mod Given

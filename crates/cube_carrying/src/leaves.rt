@@ -11,7 +11,7 @@ use cube_model::{Dimension, Dims, Items, NoMemory, NumberedNames, Places};
 use std::alloc::Global;
 
 /// The number of a name among names, or how many there are where it does not stand.
-fn number_of(names: &NumberedNames, name: &[u8]) -> usize
+pub(crate) fn number_of(names: &NumberedNames, name: &[u8]) -> usize
     ensures { result ≡ place_of name.now (distinct names.now) }
 {
     match names.find(name) {

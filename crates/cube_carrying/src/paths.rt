@@ -11,7 +11,7 @@ use crate::texts::same_texts;
 use cube_model::{Dimension, Dims, Texts};
 
 /// The name of the leaf of a path, or no bytes where it names none.
-fn leaf_of(path: &Texts) -> &[u8]
+pub(crate) fn leaf_of(path: &Texts) -> &[u8]
     ensures { result.now ≡ slice_index_or path.now 0 [] }
 {
     match path.get(0) {

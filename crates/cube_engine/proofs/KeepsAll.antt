@@ -1,5 +1,5 @@
 -- What the compacted history keeps of a history.
-use Rattle.std.proofs.Common.{◌≡◌, refl, ap, ◌∙◌, ℕ, zero, suc, ◌*◌, ◌≤◌, true, List, [], ◌∷◌, flat_map, length, length-append, Option, Some, None, arith}
+use Rattle.std.proofs.Common.{◌≡◌, refl, ap, ◌∙◌, ℕ, zero, suc, ◌+◌, ◌*◌, ◌≤◌, true, Ok, List, [], ◌∷◌, flat_map, length, length-append, Option, Some, None, arith}
 use Rattle.std.proofs.lemmas.List.{length-map}
 use Rattle.cube_model.specs.declared.entry.Entry.{Entry}
 use Rattle.cube_model.specs.declared.entry.Entry.TheVariants.{Asked, Source, Linked}
@@ -21,14 +21,14 @@ use Rattle.cube_model.proofs.Histories.{AreAllowed, admissible_allowed}
 use Rattle.cube_model.proofs.Left.{admissible_is_left}
 use Rattle.cube_admit.specs.declared.held.Pending.{Pending}
 use Rattle.std.specs.Option.{option_map}
-use Rattle.cube_journal.specs.Digests.{is_digest}
 use Rattle.cube_journal.specs.Laws.{IsWithoutRequests}
 use Rattle.cube_journal.specs.Sound.{IsSound}
 use Rattle.cube_journal.specs.PublicText.{public_text_of}
+use Rattle.cube_journal.specs.SecondText.{journal2_text}
 use Rattle.cube_journal.proofs.Digested.{digests_are}
 use Rattle.cube_journal.proofs.SecondBack.{second_reads_back, second_is_short}
 use Rattle.cube_engine.specs.Compacting.{CompactionKeepsAll}
-use Rattle.cube_engine.specs.Kept.{digest_for, first_entry, by_left, judged_in}
+use Rattle.cube_engine.specs.Kept.{digest_for, first_entry, by_left, judged_in, history_of}
 use Rattle.cube_engine.proofs.Alike.{replies_alike}
 use Rattle.cube_engine.proofs.Worlds.{texts_read}
 
@@ -41,7 +41,8 @@ sound_each c p (Asked r ∷ es) a none = absurd (cc)
 sound_each c p (Source m levels ∷ es) a none = (a.0, sound_each c p es a.1 none)
 sound_each c p (Linked m l ∷ es) a none = (a.0, sound_each c p es a.1 none)
 
-without_requests : (c : Core) (p : Policy) (es : List Entry) → IsCore c → IsPolicy c.dims p → IsAdmissible (shown c p) es → requests es ≡ [] → IsWithoutRequests c.dims p (length c.shape.points) es
+-- a history of sources and links that is written as a journal
+pub without_requests : (c : Core) (p : Policy) (es : List Entry) → IsCore c → IsPolicy c.dims p → IsAdmissible (shown c p) es → requests es ≡ [] → IsWithoutRequests c.dims p (length c.shape.points) es
 without_requests c p es core policy adm none = record {
   dims = core.dims;
   few_measures = let a = core.dims.few_measures in let b = policy.methods in omega arith;
@@ -49,6 +50,15 @@ without_requests c p es core policy adm none = record {
   no_requests = none;
   sound = sound_each c p es (admissible_allowed (shown c p) [] es adm) none;
 }
+
+-- what the journal recovers
+pub written_recovers : (c : Core) (p : Policy) (es : List Entry) → IsCore c → IsPolicy c.dims p → IsAdmissible (shown c p) es → requests es ≡ [] → history_of c p (journal2_text (digest_for c p) es) ≡ Ok es
+written_recovers c p es core policy adm none =
+    ap (judged_in c p) (second_reads_back (digest_for c p) c.dims p (length c.shape.points) es (digests_are (public_text_of c.dims p c.shape)) (without_requests c p es core policy adm none)) ∙ ap by_left (admissible_is_left (shown c p) es first_entry adm)
+
+-- how long it is
+pub written_is_short : (c : Core) (p : Policy) (es : List Entry) → IsCore c → IsPolicy c.dims p → IsAdmissible (shown c p) es → requests es ≡ [] → length (journal2_text (digest_for c p) es) ≤ 80 + 128 * length es
+written_is_short c p es core policy adm none = second_is_short (digest_for c p) c.dims p (length c.shape.points) es (digests_are (public_text_of c.dims p c.shape)) (without_requests c p es core policy adm none)
 
 -- ---- there are few of them
 
@@ -81,25 +91,19 @@ few_entries c p h core policy =
 pub compaction_keeps_all : CompactionKeepsAll
 compaction_keeps_all c p h core policy adm = record {
   stands = stands;
-  recovers = ap (judged_in c p) (second_reads_back (digest_for c p) c.dims p (length c.shape.points) k digits kind) ∙ ap by_left (admissible_is_left (shown c p) k first_entry stands.admissible);
-  short = let a = second_is_short (digest_for c p) c.dims p (length c.shape.points) k digits kind in let b = few_entries c p h core policy in omega arith;
+  recovers = written_recovers c p k core policy stands.admissible stands.no_requests;
+  short = let a = written_is_short c p k core policy stands.admissible stands.no_requests in let b = few_entries c p h core policy in omega arith;
   replies = λ asks none. replies_alike c.dims (world c p) h k asks ok (texts_read c p core policy) adm stands.admissible (stands.alike, few) none;
 }
   where
     k : List Entry
     k = compacted (shown c p) h
 
-    digits : is_digest (digest_for c p) ≡ true
-    digits = digests_are (public_text_of c.dims p c.shape)
-
     ok : IsWorld (world c p)
     ok = cores_are_worlds c p core policy.methods
 
     stands : StandsFor (shown c p) h k
     stands = compacted_stands (world c p) h ok adm
-
-    kind : IsWithoutRequests c.dims p (length c.shape.points) k
-    kind = without_requests c p k core policy stands.admissible stands.no_requests
 
     few : length (requests k) ≤ length (requests h)
     few = let e : length (requests k) ≡ 0 = ap length stands.no_requests in omega arith

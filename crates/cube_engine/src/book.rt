@@ -4,7 +4,7 @@ ghost use Rattle.cube_model.specs.declared.ask.Question.TheVariants as asked;
 ghost use Rattle.cube_model.specs.Cores.{shown, world};
 ghost use Rattle.cube_model.specs.Policies.{IsPolicy};
 ghost use Rattle.cube_model.specs.Verdicts.{verdict as verdict_of};
-ghost use Rattle.cube_admit.specs.States.{StandsFor};
+ghost use Rattle.cube_admit.specs.States.{waiting as waiting_in, StandsFor};
 ghost use Rattle.cube_io.specs.Causes.{HasCause};
 ghost use Rattle.cube_io.specs.States.{Gained};
 ghost use Rattle.cube_io.specs.Told.{Works, OthersStay};
@@ -107,6 +107,7 @@ impl Book {
     pub fn state(&self) -> &State
         ensures history { result.now.history ≡ self.now.history }
         ensures stands { StandsFor (shown self.now.core self.now.policy) result.now }
+        ensures waits { waiting_in result.now ≡ self.now.waiting }
     {
         self.holding.state()
     }

@@ -185,10 +185,12 @@ impl Engine {
         self.book.policy()
     }
 
-    /// The history and what is kept of it.
+    /// The history and what is kept of it. No request waits to enter it.
+    #[tactic(auto, using(crate::proofs::KeepsAll::pending_is))]
     pub fn state(&self) -> &State
         ensures history { result.now.history ≡ self.now.history }
         ensures stands { StandsFor (shown self.now.core self.now.policy) result.now }
+        ensures none { result.now.pending ≡ None }
     {
         self.book.state()
     }

@@ -5,7 +5,7 @@ ghost use Rattle.cube_model.specs.Cores.{IsCore, shown};
 ghost use Rattle.cube_model.specs.Entries.{requests};
 ghost use Rattle.cube_model.specs.Policies.{IsPolicy};
 ghost use Rattle.cube_model.specs.Verdicts.{verdict as verdict_of, IsAdmissible};
-ghost use Rattle.cube_admit.specs.States.{waits_for, StandsFor};
+ghost use Rattle.cube_admit.specs.States.{waiting as waiting_in, waits_for, StandsFor};
 ghost use Rattle.cube_query.specs.Canonical.{is_request};
 ghost use Rattle.cube_rollup.specs.Rollups.{entry_of};
 ghost use Rattle.cube_engine.specs.Books.{that_waits};
@@ -93,6 +93,7 @@ impl Holding {
     pub(crate) fn state(&self) -> &State
         ensures history { result.now.history ≡ self.now.history }
         ensures stands { StandsFor (shown self.now.core self.now.policy) result.now }
+        ensures waits { waiting_in result.now ≡ self.now.waiting }
     {
         &self.state
     }

@@ -22,6 +22,7 @@ usage_of command.Ask = codes "cube ask --dims FILE --facts FILE --policy FILE --
 usage_of command.Witness = codes "cube witness --dims FILE --facts FILE --policy FILE --journal FILE --cell CELL\n    prints the changes that hide a cell\n"
 usage_of command.Twin = codes "cube twin --dims FILE --facts FILE --policy FILE --journal FILE --cell CELL\n    prints the fact file of the cube with these changes\n"
 usage_of command.Compact = codes "cube compact --dims FILE --facts FILE --policy FILE --journal FILE [--out FILE]\n    prints the journal written down as what it holds, or puts it into a file, whole\n"
+usage_of command.Carry = codes "cube carry --dims FILE --facts FILE --policy FILE --from-dims FILE --from-facts FILE --from-policy FILE --from-journal FILE\n    prints the journal of an older cube written down for one that continues it, with a month more for instance\n"
 usage_of command.Why = codes "cube why --dims FILE --facts FILE --policy FILE --journal FILE --query QUERY [--reason FILE]\n    prints why a query is refused, for anybody to check, or says whether a file is such a reason\n"
 usage_of command.Audit = codes "cube audit --dims FILE --facts FILE --policy FILE --transcript FILE\n    says whether what some server replied is exact and keeps each protected cell hidden\n"
 usage_of command.Advise = codes "cube advise --dims FILE --facts FILE --policy FILE [--journal FILE] [--workload FILE]\n    prints what can be released, and what becomes of each query of a file\n"
@@ -64,7 +65,7 @@ help_text =
     group_text (codes "Load and check:\n") (command.Draft ∷ command.Check ∷ command.Sum ∷ []) ++
     group_text (codes "Ask and serve:\n") (command.Ask ∷ command.Serve ∷ command.Replay ∷ []) ++
     group_text (codes "Look behind:\n") (command.Advise ∷ command.Why ∷ command.Witness ∷ command.Twin ∷ command.Audit ∷ []) ++
-    group_text (codes "Keep:\n") (command.Compact ∷ []) ++
+    group_text (codes "Keep:\n") (command.Compact ∷ command.Carry ∷ []) ++
     group_text (codes "Else:\n") (command.Demo ∷ command.Help ∷ command.Version ∷ []) ++
     flat_map note_of all_noted
 

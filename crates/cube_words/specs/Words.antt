@@ -16,7 +16,7 @@ use Rattle.cube_words.specs.declared.ordered.Orders.{Orders}
 use Rattle.cube_words.specs.declared.ordered.Orders.TheVariants as orders
 use Rattle.cube_words.specs.declared.words.TheConstants.{MAX_REQUESTS, USUAL_REQUESTS, MAX_IDLE, USUAL_IDLE, MAX_DIGITS, OVER, MAX_SIZE}
 use Rattle.cube_words.specs.declared.words.Setting.{Setting}
-use Rattle.cube_words.specs.declared.words.Setting.TheVariants.{Dims, Facts, Policy, Groups, Journal, Cell, Query, Reason, Transcript, Workload, Out, Address, Script, Requests, Idle, Number, Size, Levels, Members}
+use Rattle.cube_words.specs.declared.words.Setting.TheVariants.{Dims, Facts, Policy, Groups, Journal, Cell, Query, Reason, Transcript, Workload, Out, Address, Script, Requests, Idle, Number, Size, Levels, Members, FromDims, FromFacts, FromPolicy, FromJournal}
 use Rattle.cube_words.specs.declared.words.Usage.{Usage}
 use Rattle.cube_words.specs.declared.words.Usage.TheVariants.{NoCommand, Wrong, Missing}
 
@@ -30,6 +30,7 @@ command_word command.Ask = codes "ask"
 command_word command.Witness = codes "witness"
 command_word command.Twin = codes "twin"
 command_word command.Compact = codes "compact"
+command_word command.Carry = codes "carry"
 command_word command.Why = codes "why"
 command_word command.Audit = codes "audit"
 command_word command.Advise = codes "advise"
@@ -59,9 +60,13 @@ option_word Number = codes "--number"
 option_word Size = codes "--size"
 option_word Levels = codes "--levels"
 option_word Members = codes "--members"
+option_word FromDims = codes "--from-dims"
+option_word FromFacts = codes "--from-facts"
+option_word FromPolicy = codes "--from-policy"
+option_word FromJournal = codes "--from-journal"
 
 abbrev pub commands : List Command
-commands = command.Help ∷ command.Version ∷ command.Draft ∷ command.Sum ∷ command.Check ∷ command.Ask ∷ command.Witness ∷ command.Twin ∷ command.Compact ∷ command.Why ∷ command.Audit ∷ command.Advise ∷ command.Serve ∷ command.Replay ∷ command.Demo ∷ []
+commands = command.Help ∷ command.Version ∷ command.Draft ∷ command.Sum ∷ command.Check ∷ command.Ask ∷ command.Witness ∷ command.Twin ∷ command.Compact ∷ command.Carry ∷ command.Why ∷ command.Audit ∷ command.Advise ∷ command.Serve ∷ command.Replay ∷ command.Demo ∷ []
 
 -- the options that a command needs, in the order in which a missing one is named
 abbrev pub needed : Command → List Setting
@@ -74,6 +79,7 @@ needed command.Ask = Dims ∷ Facts ∷ Policy ∷ Journal ∷ []
 needed command.Witness = Dims ∷ Facts ∷ Policy ∷ Journal ∷ Cell ∷ []
 needed command.Twin = Dims ∷ Facts ∷ Policy ∷ Journal ∷ Cell ∷ []
 needed command.Compact = Dims ∷ Facts ∷ Policy ∷ Journal ∷ []
+needed command.Carry = Dims ∷ Facts ∷ Policy ∷ FromDims ∷ FromFacts ∷ FromPolicy ∷ FromJournal ∷ []
 needed command.Why = Dims ∷ Facts ∷ Policy ∷ Journal ∷ Query ∷ []
 needed command.Audit = Dims ∷ Facts ∷ Policy ∷ Transcript ∷ []
 needed command.Advise = Dims ∷ Facts ∷ Policy ∷ []
@@ -94,6 +100,7 @@ allowed command.Ask = Dims ∷ Facts ∷ Policy ∷ Journal ∷ Requests ∷ []
 allowed command.Witness = Dims ∷ Facts ∷ Policy ∷ Journal ∷ Cell ∷ []
 allowed command.Twin = Dims ∷ Facts ∷ Policy ∷ Journal ∷ Cell ∷ []
 allowed command.Compact = Dims ∷ Facts ∷ Policy ∷ Journal ∷ Out ∷ []
+allowed command.Carry = Dims ∷ Facts ∷ Policy ∷ FromDims ∷ FromFacts ∷ FromPolicy ∷ FromJournal ∷ []
 allowed command.Why = Dims ∷ Facts ∷ Policy ∷ Journal ∷ Query ∷ Reason ∷ []
 allowed command.Audit = Dims ∷ Facts ∷ Policy ∷ Transcript ∷ []
 allowed command.Advise = Dims ∷ Facts ∷ Policy ∷ Journal ∷ Workload ∷ []
@@ -185,6 +192,10 @@ value_of s words = unwrap_or (value_behind (option_word s) words) []
 abbrev pub files_of : List (List ℕ) → CubeFiles
 files_of words = record { dims = value_of Dims words; facts = value_of Facts words; policy = value_of Policy words }
 
+-- those of an older cube
+abbrev pub older_files_of : List (List ℕ) → CubeFiles
+older_files_of words = record { dims = value_of FromDims words; facts = value_of FromFacts words; policy = value_of FromPolicy words }
+
 abbrev pub grouped_files_of : List (List ℕ) → RuledFiles
 grouped_files_of words = record { dims = value_of Dims words; facts = value_of Facts words; rules = rules.Groups (value_of Groups words) }
 
@@ -222,6 +233,7 @@ orders_with command.Ask words = orders.Ask (files_of words) (value_of Journal wo
 orders_with command.Witness words = orders.Witness (files_of words) (value_of Journal words) (value_of Cell words)
 orders_with command.Twin words = orders.Twin (files_of words) (value_of Journal words) (value_of Cell words)
 orders_with command.Compact words = orders.Compact (files_of words) (value_of Journal words) (value_behind (option_word Out) words)
+orders_with command.Carry words = orders.Carry (files_of words) (older_files_of words) (value_of FromJournal words)
 orders_with command.Why words = orders.Why (files_of words) (value_of Journal words) (value_of Query words) (value_behind (option_word Reason) words)
 orders_with command.Audit words = orders.Audit (files_of words) (value_of Transcript words)
 orders_with command.Advise words = orders.Advise (files_of words) (value_behind (option_word Journal) words) (value_behind (option_word Workload) words)
@@ -279,6 +291,7 @@ cube_of (orders.Ask files journal stated) = Some files
 cube_of (orders.Witness files journal cell) = Some files
 cube_of (orders.Twin files journal cell) = Some files
 cube_of (orders.Compact files journal out) = Some files
+cube_of (orders.Carry files older journal) = Some files
 cube_of (orders.Why files journal query reason) = Some files
 cube_of (orders.Audit files transcript) = Some files
 cube_of (orders.Advise files journal workload) = Some files

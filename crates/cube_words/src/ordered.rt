@@ -5,7 +5,7 @@ ghost use Rattle.cube_model.specs.Cubes.{IsIn};
 ghost use Rattle.cube_words.specs.declared.words.Command.TheVariants as command;
 ghost use Rattle.cube_words.specs.declared.words.Setting.TheVariants as setting;
 ghost use Rattle.cube_words.specs.declared.words.TheConstants.{MAX_REQUESTS, MAX_SIZE};
-ghost use Rattle.cube_words.specs.Words.{option_word, needed as needed_by, value_behind as value_in, value_of, files_of as files_in, grouped_files_of as grouped_files_in, stated as stated_in, idle as idle_in_words, making_of as making_in, plain_drafting as plain_drafting_in, orders_with as orders_behind, out_of, cube_of, IsRight, IsMade, Fits};
+ghost use Rattle.cube_words.specs.Words.{option_word, needed as needed_by, value_behind as value_in, value_of, files_of as files_in, older_files_of as older_files_in, grouped_files_of as grouped_files_in, stated as stated_in, idle as idle_in_words, making_of as making_in, plain_drafting as plain_drafting_in, orders_with as orders_behind, out_of, cube_of, IsRight, IsMade, Fits};
 
 use crate::drafting::Drafting;
 use crate::words::{
@@ -70,6 +70,12 @@ pub enum Orders {
         files: CubeFiles,
         journal: Text,
         out: Option<Text>,
+    },
+    /// Write the journal of an older cube down for one that continues it.
+    Carry {
+        files: CubeFiles,
+        older: CubeFiles,
+        journal: Text,
     },
     /// Say why a query is refused behind the history of the journal; or, where the file of a reason is named, whether that
     /// is one.
@@ -148,6 +154,7 @@ impl Orders {
             | Orders::Witness { files, .. }
             | Orders::Twin { files, .. }
             | Orders::Compact { files, .. }
+            | Orders::Carry { files, .. }
             | Orders::Why { files, .. }
             | Orders::Audit { files, .. }
             | Orders::Advise { files, .. }
@@ -201,6 +208,21 @@ fn files_of(alloc: Global, words: &[Text], command: Command) -> Result<CubeFiles
         dims: needed_text(alloc, words, command, Setting::Dims)?,
         facts: needed_text(alloc, words, command, Setting::Facts)?,
         policy: needed_text(alloc, words, command, Setting::Policy)?,
+    })
+}
+
+// The files of an older cube.
+fn older_files_of(alloc: Global, words: &[Text], command: Command) -> Result<CubeFiles, NoMemory>
+    requires right { IsRight command words.now }
+    requires dims { IsIn setting.FromDims (needed_by command) }
+    requires facts { IsIn setting.FromFacts (needed_by command) }
+    requires policy { IsIn setting.FromPolicy (needed_by command) }
+    ensures { IfOk result (λ files. files ≡ older_files_in words.now) }
+{
+    Ok(CubeFiles {
+        dims: needed_text(alloc, words, command, Setting::FromDims)?,
+        facts: needed_text(alloc, words, command, Setting::FromFacts)?,
+        policy: needed_text(alloc, words, command, Setting::FromPolicy)?,
     })
 }
 
@@ -358,6 +380,19 @@ fn compact_with(alloc: Global, words: &[Text]) -> Result<Orders, NoMemory>
     })
 }
 
+fn carry_with(alloc: Global, words: &[Text]) -> Result<Orders, NoMemory>
+    requires { IsRight command.Carry words.now }
+    ensures orders { IfOk result (λ orders. orders ≡ orders_behind command.Carry words.now) }
+    ensures fits { IfOk result Fits }
+{
+    let command = Command::Carry;
+    Ok(Orders::Carry {
+        files: files_of(alloc, words, command)?,
+        older: older_files_of(alloc, words, command)?,
+        journal: needed_text(alloc, words, command, Setting::FromJournal)?,
+    })
+}
+
 fn why_with(alloc: Global, words: &[Text]) -> Result<Orders, NoMemory>
     requires { IsRight command.Why words.now }
     ensures orders { IfOk result (λ orders. orders ≡ orders_behind command.Why words.now) }
@@ -492,6 +527,7 @@ pub fn orders_with(alloc: Global, command: Command, words: &[Text]) -> Result<Or
         Command::Witness => witness_with(alloc, words),
         Command::Twin => twin_with(alloc, words),
         Command::Compact => compact_with(alloc, words),
+        Command::Carry => carry_with(alloc, words),
         Command::Why => why_with(alloc, words),
         Command::Audit => audit_with(alloc, words),
         Command::Advise => advise_with(alloc, words),

@@ -33,6 +33,8 @@ pub enum Command {
     Twin,
     /// Write the journal down as what its history holds.
     Compact,
+    /// Write the journal of an older cube down for one that continues it.
+    Carry,
     /// Say why a query is refused, or whether a reason that was told holds.
     Why,
     /// Check what some server replied against a cube.
@@ -92,6 +94,14 @@ pub enum Setting {
     Levels,
     /// A column whose numbers are members.
     Members,
+    /// The dimension file of an older cube.
+    FromDims,
+    /// The fact file of an older cube.
+    FromFacts,
+    /// The policy file of an older cube.
+    FromPolicy,
+    /// The journal of an older cube.
+    FromJournal,
 }
 
 /// What is wrong with the words.
@@ -105,7 +115,7 @@ pub enum Usage {
     Missing(Setting),
 }
 
-const COMMANDS: [Command; 15] = [
+const COMMANDS: [Command; 16] = [
     Command::Help,
     Command::Version,
     Command::Draft,
@@ -115,6 +125,7 @@ const COMMANDS: [Command; 15] = [
     Command::Witness,
     Command::Twin,
     Command::Compact,
+    Command::Carry,
     Command::Why,
     Command::Audit,
     Command::Advise,
@@ -158,6 +169,7 @@ impl Command {
             Command::Witness => b"witness",
             Command::Twin => b"twin",
             Command::Compact => b"compact",
+            Command::Carry => b"carry",
             Command::Why => b"why",
             Command::Audit => b"audit",
             Command::Advise => b"advise",
@@ -195,6 +207,15 @@ impl Command {
                 Setting::Facts,
                 Setting::Policy,
                 Setting::Journal,
+            ],
+            Command::Carry => &[
+                Setting::Dims,
+                Setting::Facts,
+                Setting::Policy,
+                Setting::FromDims,
+                Setting::FromFacts,
+                Setting::FromPolicy,
+                Setting::FromJournal,
             ],
             Command::Witness | Command::Twin => &[
                 Setting::Dims,
@@ -263,6 +284,15 @@ impl Command {
                 Setting::Policy,
                 Setting::Journal,
                 Setting::Out,
+            ],
+            Command::Carry => &[
+                Setting::Dims,
+                Setting::Facts,
+                Setting::Policy,
+                Setting::FromDims,
+                Setting::FromFacts,
+                Setting::FromPolicy,
+                Setting::FromJournal,
             ],
             Command::Why => &[
                 Setting::Dims,
@@ -349,6 +379,10 @@ impl Setting {
             Setting::Size => b"--size",
             Setting::Levels => b"--levels",
             Setting::Members => b"--members",
+            Setting::FromDims => b"--from-dims",
+            Setting::FromFacts => b"--from-facts",
+            Setting::FromPolicy => b"--from-policy",
+            Setting::FromJournal => b"--from-journal",
         }
     }
 }

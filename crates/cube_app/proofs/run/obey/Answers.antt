@@ -178,6 +178,25 @@ returns-in-Compact g c =
       others = only_first (g.S.Store.state c.args.store.now) (g.S.Store.state c.tell-in-Compact.new.store) x.others;
     })
 
+pub returns-in-Carry : goal.returns-in-Carry
+returns-in-Carry g c =
+    let x = c.carry_over.ensures in
+    obeyed_as c.args.orders (orders.Carry c.in-Carry.cube c.in-Carry.older c.in-Carry.journal) c.in-Carry.is (record {
+      does = record { answers = x.answers; named_journal = x.names; few_calls = x.calls; complete = x.complete };
+      leaves = (refl, refl, x.outcomes);
+      causes = record {
+        unreadable = λ is. inl (x.unreadable is, refl);
+        output = x.output;
+        unheard = λ is. absurd (x.wire is);
+        unkept = λ is. (x.unkept is, x.outcomes);
+        steady = λ no. (x.steady no, refl);
+        output_steady = x.output_steady;
+        wire_steady = λ no. refl;
+      };
+      ordered = x.words;
+      others = only_first (g.S.Store.state c.args.store.now) (g.S.Store.state c.carry_over.new.store) x.others;
+    })
+
 pub returns-in-Why : goal.returns-in-Why
 returns-in-Why g c =
     let x = c.say_why.ensures in

@@ -1,4 +1,4 @@
-use Rattle.std.proofs.Common.{◌≤◌, length, arith, ap, sym, ◌∙◌}
+use Rattle.std.proofs.Common.{◌≤◌, length, arith, ap, sym}
 use Rattle.cube_carrying.proofs.Found.{no_levels}
 use Rattle.cube_carrying.proofs.dimensions.has_levels.Goals as goal
 

@@ -1,4 +1,4 @@
-use Rattle.std.proofs.Common.{◌<◌, length, arith}
+use Rattle.std.proofs.Common.{arith}
 use Rattle.cube_carrying.proofs.Found.{dimension_below}
 use Rattle.cube_carrying.proofs.dimensions.same_dimension.Goals as goal
 

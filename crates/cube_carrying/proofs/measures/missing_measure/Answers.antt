@@ -1,4 +1,4 @@
-use Rattle.std.proofs.Common.{◌≡◌, ℕ, ◌<◌, true, not, length, ap, sym, ◌∙◌, arith}
+use Rattle.std.proofs.Common.{◌<◌, true, not, length, ap, sym, ◌∙◌, arith}
 use Rattle.cube_carry.specs.Continues.{has_measure}
 use Rattle.cube_carry.specs.Names.{named}
 use Rattle.cube_source.proofs.Steps.{first_number, no_number}

@@ -1,8 +1,7 @@
-use Rattle.std.proofs.Common.{◌≡◌, ◌<◌, List, ℕ, Some, None, [], length, get_or, ap, sym, ◌∙◌, arith}
+use Rattle.std.proofs.Common.{◌≡◌, ◌<◌, List, ℕ, [], length, get_or, ap, ◌∙◌, arith}
 use Rattle.std.proofs.lemmas.List.{get_or_read}
 use Rattle.cube_model.specs.Cubes.{distinct}
 use Rattle.cube_model.specs.Dims.{found}
-use Rattle.cube_carry.specs.Continues.{same_texts}
 use Rattle.cube_carrying.proofs.Found.{path_found, path_missing, leaf_below}
 use Rattle.cube_carrying.proofs.paths.has_path.Goals as goal
 

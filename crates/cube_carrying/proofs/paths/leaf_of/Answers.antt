@@ -1,4 +1,4 @@
-use Rattle.std.proofs.Common.{◌≡◌, ℕ, zero, suc, List, [], ◌∷◌, get_or, None, sym, refl}
+use Rattle.std.proofs.Common.{◌≡◌, ℕ, List, [], ◌∷◌, get_or, None, sym, refl}
 use Rattle.std.specs.List.{slice_get}
 use Rattle.cube_carrying.proofs.paths.leaf_of.Goals as goal
 

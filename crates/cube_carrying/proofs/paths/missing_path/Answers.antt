@@ -1,4 +1,4 @@
-use Rattle.std.proofs.Common.{◌≡◌, ℕ, ◌<◌, length, ap, sym, ◌∙◌, arith}
+use Rattle.std.proofs.Common.{◌<◌, length, ap, sym, arith}
 use Rattle.cube_model.specs.Dims.{dimension_at}
 use Rattle.cube_carry.specs.Continues.{has_path}
 use Rattle.cube_carrying.specs.Firsts.{first_failing}

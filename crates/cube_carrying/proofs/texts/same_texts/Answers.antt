@@ -1,7 +1,7 @@
 use Rattle.std.proofs.Common.{◌<◌, length, arith, sym, ap₂, ◌∙◌}
 use Rattle.std.specs.Str.{bytes_eq}
 use Rattle.cube_carry.specs.Continues.{same_texts}
-use Rattle.cube_carrying.proofs.Compared.{uneven, texts_on, texts_end}
+use Rattle.cube_carrying.proofs.TextByText.{uneven, texts_on, texts_end}
 use Rattle.cube_carrying.proofs.texts.same_texts.Goals as goal
 
 pub returns-then-texts-others : goal.returns-then-texts-others

@@ -32,3 +32,6 @@ audit_with-requires c = subst (λ (x : Command). IsRight x c.args.words.now) c.i
 
 pub advise_with-requires : goal.advise_with-requires
 advise_with-requires c = subst (λ (x : Command). IsRight x c.args.words.now) c.in-Advise.is c.requires
+
+pub carry_with-requires : goal.carry_with-requires
+carry_with-requires c = subst (λ (x : Command). IsRight x c.args.words.now) c.in-Carry.is c.requires

@@ -1,8 +1,7 @@
 -- Texts that are compared one by one.
-use Rattle.std.proofs.Common.{◌≡◌, ℕ, suc, ◌+◌, ◌<◌, ◌≤◌, ◌&&◌, Bool, true, false, List, [], ◌∷◌, length, drop, get_or, refl, sym, ap, ap₂, ◌∙◌, arith}
+use Rattle.std.proofs.Common.{◌≡◌, ℕ, ◌+◌, ◌<◌, ◌&&◌, Bool, true, false, List, ◌∷◌, length, drop, get_or, sym, ap, ap₂, ◌∙◌}
 use Rattle.std.specs.Str.{bytes_eq}
 use Rattle.std.proofs.lemmas.List.{drop_more}
-use Rattle.cube_model.specs.Cubes.{same}
 use Rattle.cube_model.proofs.DimsFacts.{same-bytes_eq}
 use Rattle.cube_model.proofs.Members.{tested}
 use Rattle.cube_carry.specs.Continues.{same_texts}

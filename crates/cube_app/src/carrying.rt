@@ -1,0 +1,214 @@
+// A history that is carried over from an older cube to one that continues it.
+ghost use Rattle.std.specs.Prelude.{◌≡◌, ◌≢◌, ◌⊎◌, ◌≤◌, ◌+◌, [], IsTrue, IfOk, IfErr};
+ghost use Rattle.cube_model.specs.Entries.{requests};
+ghost use Rattle.cube_model.specs.Policies.{IsPolicy};
+ghost use Rattle.cube_io.specs.Causes.{Rose};
+ghost use Rattle.cube_io.specs.Seen.{seen};
+ghost use Rattle.cube_carry.specs.Carrying.{IsCarried};
+ghost use Rattle.cube_carry.specs.Continues.{Continues, KeepsValues};
+ghost use Rattle.cube_carry.specs.Names.{named};
+ghost use Rattle.cube_carrying.specs.Comparing.{IsComparedBy};
+ghost use Rattle.cube_carrying.specs.Histories.{IsCarriedBy};
+ghost use Rattle.cube_carrying.specs.Places.{carried_places};
+ghost use Rattle.cube_carrying.specs.declared.breach.Compared.TheVariants as compared;
+ghost use Rattle.cube_carrying.specs.declared.histories.Carried.TheVariants as carried;
+ghost use Rattle.cube_engine.specs.Kept.{digest_for};
+ghost use Rattle.cube_journal.specs.SecondText.{journal2_text as second_text};
+ghost use Rattle.cube_opening.specs.Opening.{IsSteady};
+ghost use Rattle.cube_app.specs.declared.carrying.Uncarried.TheVariants as why;
+ghost use Rattle.cube_app.specs.Carrying.{Handing, Carries, IsUncarried, IsHanded, HandsSo, CarryEnds, CarryCompletes, carried_entries, handing_of};
+ghost use Rattle.cube_serving.specs.Starting.{AsksStore, OnlyJournal};
+
+use crate::run::print;
+use cube_carrying::{Breach, Carried, Compared, Stop, breach_text, carry, compare, stop_text};
+use cube_core::Core;
+use cube_engine::Engine;
+use cube_io::{Folder, Sink, Store};
+use cube_journal::{digest_of, journal2_text, public_text};
+use cube_model::{Entry, History, NoMemory, Places, Policy, Text};
+use cube_opening::{CubeFiles, Report, Room, open_guarded, open_unsealed, refuse_line, statuses};
+use cube_serving::open_engine;
+use std::alloc::Global;
+
+/// Why nothing is carried over.
+#[derive(Drop)]
+pub enum Uncarried {
+    /// This line names the first thing that stands in the way.
+    Line(Text),
+    NoMemory,
+}
+
+// A line that was made, unless memory ran out.
+fn line_or_none(line: Result<Text, NoMemory>) -> Uncarried
+    ensures { (x : Handing) → IfOk line (λ text. IsUncarried x (why.Line text)) → IsUncarried x result }
+{
+    match line {
+        Ok(line) => Uncarried::Line(line),
+        Err(_) => Uncarried::NoMemory,
+    }
+}
+
+// The line on what keeps a cube from continuing an older one.
+fn broken(alloc: Global, older: &Engine, core: &Core, policy: &Policy, breach: &Breach) -> Uncarried
+    requires first { IsComparedBy (named older.now.core older.now.policy) (named core.now policy.now) older.now.core.cube core.now.cube (compared.Differs breach.now) }
+    ensures { IsUncarried (handing_of older.now core.now policy.now) result }
+{
+    let _rules = older.policy();
+    line_or_none(breach_text(alloc, older.core(), older.policy(), core, policy, breach))
+}
+
+// The line on what stops a history.
+fn stopped(alloc: Global, older: &Engine, core: &Core, policy: &Policy, stop: &Stop) -> Uncarried
+    requires continues { Continues (named older.now.core older.now.policy) (named core.now policy.now) }
+    requires values { KeepsValues (named older.now.core older.now.policy) (named core.now policy.now) older.now.core.cube core.now.cube }
+    requires first { IsCarriedBy (named older.now.core older.now.policy) (named core.now policy.now) older.now.history (carried.Stopped stop.now) }
+    ensures { IsUncarried (handing_of older.now core.now policy.now) result }
+{
+    let _older = older;
+    line_or_none(stop_text(alloc, core, policy, stop))
+}
+
+// Entries as a journal of a cube.
+fn journal_of(
+    alloc: Global,
+    core: &Core,
+    policy: &Policy,
+    entries: &[Entry],
+) -> Result<Text, NoMemory>
+    requires policy { IsPolicy core.now.dims policy.now }
+    requires alone { requests entries.now ≡ [] }
+    ensures { IfOk result (λ text. text ≡ second_text (digest_for core.now policy.now) entries.now) }
+{
+    let _rules = core.shape();
+    let text = public_text(alloc, core.dims(), policy, core.shape())?;
+    journal2_text(alloc, &digest_of(text.as_slice()), entries)
+}
+
+// The journal of the new cube that holds the carried entries.
+fn written(
+    alloc: Global,
+    older: &Engine,
+    core: &Core,
+    policy: &Policy,
+    entries: &History,
+) -> Result<Text, NoMemory>
+    requires policy { IsPolicy core.now.dims policy.now }
+    requires handed { IsHanded (handing_of older.now core.now policy.now) }
+    requires entries { entries.now ≡ carried_entries (handing_of older.now core.now policy.now) }
+    ensures { IfOk result (Carries (handing_of older.now core.now policy.now)) }
+{
+    let _rules = core.dims();
+    let _older = older.core();
+    journal_of(alloc, core, policy, entries.as_slice())
+}
+
+// What is carried over to a cube that continues an older one.
+fn continued(
+    alloc: Global,
+    older: &Engine,
+    core: &Core,
+    policy: &Policy,
+    places: &Places,
+) -> Result<Text, Uncarried>
+    requires policy { IsPolicy core.now.dims policy.now }
+    requires continues { Continues (named older.now.core older.now.policy) (named core.now policy.now) }
+    requires values { KeepsValues (named older.now.core older.now.policy) (named core.now policy.now) older.now.core.cube core.now.cube }
+    requires places { places.now ≡ carried_places older.now.core core.now }
+    ensures ok { IfOk result (Carries (handing_of older.now core.now policy.now)) }
+    ensures err { IfErr result (IsUncarried (handing_of older.now core.now policy.now)) }
+{
+    let (old, old_policy) = (older.core(), older.policy());
+    match carry(alloc, old, old_policy, older.state(), core, policy, places) {
+        Err(_) => Err(Uncarried::NoMemory),
+        Ok(Carried::Stopped(stop)) => Err(stopped(alloc, older, core, policy, &stop)),
+        Ok(Carried::Entries(entries)) => match written(alloc, older, core, policy, &entries) {
+            Ok(text) => Ok(text),
+            Err(_) => Err(Uncarried::NoMemory),
+        },
+    }
+}
+
+// The journal of a cube that holds what the history of an older one told.
+fn carried_over(
+    alloc: Global,
+    older: &Engine,
+    core: &Core,
+    policy: &Policy,
+) -> Result<Text, Uncarried>
+    requires { IsPolicy core.now.dims policy.now }
+    ensures ok { IfOk result (Carries (handing_of older.now core.now policy.now)) }
+    ensures err { IfErr result (IsUncarried (handing_of older.now core.now policy.now)) }
+{
+    let old_policy = older.policy();
+    match compare(alloc, older.core(), old_policy, core, policy) {
+        Err(_) => Err(Uncarried::NoMemory),
+        Ok(Compared::Differs(breach)) => Err(broken(alloc, older, core, policy, &breach)),
+        Ok(Compared::Continues(places)) => continued(alloc, older, core, policy, &places),
+    }
+}
+
+// Puts what is carried over, or reports why nothing is.
+#[tactic(auto, using(crate::proofs::Handed::not_uncarried))]
+fn put_carried<O: Sink>(
+    alloc: Global,
+    room: Room,
+    said: Result<Text, Uncarried>,
+    out: &mut O,
+) -> Report
+    requires { room ≡ [] }
+    ensures hands { HandsSo said (seen O.state out.old out.new) result }
+    ensures accepted { (x : Handing) → IfErr said (IsUncarried x) → IsHanded x → result.status ≢ 3 }
+    ensures output { result.status ≡ 6 → Rose (O.state out.old).faults (O.state out.new).faults }
+    ensures output_steady { result.status ≢ 6 → (O.state out.new).faults ≡ (O.state out.old).faults }
+    ensures status { (result.status ≡ 0) ⊎ (result.status ≡ 3) ⊎ (result.status ≡ 6) ⊎ (result.status ≡ 7) }
+    ensures outcomes { result.outcomes ≡ [] }
+{
+    match said {
+        Ok(text) => print(alloc, room, text.as_slice(), out),
+        Err(Uncarried::Line(line)) => refuse_line(alloc, b"carry: ", &line),
+        Err(Uncarried::NoMemory) => room.with(b"no memory\n").close(alloc, statuses::NO_MEMORY),
+    }
+}
+
+/// Puts the journal of a cube that holds what the journal of an older one told, where the cube continues that one.
+pub fn carry_over<F: Folder, S: Store, O: Sink>(
+    alloc: Global,
+    room: Room,
+    cube: &CubeFiles,
+    older: &CubeFiles,
+    journal: &Text,
+    files: &mut F,
+    store: &mut S,
+    out: &mut O,
+) -> Report
+    requires { room ≡ [] }
+    ensures answers { CarryEnds cube.now older.now (seen F.state files.old files.new) (seen S.state store.old store.new) (seen O.state out.old out.new) result }
+    ensures names { (store.new ≡ store.old) ⊎ AsksStore journal.now (seen S.state store.old store.new) result }
+    ensures unkept { result.status ≡ 9 → Rose (S.state store.old).faults (S.state store.new).faults }
+    ensures calls { IsTrue (S.state store.old).told → (S.state store.new).calls ≤ (S.state store.old).calls + 11 }
+    ensures others { OnlyJournal (S.state store.old) (S.state store.new) }
+    ensures unreadable { result.status ≡ 5 → Rose (F.state files.old).faults (F.state files.new).faults }
+    ensures output { result.status ≡ 6 → Rose (O.state out.old).faults (O.state out.new).faults }
+    ensures steady { result.status ≢ 5 → IsSteady (seen F.state files.old files.new) }
+    ensures output_steady { result.status ≢ 6 → (O.state out.new).faults ≡ (O.state out.old).faults }
+    ensures complete { CarryCompletes cube.now older.now (seen F.state files.old files.new) (seen S.state store.old store.new) (seen O.state out.old out.new) result }
+    ensures words { result.status ≢ 2 }
+    ensures wire { result.status ≢ 8 }
+    ensures outcomes { result.outcomes ≡ [] }
+{
+    let opened = match open_unsealed(alloc, room, cube, files) {
+        Ok(opened) => opened,
+        Err(report) => return report,
+    };
+    let new = opened.value;
+    let guarded = match open_guarded(alloc, opened.room, older, files) {
+        Ok(guarded) => guarded,
+        Err(report) => return report,
+    };
+    let started = match open_engine(alloc, guarded.room, guarded.value, journal, 1, store) {
+        Ok(started) => started,
+        Err(report) => return report,
+    };
+    let said = carried_over(alloc, &started.value, &new.core, &new.policy);
+    put_carried(alloc, started.room, said, out)
+}

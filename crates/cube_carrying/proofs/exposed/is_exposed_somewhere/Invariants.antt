@@ -1,0 +1,6 @@
+use Rattle.std.proofs.Common.{◌≡◌, ℕ, ◌<◌, false}
+use Rattle.cube_carrying.specs.Exposed.{is_exposed_at}
+use Rattle.cube_carrying.proofs.exposed.is_exposed_somewhere.Given as goal
+
+abbrev pub invariant-places : goal.invariant-places
+invariant-places l = (k : ℕ) → k < l.place → is_exposed_at l.old l.object l.new l.policy.objects l.measure l.levels l.places k ≡ false

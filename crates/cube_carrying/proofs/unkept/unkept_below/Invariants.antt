@@ -1,0 +1,11 @@
+use Rattle.std.proofs.Common.{◌≡◌, not, find, drop}
+use Rattle.std.specs.List.{flat_map}
+use Rattle.cube_model.specs.Protection.{touched, under}
+use Rattle.cube_source.specs.Blocks.{bare}
+use Rattle.cube_carrying.specs.KeptCells as said
+use Rattle.cube_carrying.proofs.unkept.unkept_below.Given as goal
+
+abbrev pub invariant-levels : goal.invariant-levels
+invariant-levels l =
+    find (λ t. not (said.is_kept l.old l.new l.policy l.measure t)) (flat_map (touched (bare l.old) l.object) (drop l.levels-index l.levels-items))
+    ≡ find (λ t. not (said.is_kept l.old l.new l.policy l.measure t)) (under (bare l.old) l.object)

@@ -1,0 +1,11 @@
+use Rattle.std.specs.List.{list_any}
+use Rattle.std.proofs.Common.{◌≡◌, not, ◌&&◌, find, drop}
+use Rattle.cube_model.specs.Protection.{in_slice}
+use Rattle.cube_source.specs.Blocks.{bare, row_cell}
+use Rattle.cube_carrying.specs.KeptCells as said
+use Rattle.cube_carrying.proofs.unkept.unkept_row.Given as goal
+
+abbrev pub invariant-rows : goal.invariant-rows
+invariant-rows l =
+    find (λ row. list_any (in_slice (bare l.old) l.object) row.places && not (said.is_kept l.old l.new l.policy l.measure (row_cell l.levels row))) (drop l.row-index l.rows)
+    ≡ find (λ row. list_any (in_slice (bare l.old) l.object) row.places && not (said.is_kept l.old l.new l.policy l.measure (row_cell l.levels row))) l.rows
