@@ -295,7 +295,7 @@ def grown(random_, case):
 
     def dimension(name, size):
         paths = ", ".join(f'["{name}{leaf}", "{name.upper()}{upper[name][leaf]}"]' for leaf in range(size))
-        return f'[[dimension]]\nname = "{name}"\nlevels = ["leaf", "top"]\npaths = [{paths}]\n'
+        return f'[[dimension]]\nname = "{name}"\ncolumn = "{name}"\nlevels = ["leaf", "top"]\npaths = [{paths}]\n'
 
     def files(size):
         rows = (f"a{i},b{j},{values[i, j]}\n" for i, j in points if i < size[0] and j < size[1])
