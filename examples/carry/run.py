@@ -14,7 +14,7 @@ import tempfile
 
 sys.path.insert(0, str(pathlib.Path(__file__).resolve().parent.parent))
 
-from cubes import Cube  # noqa: E402
+from cube_folder import Cube  # noqa: E402
 from servers import Wrong, build, check  # noqa: E402
 
 PAY = pathlib.Path(__file__).resolve().parent.parent / "pay"

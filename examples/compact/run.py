@@ -13,7 +13,7 @@ import time
 
 sys.path.insert(0, str(pathlib.Path(__file__).resolve().parent.parent))
 
-from cubes import Cube  # noqa: E402
+from cube_folder import Cube  # noqa: E402
 from servers import Wrong, build, check  # noqa: E402
 from small import GRID, PAY  # noqa: E402
 
