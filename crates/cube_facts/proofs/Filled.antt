@@ -23,7 +23,7 @@ use Rattle.cube_model.specs.declared.shape.Shape.{Shape}
 use Rattle.cube_model.proofs.Members.{tested, same_eq, same_refl, IsIn-filter, filter_has, IsIn-map, IsIn-in_order, IsIn-count_from}
 use Rattle.cube_model.proofs.Orders.{in_order_increasing}
 use Rattle.cube_facts.specs.Records.{records_of}
-use Rattle.cube_facts.specs.FactFile.{Fact, field_in, leaf_in, units_in, leaves_of, fact_of, column_faults, own_faults, record_faults, most_points, points_in, facts_of, points_of, facts_at, units_sum, shape_of, cube_of}
+use Rattle.cube_facts.specs.FactFile.{Fact, field_in, leaf_in, units_in, leaves_of, fact_of, column_faults, own_faults, record_faults, most_points, points_in, facts_in, facts_of, points_of, facts_at, units_sum, shape_of, cube_of}
 use Rattle.cube_core.specs.Keys.{key_count}
 use Rattle.cube_core.proofs.Ranking.{IsWithin}
 use Rattle.cube_facts.specs.Filling.{Gathers, Fits, Orders, IsFact, AreFacts}
@@ -55,35 +55,36 @@ pub start_marked : (s : Dims) (bytes : List ℕ) → begins_with_mark (strip_bom
 unfolding facts_of
 start_marked s bytes h = rw h refl
 
-pub start_none : (s : Dims) (bytes : List ℕ) → begins_with_mark (strip_bom bytes) ≡ false → records_of bytes ≡ [] → facts_of s bytes ≡ Err fault.NoHeader
+pub start_unmarked : (s : Dims) (bytes : List ℕ) → begins_with_mark (strip_bom bytes) ≡ false → facts_of s bytes ≡ facts_in s (records_of bytes)
 unfolding facts_of
-start_none s bytes h none = rw (h, none) refl
+start_unmarked s bytes h = rw h refl
 
-pub start_columns : (s : Dims) (bytes : List ℕ) (header : List (List ℕ)) (rows : List (List (List ℕ))) (e : FactsFault) → begins_with_mark (strip_bom bytes) ≡ false → records_of bytes ≡ header ∷ rows → first (flat_map (column_faults header) (column_names s)) ≡ Some e → facts_of s bytes ≡ Err e
-unfolding facts_of
-start_columns s bytes header rows e h is k = rw (h, is) (unless_first (flat_map (column_faults header) (column_names s)) (in_turn (record_faults s header) [] rows) e _ k)
+pub start_none : (s : Dims) (all : List (List (List ℕ))) → all ≡ [] → facts_in s all ≡ Err fault.NoHeader
+start_none s all none = rw none refl
 
-start_whole : (s : Dims) (bytes : List ℕ) (header : List (List ℕ)) (rows : List (List (List ℕ))) → begins_with_mark (strip_bom bytes) ≡ false → records_of bytes ≡ header ∷ rows → flat_map (column_faults header) (column_names s) ≡ [] → facts_of s bytes ≡ rest_of s header [] rows
-unfolding facts_of
-start_whole s bytes header rows h is none = rw (h, is, none) refl
+pub start_columns : (s : Dims) (all : List (List (List ℕ))) (header : List (List ℕ)) (rows : List (List (List ℕ))) (e : FactsFault) → all ≡ header ∷ rows → first (flat_map (column_faults header) (column_names s)) ≡ Some e → facts_in s all ≡ Err e
+start_columns s all header rows e is k = rw is (unless_first (flat_map (column_faults header) (column_names s)) (in_turn (record_faults s header) [] rows) e _ k)
+
+start_whole : (s : Dims) (all : List (List (List ℕ))) (header : List (List ℕ)) (rows : List (List (List ℕ))) → all ≡ header ∷ rows → flat_map (column_faults header) (column_names s) ≡ [] → facts_in s all ≡ rest_of s header [] rows
+start_whole s all header rows is none = rw (is, none) refl
 
 -- ---- the loop
 
 -- how the file stands behind some records: what is left to say, and the points so far
-pub record Reads (s : Dims) (bytes : List ℕ) (header : List (List ℕ)) (points : Points) (count : ℕ) (left : List (List (List ℕ))) : Type 0 where
+pub record Reads (s : Dims) (all : List (List (List ℕ))) (header : List (List ℕ)) (points : Points) (count : ℕ) (left : List (List (List ℕ))) : Type 0 where
   pub earlier : List (List (List ℕ))
   pub counted : count ≡ length earlier
-  pub whole : facts_of s bytes ≡ rest_of s header earlier left
+  pub whole : facts_in s all ≡ rest_of s header earlier left
   pub facts : AreFacts s (map (fact_of s header) earlier)
   pub gathers : Gathers s (map (fact_of s header) earlier) points
 
-pub reads_start : (s : Dims) (bytes : List ℕ) (header : List (List ℕ)) (points : Points) (left : List (List (List ℕ)))
-    → begins_with_mark (strip_bom bytes) ≡ false → records_of bytes ≡ header ∷ left → flat_map (column_faults header) (column_names s) ≡ [] → Gathers s [] points
-    → Reads s bytes header points 0 left
-reads_start s bytes header points left mark start none empty = record {
+pub reads_start : (s : Dims) (all : List (List (List ℕ))) (header : List (List ℕ)) (points : Points) (left : List (List (List ℕ)))
+    → all ≡ header ∷ left → flat_map (column_faults header) (column_names s) ≡ [] → Gathers s [] points
+    → Reads s all header points 0 left
+reads_start s all header points left start none empty = record {
   earlier = [];
   counted = refl;
-  whole = start_whole s bytes header left mark start none;
+  whole = start_whole s all header left start none;
   facts = record { each = tt; few = omega arith; few_points = omega arith };
   gathers = empty;
 }
@@ -96,12 +97,12 @@ points_fit s header earlier f count counted none few =
     let test : ltb most_points (length (points_in s header (earlier ++ f ∷ []))) ≡ false = le-ltb most_points (length (points_in s header (earlier ++ f ∷ []))) few_here in
     rw (sym counted, none, test) refl
 
-pub reads_more : (s : Dims) (bytes : List ℕ) (header : List (List ℕ)) (points more : Points) (count : ℕ) (left behind : List (List (List ℕ))) (f : List (List ℕ)) (fact : Fact)
-    → Reads s bytes header points count left → left ≡ f ∷ behind → own_faults s header count f ≡ [] → count < 1000000 → fact ≡ fact_of s header f → IsFact s fact
+pub reads_more : (s : Dims) (all : List (List (List ℕ))) (header : List (List ℕ)) (points more : Points) (count : ℕ) (left behind : List (List (List ℕ))) (f : List (List ℕ)) (fact : Fact)
+    → Reads s all header points count left → left ≡ f ∷ behind → own_faults s header count f ≡ [] → count < 1000000 → fact ≡ fact_of s header f → IsFact s fact
     → ((facts : List Fact) → Gathers s facts points → Gathers s (facts ++ fact ∷ []) more)
     → length more.leaves ≤ 65536
-    → Reads s bytes header more (count + 1) behind
-reads_more s bytes header points more count left behind f fact r next none few is rules step small =
+    → Reads s all header more (count + 1) behind
+reads_more s all header points more count left behind f fact r next none few is rules step small =
     let facts = map (fact_of s header) r.earlier in
     let grown : map (fact_of s header) (r.earlier ++ f ∷ []) ≡ facts ++ fact ∷ [] = map-append (fact_of s header) r.earlier (f ∷ []) ∙ ap (λ g. facts ++ g ∷ []) (sym is) in
     let gathers = step facts r.gathers in
@@ -124,21 +125,21 @@ reads_more s bytes header points more count left behind f fact r next none few i
     each_more P [] x h k = (k, tt)
     each_more P (y ∷ ys) x h k = (h.0, each_more P ys x h.1 k)
 
-pub reads_fault : (s : Dims) (bytes : List ℕ) (header : List (List ℕ)) (points : Points) (count : ℕ) (left behind : List (List (List ℕ))) (f : List (List ℕ)) (e : FactsFault)
-    → Reads s bytes header points count left → left ≡ f ∷ behind → first (own_faults s header count f) ≡ Some e → facts_of s bytes ≡ Err e
-reads_fault s bytes header points count left behind f e r next h =
+pub reads_fault : (s : Dims) (all : List (List (List ℕ))) (header : List (List ℕ)) (points : Points) (count : ℕ) (left behind : List (List (List ℕ))) (f : List (List ℕ)) (e : FactsFault)
+    → Reads s all header points count left → left ≡ f ∷ behind → first (own_faults s header count f) ≡ Some e → facts_in s all ≡ Err e
+reads_fault s all header points count left behind f e r next h =
     r.whole ∙ ap (rest_of s header r.earlier) next ∙ rest_fault s header r.earlier behind f e (first_of_more (own_faults s header (length r.earlier) f) _ e (rw r.counted at h))
   where
     first_of_more : (fs gs : List FactsFault) (e : FactsFault) → first fs ≡ Some e → first (fs ++ gs) ≡ Some e
     first_of_more [] gs e h = absurd (cc)
     first_of_more (g ∷ fs) gs e h = h
 
-pub reads_points : (s : Dims) (bytes : List ℕ) (header : List (List ℕ)) (points more : Points) (count : ℕ) (left behind : List (List (List ℕ))) (f : List (List ℕ)) (fact : Fact)
-    → Reads s bytes header points count left → left ≡ f ∷ behind → own_faults s header count f ≡ [] → fact ≡ fact_of s header f
+pub reads_points : (s : Dims) (all : List (List (List ℕ))) (header : List (List ℕ)) (points more : Points) (count : ℕ) (left behind : List (List (List ℕ))) (f : List (List ℕ)) (fact : Fact)
+    → Reads s all header points count left → left ≡ f ∷ behind → own_faults s header count f ≡ [] → fact ≡ fact_of s header f
     → ((facts : List Fact) → Gathers s facts points → Gathers s (facts ++ fact ∷ []) more)
     → 65536 < length more.leaves
-    → facts_of s bytes ≡ Err (fault.Limit limit.Points 65536)
-reads_points s bytes header points more count left behind f fact r next none is step large =
+    → facts_in s all ≡ Err (fault.Limit limit.Points 65536)
+reads_points s all header points more count left behind f fact r next none is step large =
     let facts = map (fact_of s header) r.earlier in
     let grown : map (fact_of s header) (r.earlier ++ f ∷ []) ≡ facts ++ fact ∷ [] = map-append (fact_of s header) r.earlier (f ∷ []) ∙ ap (λ g. facts ++ g ∷ []) (sym is) in
     let gathers = step facts r.gathers in
@@ -149,9 +150,9 @@ reads_points s bytes header points more count left behind f fact r next none is 
     let here : own_faults s header (length r.earlier) f ≡ [] = rw (sym r.counted) none in
     r.whole ∙ ap (rest_of s header r.earlier) next ∙ rest_fault s header r.earlier behind f (fault.Limit limit.Points 65536) (rw (here, test) refl)
 
-pub reads_end : (s : Dims) (bytes : List ℕ) (header : List (List ℕ)) (points : Points) (count : ℕ) (left : List (List (List ℕ)))
-    → Reads s bytes header points count left → left ≡ [] → (facts : List Fact) × (facts_of s bytes ≡ Ok facts) × AreFacts s facts × Gathers s facts points
-reads_end s bytes header points count left r none = (map (fact_of s header) r.earlier, r.whole ∙ ap (rest_of s header r.earlier) none ∙ rest_none s header r.earlier, r.facts, r.gathers)
+pub reads_end : (s : Dims) (all : List (List (List ℕ))) (header : List (List ℕ)) (points : Points) (count : ℕ) (left : List (List (List ℕ)))
+    → Reads s all header points count left → left ≡ [] → (facts : List Fact) × (facts_in s all ≡ Ok facts) × AreFacts s facts × Gathers s facts points
+reads_end s all header points count left r none = (map (fact_of s header) r.earlier, r.whole ∙ ap (rest_of s header r.earlier) none ∙ rest_none s header r.earlier, r.facts, r.gathers)
 
 -- ---- facts keep their rules
 
@@ -256,9 +257,9 @@ combinations_below [] (suc n) h l = let rest = combinations_below [] n h (omega 
 combinations_below (d ∷ ds) zero h l = absurd (omega (arith, l))
 combinations_below (d ∷ ds) (suc n) h l = mul-le-mul (h.0).few_leaves (combinations_below ds n h.1 (omega (arith, l)))
 
-pub reads_fits : (s : Dims) (bytes : List ℕ) (header : List (List ℕ)) (points : Points) (count : ℕ) (left : List (List (List ℕ))) (fact : Fact) → Reads s bytes header points count left → IsDims s → IsFact s fact → count < 1000000 → Fits points count fact.leaves fact.units
+pub reads_fits : (s : Dims) (all : List (List (List ℕ))) (header : List (List ℕ)) (points : Points) (count : ℕ) (left : List (List (List ℕ))) (fact : Fact) → Reads s all header points count left → IsDims s → IsFact s fact → count < 1000000 → Fits points count fact.leaves fact.units
 unfolding most_combinations
-reads_fits s bytes header points count left fact r rules is few =
+reads_fits s all header points count left fact r rules is few =
     let facts = map (fact_of s header) r.earlier in
     let long : length facts ≡ count = length-map r.earlier (fact_of s header) ∙ sym r.counted in
     let g = r.gathers in

@@ -1,6 +1,7 @@
 pub mod Fields
 pub mod Left
 pub mod Whole
+pub mod Between
 pub mod Load
 pub mod Parts
 pub mod Block

@@ -4,5 +4,6 @@ pub mod FactFile
 pub mod Flat
 pub mod Table
 pub mod Known
+pub mod Unread
 pub mod Filling
 pub mod Examples

@@ -3,13 +3,13 @@ ghost use Rattle.std.specs.Prelude.{◌≡◌, ◌⊎◌, List, length, Ok, Err,
 ghost use Rattle.cube_model.specs.Answers.{Answers};
 ghost use Rattle.cube_model.specs.Cores.{IsCore};
 ghost use Rattle.cube_model.specs.Dims.{IsDims};
-ghost use Rattle.cube_facts.specs.FactFile.{Fact, facts_of, filled_of};
+ghost use Rattle.cube_facts.specs.FactFile.{Fact, facts_in, filled, filled_of};
 ghost use Rattle.cube_facts.specs.Filling.{AreFacts, Gathers};
 ghost use Rattle.cube_facts.specs.declared.fault.FactsFault.TheVariants as fault;
 
 use crate::FactsFault;
 use crate::layout::Layout;
-use crate::records::{has_second_mark, open_records};
+use crate::records::{FileRecords, Records, has_second_mark};
 use crate::totals::Points;
 use csv::ByteRecord;
 use cube_model::{Cube, Dims, LimitKind, Recent, Shape};
@@ -21,21 +21,19 @@ const MAX_POINTS: usize = 65_536;
 // How many slots there are for the leaves that were found last.
 const RECENT: usize = 16_384;
 
-// The points of a file, with what their facts add up to.
-fn read_points(alloc: Global, dims: &Dims, bytes: &[u8]) -> Result<Points, FactsFault>
-    ensures ok { IfOk result (λ points. (facts : List Fact) × (facts_of dims.now bytes.now ≡ Ok facts) × AreFacts dims.now facts × Gathers dims.now facts points) }
+// The points of some records, with what their facts add up to.
+fn read_points<R: Records>(
+    alloc: Global,
+    dims: &Dims,
+    records: &mut R,
+) -> Result<Points, FactsFault>
+    ensures ok { IfOk result (λ points. (facts : List Fact) × (facts_in dims.now (R.left records.old) ≡ Ok facts) × AreFacts dims.now facts × Gathers dims.now facts points) }
     ensures rules { OnOk result (IsDims dims.now) }
-    ensures err { IfErr result (λ e. (e ≡ fault.NoMemory) ⊎ (facts_of dims.now bytes.now ≡ Err e)) }
+    ensures err { IfErr result (λ e. (e ≡ fault.NoMemory) ⊎ (facts_in dims.now (R.left records.old) ≡ Err e)) }
 {
-    if has_second_mark(bytes) {
-        return Err(FactsFault::NoHeader);
-    }
-    let mut reader = open_records(alloc, bytes);
     let mut row = ByteRecord::new(alloc);
-    match reader.read_byte_record(&mut row) {
-        Ok(true) => {}
-        Ok(false) => return Err(FactsFault::NoHeader),
-        Err(_) => return Err(FactsFault::NoMemory),
+    if !records.next_record(&mut row)? {
+        return Err(FactsFault::NoHeader);
     }
     let layout = match Layout::read(alloc, dims, &row) {
         Ok(layout) => layout,
@@ -47,10 +45,8 @@ fn read_points(alloc: Global, dims: &Dims, bytes: &[u8]) -> Result<Points, Facts
     let mut leaves = Vec::new(alloc);
     let mut units = Vec::new(alloc);
     'records: for earlier in 0..u64::MAX {
-        match reader.read_byte_record(&mut row) {
-            Ok(true) => {}
-            Ok(false) => return Ok(points),
-            Err(_) => return Err(FactsFault::NoMemory),
+        if !records.next_record(&mut row)? {
+            return Ok(points);
         }
         match layout.read_fact(alloc, &row, earlier, &mut recent, &mut leaves, &mut units) {
             Ok(()) => {}
@@ -67,18 +63,33 @@ fn read_points(alloc: Global, dims: &Dims, bytes: &[u8]) -> Result<Points, Facts
     Err(FactsFault::NoMemory)
 }
 
-/// Reads a fact file by the columns that the dimensions and the measures name: the points at which
-/// there are facts, and the plain sum of each measure at each of them.
+/// Reads facts from records by the columns that the dimensions and the measures name: the points at
+/// which there are facts, and the plain sum of each measure at each of them.
 ///
 /// Columns that nothing names are ignored. The time is that of the records, each with one look-up
 /// of its point by a hash, and of one sort of the points.
-pub fn read_facts(alloc: Global, dims: &Dims, bytes: &[u8]) -> Result<(Shape, Cube), FactsFault>
-    ensures said { Answers fault.NoMemory result (filled_of dims.now bytes.now) }
+pub fn read_facts_of<R: Records>(
+    alloc: Global,
+    dims: &Dims,
+    records: &mut R,
+) -> Result<(Shape, Cube), FactsFault>
+    ensures said { Answers fault.NoMemory result (filled dims.now (facts_in dims.now (R.left records.old))) }
     ensures rules { IfOk result (λ filled. IsCore (record { dims = dims.now; shape = filled.0; cube = filled.1 })) }
 {
-    let points = read_points(alloc, dims, bytes)?;
+    let points = read_points(alloc, dims, records)?;
     let order = points.order(alloc)?;
     let shape = points.shape(alloc, order.as_slice())?;
     let cube = points.cube(alloc, order.as_slice())?;
     Ok((shape, cube))
+}
+
+/// Reads a fact file, as `read_facts_of` reads its records.
+pub fn read_facts(alloc: Global, dims: &Dims, bytes: &[u8]) -> Result<(Shape, Cube), FactsFault>
+    ensures said { Answers fault.NoMemory result (filled_of dims.now bytes.now) }
+    ensures rules { IfOk result (λ filled. IsCore (record { dims = dims.now; shape = filled.0; cube = filled.1 })) }
+{
+    if has_second_mark(bytes) {
+        return Err(FactsFault::NoHeader);
+    }
+    read_facts_of(alloc, dims, &mut FileRecords::new(alloc, bytes))
 }
