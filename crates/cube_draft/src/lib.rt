@@ -2,6 +2,7 @@
 #![tactic(auto)]
 
 mod accept;
+mod again;
 mod check;
 mod choices;
 mod columns;

@@ -8,16 +8,17 @@ use Rattle.cube_draft.proofs.table.scan.Goals as goal
 
 pub returns-in-Ok-false-read_byte_record : goal.returns-in-Ok-false-read_byte_record
 returns-in-Ok-false-read_byte_record c =
-    let (a, b, d, plain, ready, config, between, y, source, passed) = c.records.invariant in
+    let (w, a, b, d, plain, ready, config, between, y, source, passed) = c.records.invariant in
     let read = rw c.in-Ok-false-read_byte_record.field-0-test at (c.in-Ok-false-read_byte_record.ensures.reads plain ready) in
     let none = left-end (λ (s : Bor (List ℕ)). Some s.now) c.records.reader c.read_byte_record-in-records.new.self (fields_of c.read_byte_record-in-records.new.row) y config source read in
-    passed_end c.args.bytes.now c.args.members.now c.records.fields.items c.records.earlier (left_from c.records.reader.state y) passed none
+    passed_end c.args.bytes.now c.args.members.now c.records.fields.items c.records.earlier c.records.width (fields_of c.records.all) (left_from c.records.reader.state y) passed none (omega (arith, c.records.range))
 
 pub records-init : goal.records-init
 records-init c =
     let fr = c.open_records-reader.ensures in
     let read = rw c.in-Ok-true.field-0-test at (c.in-Ok-true.ensures.reads fr.trim (inr (inr (fr.has_headers, fr.headers)))) in
     let (z, at_z, between, step) = first-more (λ (s : Bor (List ℕ)). Some s.now) c.open_records-reader.result c.read_byte_record.new.self (fields_of c.read_byte_record.new.row) (strip_bom c.args.bytes.now) fr.config fr.source fr.state read in (
+      c.in_ok-push_fields_of.ensures.whole,
       c.in_ok-fields.ensures.long,
       search rules,
       search rules,
@@ -27,15 +28,16 @@ records-init c =
       between,
       z,
       at_z,
-      passed_start c.args.bytes.now c.args.members.now c.in_ok-fields.fields.items (fields_of c.read_byte_record.new.row) (left_from c.read_byte_record.new.self.state z) step c.in_ok-fields.ensures.empty,
+      passed_start c.args.bytes.now c.args.members.now c.in_ok-fields.fields.items (fields_of c.read_byte_record.new.row) (fields_of c.push_fields_of.new.all) (left_from c.read_byte_record.new.self.state z) step c.in_ok-fields.ensures.empty c.in_ok-push_fields_of.ensures.kept,
     )
 
 pub records-preserved : goal.records-preserved
 records-preserved c =
-    let (a, b, d, plain, ready, config, between, y, source, passed) = c.records.invariant in
+    let (w, a, b, d, plain, ready, config, between, y, source, passed) = c.records.invariant in
     let read = rw c.in-Ok-true-read_byte_record.field-0-test at (c.in-Ok-true-read_byte_record.ensures.reads plain ready) in
     let f = fields_of c.read_byte_record-in-records.new.row in
     let (z, at_z, next_between, step) = left-more (λ (s : Bor (List ℕ)). Some s.now) c.records.reader c.read_byte_record-in-records.new.self f y config source between read in (
+      c.in_ok-push_fields_of-in-records.ensures.whole,
       c.push_fields.ensures.long ∙ a,
       c.note_fields.ensures.decimals ∙ b,
       c.note_fields.ensures.turned ∙ d,
@@ -45,5 +47,5 @@ records-preserved c =
       next_between,
       z,
       at_z,
-      passed_more c.args.bytes.now c.args.members.now c.records.fields.items c.push_fields.new.columns.items c.records.earlier (left_from c.records.reader.state y) (left_from c.read_byte_record-in-records.new.self.state z) f passed step c.in_ok-push_fields.ensures.grows,
+      passed_more c.args.bytes.now c.args.members.now c.records.fields.items c.push_fields.new.columns.items c.records.earlier c.records.width (fields_of c.records.all) (fields_of c.push_fields_of-in-records.new.all) (left_from c.records.reader.state y) (left_from c.read_byte_record-in-records.new.self.state z) f passed step c.in_ok-push_fields.ensures.grows c.in_ok-push_fields_of-in-records.ensures.kept c.in_ok-check_record.ensures.long,
     )
