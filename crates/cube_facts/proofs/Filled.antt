@@ -1,5 +1,5 @@
 -- A fact file, record by record, and the core that it fills.
-use Rattle.std.proofs.Common.{◌≡◌, inl, inr, ℕ, zero, suc, ◌+◌, ◌*◌, ◌^◌, ◌<◌, ◌≤◌, Bool, true, false, cond, List, [], ◌∷◌, ◌++◌, length, map, filter, flat_map, get_or, Option, Some, None, Result, Ok, Err, ℤ, pos, All, refl, sym, ap, ap₂, subst, ◌∙◌, arith, ltb, length-append, sum, unwrap_or, eqb}
+use Rattle.std.proofs.Common.{◌≡◌, inl, inr, ℕ, zero, suc, ◌+◌, ◌*◌, ◌^◌, ◌<◌, ◌≤◌, Bool, true, false, cond, List, [], ◌∷◌, ◌++◌, length, map, filter, flat_map, get_or, Option, Some, None, Ok, Err, ℤ, pos, All, refl, sym, ap, ap₂, subst, ◌∙◌, arith, ltb, length-append, sum, unwrap_or, eqb}
 use Rattle.std.specs.List.{list_all, AllByRecursion}
 use Rattle.std.specs.Str.{bytes_eq}
 use Rattle.std.proofs.lemmas.Bool.{false≢true, lt-ltb, le-ltb, ltb-true, ltb-false, and_parts, and_right, false_from_ne_true}
@@ -26,6 +26,7 @@ use Rattle.cube_facts.specs.Records.{records_of}
 use Rattle.cube_facts.specs.FactFile.{Fact, field_in, leaf_in, units_in, leaves_of, fact_of, column_faults, own_faults, record_faults, most_points, points_in, facts_in, facts_of, points_of, facts_at, units_sum, shape_of, cube_of}
 use Rattle.cube_core.specs.Keys.{key_count}
 use Rattle.cube_core.proofs.Ranking.{IsWithin}
+use Rattle.cube_facts.specs.Blocks.{rest_of, Reads}
 use Rattle.cube_facts.specs.Filling.{Gathers, Fits, Orders, IsFact, AreFacts}
 use Rattle.cube_facts.specs.Table.{IsUnits}
 use Rattle.cube_facts.specs.declared.fault.FactsFault.{FactsFault}
@@ -35,10 +36,6 @@ use Rattle.cube_facts.proofs.Adding.{put_in_order, sums_of, rows_long, sum_read,
 use Rattle.cube_facts.proofs.Load.{unless_first}
 
 -- ---- what is left to say
-
--- what is left to say of a file behind some records without a fault
-abbrev pub rest_of : Dims → List (List ℕ) → List (List (List ℕ)) → List (List (List ℕ)) → Result (List Fact) FactsFault
-rest_of s header earlier left = unless (in_turn (record_faults s header) earlier left) (map (fact_of s header) (earlier ++ left))
 
 rest_more : (s : Dims) (header : List (List ℕ)) (earlier left : List (List (List ℕ))) (f : List (List ℕ)) → record_faults s header earlier f ≡ [] → rest_of s header earlier (f ∷ left) ≡ rest_of s header (earlier ++ f ∷ []) left
 rest_more s header earlier left f none = rw none (ap (λ (rows : List (List (List ℕ))). unless (in_turn (record_faults s header) (earlier ++ f ∷ []) left) (map (fact_of s header) rows)) (sym (append_assoc earlier (f ∷ []) left)))
@@ -69,14 +66,6 @@ start_whole : (s : Dims) (all : List (List (List ℕ))) (header : List (List ℕ
 start_whole s all header rows is none = rw (is, none) refl
 
 -- ---- the loop
-
--- how the file stands behind some records: what is left to say, and the points so far
-pub record Reads (s : Dims) (all : List (List (List ℕ))) (header : List (List ℕ)) (points : Points) (count : ℕ) (left : List (List (List ℕ))) : Type 0 where
-  pub earlier : List (List (List ℕ))
-  pub counted : count ≡ length earlier
-  pub whole : facts_in s all ≡ rest_of s header earlier left
-  pub facts : AreFacts s (map (fact_of s header) earlier)
-  pub gathers : Gathers s (map (fact_of s header) earlier) points
 
 pub reads_start : (s : Dims) (all : List (List (List ℕ))) (header : List (List ℕ)) (points : Points) (left : List (List (List ℕ)))
     → all ≡ header ∷ left → flat_map (column_faults header) (column_names s) ≡ [] → Gathers s [] points

@@ -11,3 +11,4 @@ pub mod Recent
 pub mod Adding
 pub mod Recorded
 pub mod Filled
+pub mod Awaiting

@@ -6,4 +6,5 @@ pub mod Table
 pub mod Known
 pub mod Unread
 pub mod Filling
+pub mod Blocks
 pub mod Examples

@@ -8,15 +8,13 @@ ghost use Rattle.cube_facts.specs.Filling.{AreFacts, Gathers};
 ghost use Rattle.cube_facts.specs.declared.fault.FactsFault.TheVariants as fault;
 
 use crate::FactsFault;
+use crate::blocks::{add_block, new_block, read_block};
 use crate::layout::Layout;
 use crate::records::{FileRecords, Records, has_second_mark};
 use crate::totals::Points;
 use csv::ByteRecord;
-use cube_model::{Cube, Dims, LimitKind, Recent, Shape};
+use cube_model::{Cube, Dims, Recent, Shape};
 use std::alloc::Global;
-
-// The most points.
-const MAX_POINTS: usize = 65_536;
 
 // How many slots there are for the leaves that were found last.
 const RECENT: usize = 16_384;
@@ -42,22 +40,26 @@ fn read_points<R: Records>(
     let mut points = Points::new(alloc, dims)?;
     let mut recent = Recent::none(alloc);
     recent.make_slots(alloc, RECENT)?;
-    let mut leaves = Vec::new(alloc);
-    let mut units = Vec::new(alloc);
-    'records: for earlier in 0..u64::MAX {
-        if !records.next_record(&mut row)? {
-            return Ok(points);
-        }
-        match layout.read_fact(alloc, &row, earlier, &mut recent, &mut leaves, &mut units) {
+    let mut block = new_block(alloc)?;
+    let mut earlier = 0u64;
+    'turns: for _turn in 0..u64::MAX {
+        let (many, ending) = read_block(
+            alloc,
+            &layout,
+            records,
+            &mut row,
+            earlier,
+            &mut recent,
+            &mut block,
+        );
+        match add_block(alloc, &mut points, earlier, &block[..many]) {
             Ok(()) => {}
             Err(fault) => return Err(fault),
         }
-        points.add(alloc, earlier, leaves.as_slice(), units.as_slice())?;
-        if points.len() > MAX_POINTS {
-            return Err(FactsFault::Limit {
-                which: LimitKind::Points,
-                number: MAX_POINTS as u64,
-            });
+        match ending {
+            Ok(true) => earlier += many as u64,
+            Ok(false) => return Ok(points),
+            Err(fault) => return Err(fault),
         }
     }
     Err(FactsFault::NoMemory)

@@ -1,6 +1,7 @@
 //! Fact files.
 #![tactic(auto)]
 
+mod blocks;
 mod fault;
 mod file;
 mod flat;
