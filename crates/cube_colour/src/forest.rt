@@ -1,9 +1,9 @@
 // Components of places, as a forest whose trees are merged by rank and whose changes can be undone.
-ghost use Rattle.std.specs.Prelude.{◌≡◌, ◌≢◌, ◌-◌, ◌^◌, ◌<◌, ◌==◌, ◌||◌, ◌+ℤ◌, pos, [], length, map, find, IfOk};
+ghost use Rattle.std.specs.Prelude.{◌≡◌, ◌≢◌, ◌-◌, ◌^◌, ◌<◌, ◌==◌, ◌||◌, ◌+ℤ◌, ℤ, pos, true, [], List, length, map, find, IfOk};
 ghost use Rattle.cube_model.specs.Cubes.{count_from};
 ghost use Rattle.cube_model.specs.LinkLaws.{entry, Suits, IsOfPlaces};
 ghost use Rattle.std.specs.List.{All};
-ghost use Rattle.cube_colour.specs.Forests.{alone, node_at, IsForest, IsRanked, IsChange, IsEffect, changed, restored, Labels, is_fixed, IsLabelled, AreGuarded, Does, fixes_guarded, relabelled, sign_beside, turned};
+ghost use Rattle.cube_colour.specs.Forests.{alone, node_at, IsForest, IsRanked, IsChange, IsEffect, changed, restored, Labels, Holds, is_fixed, IsLabelled, AreGuarded, Does, fixes_guarded, relabelled, sign_beside, turned};
 
 use cube_model::{Link, NoMemory};
 use std::alloc::Global;
@@ -14,11 +14,11 @@ use std::marker::Model;
 pub struct Node {
     /// The place above, or the place itself at a root.
     pub parent: u32,
+    /// At least the height of the tree below.
+    pub rank: u32,
     /// Whether the entry here is the opposite of the entry at the parent. A root that is its own
     /// opposite is 0: its whole component is fixed.
     pub opposite: bool,
-    /// At least the height of the tree below.
-    pub rank: u32,
     /// At a root, whether a place of the component is guarded.
     pub guarded: bool,
 }
@@ -190,6 +190,41 @@ impl Forest {
         }
     }
 
+    /// Whether two nodes alone tell that their places are opposite: one is the parent of the other,
+    /// or they have one parent. Most links that follow are told so, with no way up. Where it is not
+    /// so, nothing is told.
+    fn are_opposite(&self, one: u32, other: u32) -> bool
+        requires forest { IsForest self.now }
+        requires one { one < length self.now }
+        requires other { other < length self.now }
+        ensures { (l : Labels) → IsLabelled self.now l → (xs : List ℤ) → Holds (length self.now) l xs → result ≡ true → entry xs one +ℤ entry xs other ≡ pos 0 }
+    {
+        let first = self.nodes[one as usize];
+        let second = self.nodes[other as usize];
+        if first.parent == second.parent {
+            first.opposite != second.opposite
+        } else if first.parent == other {
+            first.opposite
+        } else {
+            second.parent == one && second.opposite
+        }
+    }
+
+    /// What two places do that have to be opposite.
+    fn pairing(&self, one: u32, other: u32) -> Effect
+        requires forest { IsForest self.now }
+        requires one { one < length self.now }
+        requires other { other < length self.now }
+        ensures fits { IsEffect self.now result }
+        ensures does { (l : Labels) → IsLabelled self.now l → Does (length self.now) l (λ xs. entry xs one +ℤ entry xs other ≡ pos 0) result }
+    {
+        if self.are_opposite(one, other) {
+            Effect::Follows
+        } else {
+            self.tying(self.find(one), self.find(other))
+        }
+    }
+
     /// What a link does to the components.
     pub fn effect(&self, link: Link) -> Effect
         requires forest { IsForest self.now }
@@ -198,7 +233,7 @@ impl Forest {
         ensures does { (l : Labels) → IsLabelled self.now l → Does (length self.now) l (λ xs. Suits xs link) result }
     {
         match link {
-            Link::Pair(one, other) => self.tying(self.find(one), self.find(other)),
+            Link::Pair(one, other) => self.pairing(one, other),
             Link::Single(place) => self.fixing(self.find(place).root),
         }
     }
