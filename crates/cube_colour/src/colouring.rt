@@ -110,9 +110,10 @@ impl Colouring {
         }
     }
 
-    /// Adds a link, unless it follows. Where it would fix guarded places, it is not added, and the
-    /// answer is the first of these.
-    fn add(&mut self, link: Link) -> Result<Option<u32>, NoMemory>
+    /// Adds a link, unless it follows, by the ways up from its places. Where it would fix guarded
+    /// places, it is not added, and the answer is the first of these.
+    #[inline(never)]
+    fn grow(&mut self, link: Link) -> Result<Option<u32>, NoMemory>
         requires { IsOfPlaces self.old.places link }
         ensures grows { IfOk result (Grows self.old self.new link) }
         ensures err { OnErr result (self.new ≡ self.old) }
@@ -128,6 +129,21 @@ impl Colouring {
         self.steps.push(Step { link, saved })?;
         self.forest.change(change);
         Ok(None)
+    }
+
+    /// Adds a link, unless it follows. Where it would fix guarded places, it is not added, and the
+    /// answer is the first of these. Links that a look at two nodes tells to follow, the most of those
+    /// in a long journal, are passed over at once.
+    #[inline(always)]
+    fn add(&mut self, link: Link) -> Result<Option<u32>, NoMemory>
+        requires { IsOfPlaces self.old.places link }
+        ensures grows { IfOk result (Grows self.old self.new link) }
+        ensures err { OnErr result (self.new ≡ self.old) }
+    {
+        if self.forest.tells(link) {
+            return Ok(None);
+        }
+        self.grow(link)
     }
 
     /// Adds links, all or none of them. Takes a logarithm of the number of places for each link,

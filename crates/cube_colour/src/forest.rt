@@ -191,8 +191,7 @@ impl Forest {
     }
 
     /// Whether two nodes alone tell that their places are opposite: one is the parent of the other,
-    /// or they have one parent. Most links that follow are told so, with no way up. Where it is not
-    /// so, nothing is told.
+    /// or they have one parent. Where it is not so, nothing is told.
     fn are_opposite(&self, one: u32, other: u32) -> bool
         requires forest { IsForest self.now }
         requires one { one < length self.now }
@@ -210,18 +209,16 @@ impl Forest {
         }
     }
 
-    /// What two places do that have to be opposite.
-    fn pairing(&self, one: u32, other: u32) -> Effect
+    /// Whether a look at two nodes, with no way up, tells that a link follows. Most links that follow
+    /// are told so. Where it is not so, nothing is told.
+    pub fn tells(&self, link: Link) -> bool
         requires forest { IsForest self.now }
-        requires one { one < length self.now }
-        requires other { other < length self.now }
-        ensures fits { IsEffect self.now result }
-        ensures does { (l : Labels) → IsLabelled self.now l → Does (length self.now) l (λ xs. entry xs one +ℤ entry xs other ≡ pos 0) result }
+        requires link { IsOfPlaces (length self.now) link }
+        ensures { (l : Labels) → IsLabelled self.now l → (xs : List ℤ) → Holds (length self.now) l xs → result ≡ true → Suits xs link }
     {
-        if self.are_opposite(one, other) {
-            Effect::Follows
-        } else {
-            self.tying(self.find(one), self.find(other))
+        match link {
+            Link::Pair(one, other) => self.are_opposite(one, other),
+            Link::Single(_) => false,
         }
     }
 
@@ -233,7 +230,7 @@ impl Forest {
         ensures does { (l : Labels) → IsLabelled self.now l → Does (length self.now) l (λ xs. Suits xs link) result }
     {
         match link {
-            Link::Pair(one, other) => self.pairing(one, other),
+            Link::Pair(one, other) => self.tying(self.find(one), self.find(other)),
             Link::Single(place) => self.fixing(self.find(place).root),
         }
     }
