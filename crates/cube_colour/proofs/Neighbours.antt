@@ -38,10 +38,10 @@ module _ (nodes : List Node) (forest : IsForest nodes) (l : Labels) (labelled : 
   above i li = ⊎_elim
       (λ (e : (node_at nodes i).parent ≡ i). at_root i li e (node_at nodes i).opposite refl ∙ ap (λ (j : ℕ). turned (node_at nodes i).opposite (entry xs j)) (sym e))
       (λ (e : (node_at nodes i).parent ≢ i).
-          let here = labelled.child i li e in
-          let parent = (node_at nodes i).parent in
-          holds.tied i li ∙ ap (λ (b : Bool). turned b (entry xs (l.root i))) here.opposite ∙ sym (turned_twice (node_at nodes i).opposite (l.opposite parent) (entry xs (l.root i)))
-          ∙ ap (λ (j : ℕ). turned (node_at nodes i).opposite (turned (l.opposite parent) (entry xs j))) (sym here.root) ∙ ap (turned (node_at nodes i).opposite) (sym (holds.tied parent (forest.node i li).below)))
+      let here = labelled.child i li e in
+      let parent = (node_at nodes i).parent in
+      holds.tied i li ∙ ap (λ (b : Bool). turned b (entry xs (l.root i))) here.opposite ∙ sym (turned_twice (node_at nodes i).opposite (l.opposite parent) (entry xs (l.root i)))
+      ∙ ap (λ (j : ℕ). turned (node_at nodes i).opposite (turned (l.opposite parent) (entry xs j))) (sym here.root) ∙ ap (turned (node_at nodes i).opposite) (sym (holds.tied parent (forest.node i li).below)))
       (cases_eq (node_at nodes i).parent i)
 
   -- two places with one parent, and different signs of its entry
