@@ -7,3 +7,4 @@ pub mod Nodes
 pub mod Searches
 pub mod Signs
 pub mod Starts
+pub mod Weights

@@ -3,7 +3,7 @@ ghost use Rattle.std.specs.Prelude.{◌≡◌, ◌≢◌, ◌-◌, ◌^◌, ◌<
 ghost use Rattle.cube_model.specs.Cubes.{count_from};
 ghost use Rattle.cube_model.specs.LinkLaws.{entry, Suits, IsOfPlaces};
 ghost use Rattle.std.specs.List.{All};
-ghost use Rattle.cube_colour.specs.Forests.{alone, node_at, IsForest, IsRanked, IsChange, IsEffect, changed, restored, Labels, Holds, is_fixed, IsLabelled, AreGuarded, Does, fixes_guarded, relabelled, sign_beside, turned};
+ghost use Rattle.cube_colour.specs.Forests.{alone, node_at, IsForest, HasRoom, IsChange, IsEffect, changed, restored, Labels, Holds, is_fixed, IsLabelled, AreGuarded, Does, fixes_guarded, relabelled, sign_beside, turned};
 
 use cube_model::{Link, NoMemory};
 use std::alloc::Global;
@@ -14,8 +14,9 @@ use std::marker::Model;
 pub struct Node {
     /// The place above, or the place itself at a root.
     pub parent: u32,
-    /// At least the height of the tree below.
-    pub rank: u32,
+    /// At least the height of the tree below. It is small, since a tree of a higher rank has twice
+    /// as many places.
+    pub rank: u8,
     /// Whether the entry here is the opposite of the entry at the parent. A root that is its own
     /// opposite is 0: its whole component is fixed.
     pub opposite: bool,
@@ -264,7 +265,7 @@ impl Forest {
 
     /// Puts one root below another.
     fn join(&mut self, child: u32, parent: u32, opposite: bool)
-        requires room { IsRanked (2 ^ 32 - 2) self.old }
+        requires room { (node_at self.old child).rank < 2 ^ 8 - 1 }
         requires child { child < length self.old }
         requires parent { parent < length self.old }
         ensures { self.new ≡ changed (Change.Join child parent opposite) self.old }
@@ -286,7 +287,7 @@ impl Forest {
 
     /// Makes a change.
     pub fn change(&mut self, change: Change)
-        requires room { IsRanked (2 ^ 32 - 2) self.old }
+        requires room { HasRoom self.old change }
         requires change { IsChange self.old change }
         ensures { self.new ≡ changed change self.old }
     {
