@@ -1,6 +1,6 @@
 -- What one node says of the entries of its place and of the place above.
 use Rattle.std.specs.Bool.{beq}
-use Rattle.std.proofs.Common.{◌≡◌, ◌≢◌, ℕ, ◌<◌, Bool, true, false, not, List, length, get_or, ℤ, pos, ◌+ℤ◌, refl, sym, ap, ◌∙◌, subst, arith, ⊎_elim}
+use Rattle.std.proofs.Common.{◌≡◌, ◌≢◌, ℕ, ◌<◌, Bool, true, false, not, List, length, get_or, ℤ, pos, ◌+ℤ◌, refl, sym, ap, ap₂, ◌∙◌, subst, arith, ⊎_elim}
 use Rattle.std.proofs.lemmas.Bool.{cases_eq}
 use Rattle.std.proofs.lemmas.Int.{ints}
 use Rattle.std.proofs.lemmas.List.{get_or_default}
@@ -15,6 +15,13 @@ differ true true x y z e f ne = absurd cc
 differ true false x y z e f ne = omega (arith, ints)
 differ false true x y z e f ne = omega (arith, ints)
 differ false false x y z e f ne = absurd cc
+
+-- a sign turned twice
+unlike : (a b : Bool) (z : ℤ) → turned a (turned b z) ≡ turned (not (beq a b)) z
+unlike true true z = omega (arith, ints)
+unlike true false z = refl
+unlike false true z = refl
+unlike false false z = refl
 
 -- an entry with the opposite sign of the other
 turns : (a : Bool) (x y : ℤ) → x ≡ turned a y → a ≡ true → x +ℤ y ≡ pos 0
@@ -56,3 +63,23 @@ module _ (nodes : List Node) (forest : IsForest nodes) (l : Labels) (labelled : 
   below i j node li e up t =
       let here = subst (λ (x : Node). entry xs i ≡ turned x.opposite (entry xs x.parent)) (sym e) (above i li) in
       turns node.opposite (entry xs i) (entry xs j) (here ∙ ap (λ (k : ℕ). turned node.opposite (entry xs k)) up) t
+
+  -- two places whose parents have one parent
+  pub cousins : (first second upper other : Node) → first.parent < length nodes → second.parent < length nodes → upper ≡ node_at nodes first.parent → other ≡ node_at nodes second.parent → upper.parent ≡ other.parent → not (beq (not (beq first.opposite upper.opposite)) (not (beq second.opposite other.opposite))) ≡ true → turned first.opposite (entry xs first.parent) +ℤ turned second.opposite (entry xs second.parent) ≡ pos 0
+  cousins first second upper other lp lq e f same ne =
+      let up = subst (λ (x : Node). entry xs first.parent ≡ turned x.opposite (entry xs x.parent)) (sym e) (above first.parent lp) in
+      let beside = subst (λ (x : Node). entry xs second.parent ≡ turned x.opposite (entry xs x.parent)) (sym f) (above second.parent lq) in
+      differ (not (beq first.opposite upper.opposite)) (not (beq second.opposite other.opposite)) (turned first.opposite (entry xs first.parent)) (turned second.opposite (entry xs second.parent)) (entry xs other.parent)
+      (ap (turned first.opposite) (up ∙ ap (λ (k : ℕ). turned upper.opposite (entry xs k)) same) ∙ unlike first.opposite upper.opposite (entry xs other.parent))
+      (ap (turned second.opposite) beside ∙ unlike second.opposite other.opposite (entry xs other.parent)) ne
+
+  -- the entries of two places, by their nodes
+  pub both_above : (i j : ℕ) (first second : Node) → i < length nodes → j < length nodes → first ≡ node_at nodes i → second ≡ node_at nodes j → turned first.opposite (entry xs first.parent) +ℤ turned second.opposite (entry xs second.parent) ≡ pos 0 → entry xs i +ℤ entry xs j ≡ pos 0
+  both_above i j first second li lj e f sum =
+      let one = subst (λ (x : Node). entry xs i ≡ turned x.opposite (entry xs x.parent)) (sym e) (above i li) in
+      let other = subst (λ (x : Node). entry xs j ≡ turned x.opposite (entry xs x.parent)) (sym f) (above j lj) in
+      ap₂ (λ (x y : ℤ). x +ℤ y) one other ∙ sum
+
+-- the node above a node that was read is a node
+pub parent_below : (nodes : List Node) (i : ℕ) (node : Node) → IsForest nodes → i < length nodes → node ≡ node_at nodes i → node.parent < length nodes
+parent_below nodes i node forest lt e = subst (λ (x : Node). x.parent < length nodes) (sym e) (forest.node i lt).below

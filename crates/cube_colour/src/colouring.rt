@@ -131,7 +131,7 @@ impl Colouring {
         Ok(None)
     }
 
-    /// Whether a look at two nodes tells that a link follows, and so does not change a colouring.
+    /// Whether a look at few nodes tells that a link follows, and so does not change a colouring.
     /// Where it is not so, nothing is told.
     #[inline(always)]
     fn passes(&self, link: Link) -> bool
@@ -143,7 +143,7 @@ impl Colouring {
 
     /// Adds links, all or none of them. Takes a logarithm of the number of places for each link,
     /// whatever is kept, and looks through the guarded places once where it stops. Of a long journal
-    /// most links follow, and most of these are passed over after a look at two nodes.
+    /// most links follow, and most of these are passed over after a look at few nodes.
     pub fn try_add(&mut self, _alloc: Global, links: &LinkList) -> Result<Added, NoMemory>
         requires of_places { AreOfPlaces self.old.places links.now }
         requires few { length links.now < 2 ^ 32 }

@@ -191,8 +191,23 @@ impl Forest {
         }
     }
 
-    /// Whether two nodes alone tell that their places are opposite: one is the parent of the other,
-    /// or they have one parent. Where it is not so, nothing is told.
+    /// Whether the nodes above two nodes tell that the places of these are opposite: they have one
+    /// parent. Where it is not so, nothing is told.
+    fn meet_above(&self, first: Node, second: Node) -> bool
+        requires forest { IsForest self.now }
+        requires first { first.parent < length self.now }
+        requires second { second.parent < length self.now }
+        ensures { (l : Labels) → IsLabelled self.now l → (xs : List ℤ) → Holds (length self.now) l xs → result ≡ true → turned first.opposite (entry xs first.parent) +ℤ turned second.opposite (entry xs second.parent) ≡ pos 0 }
+    {
+        let upper = self.nodes[first.parent as usize];
+        let other = self.nodes[second.parent as usize];
+        upper.parent == other.parent
+            && (first.opposite != upper.opposite) != (second.opposite != other.opposite)
+    }
+
+    /// Whether two nodes, and those above them, tell that their places are opposite: one is the
+    /// parent of the other, or they have one parent, or their parents have. Where it is not so,
+    /// nothing is told.
     fn are_opposite(&self, one: u32, other: u32) -> bool
         requires forest { IsForest self.now }
         requires one { one < length self.now }
@@ -205,13 +220,15 @@ impl Forest {
             first.opposite != second.opposite
         } else if first.parent == other {
             first.opposite
+        } else if second.parent == one {
+            second.opposite
         } else {
-            second.parent == one && second.opposite
+            self.meet_above(first, second)
         }
     }
 
-    /// Whether a look at two nodes, with no way up, tells that a link follows. Most links that follow
-    /// are told so. Where it is not so, nothing is told.
+    /// Whether two nodes and those above them tell that a link follows. Most links that follow are
+    /// told so, with no way up to the roots. Where it is not so, nothing is told.
     pub fn tells(&self, link: Link) -> bool
         requires forest { IsForest self.now }
         requires link { IsOfPlaces (length self.now) link }
