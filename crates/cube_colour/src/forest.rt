@@ -191,18 +191,20 @@ impl Forest {
         }
     }
 
-    /// Whether the nodes above two nodes tell that the places of these are opposite: they have one
+    /// Whether the nodes above those of two places tell that the places are opposite: they have one
     /// parent. Where it is not so, nothing is told.
-    fn meet_above(&self, first: Node, second: Node) -> bool
+    fn meet_above(&self, one: u32, other: u32) -> bool
         requires forest { IsForest self.now }
-        requires first { first.parent < length self.now }
-        requires second { second.parent < length self.now }
-        ensures { (l : Labels) → IsLabelled self.now l → (xs : List ℤ) → Holds (length self.now) l xs → result ≡ true → turned first.opposite (entry xs first.parent) +ℤ turned second.opposite (entry xs second.parent) ≡ pos 0 }
+        requires one { one < length self.now }
+        requires other { other < length self.now }
+        ensures { (l : Labels) → IsLabelled self.now l → (xs : List ℤ) → Holds (length self.now) l xs → result ≡ true → entry xs one +ℤ entry xs other ≡ pos 0 }
     {
+        let first = self.nodes[one as usize];
+        let second = self.nodes[other as usize];
         let upper = self.nodes[first.parent as usize];
-        let other = self.nodes[second.parent as usize];
-        upper.parent == other.parent
-            && (first.opposite != upper.opposite) != (second.opposite != other.opposite)
+        let beside = self.nodes[second.parent as usize];
+        upper.parent == beside.parent
+            && (first.opposite != upper.opposite) != (second.opposite != beside.opposite)
     }
 
     /// Whether two nodes, and those above them, tell that their places are opposite: one is the
@@ -223,7 +225,7 @@ impl Forest {
         } else if second.parent == one {
             second.opposite
         } else {
-            self.meet_above(first, second)
+            self.meet_above(one, other)
         }
     }
 

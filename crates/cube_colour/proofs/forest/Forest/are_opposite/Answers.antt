@@ -1,6 +1,6 @@
 use Rattle.std.proofs.Common.{arith}
 use Rattle.std.proofs.lemmas.Int.{ints}
-use Rattle.cube_colour.proofs.Neighbours.{read, siblings, below, both_above, parent_below}
+use Rattle.cube_colour.proofs.Neighbours.{read, siblings, below}
 use Rattle.cube_colour.proofs.forest.Forest.are_opposite.Goals as goal
 
 pub returns-then-first-second : goal.returns-then-first-second
@@ -20,20 +20,3 @@ returns-then-second-one c l labelled xs holds e =
     let second = read c.self.inside.nodes.items c.args.self.now c.args.other c.index-second.result.now c.self.view_is c.requires.other c.index-second.ensures in
     let tied = below c.args.self.now c.requires.forest l labelled xs holds c.args.other c.args.one c.index-second.result.now c.requires.other second c.if-second-one.true e in
     omega (arith, ints, tied)
-
-pub meet_above-requires-clause-first : goal.meet_above-requires-clause-first
-meet_above-requires-clause-first c =
-    let first = read c.self.inside.nodes.items c.args.self.now c.args.one c.index-first.result.now c.self.view_is c.requires.one c.index-first.ensures in
-    parent_below c.args.self.now c.args.one c.index-first.result.now c.requires.forest c.requires.one first
-
-pub meet_above-requires-clause-second : goal.meet_above-requires-clause-second
-meet_above-requires-clause-second c =
-    let second = read c.self.inside.nodes.items c.args.self.now c.args.other c.index-second.result.now c.self.view_is c.requires.other c.index-second.ensures in
-    parent_below c.args.self.now c.args.other c.index-second.result.now c.requires.forest c.requires.other second
-
-pub returns-else-second-one : goal.returns-else-second-one
-returns-else-second-one c l labelled xs holds e =
-    let nodes = c.self.inside.nodes.items in
-    let first = read nodes c.args.self.now c.args.one c.index-first.result.now c.self.view_is c.requires.one c.index-first.ensures in
-    let second = read nodes c.args.self.now c.args.other c.index-second.result.now c.self.view_is c.requires.other c.index-second.ensures in
-    both_above c.args.self.now c.requires.forest l labelled xs holds c.args.one c.args.other c.index-first.result.now c.index-second.result.now c.requires.one c.requires.other first second (c.meet_above.ensures l labelled xs holds e)
