@@ -20,12 +20,13 @@ use Rattle.cube_colour.specs.declared.forest.Effect.TheVariants.{Follows, Change
 use Rattle.cube_colour.specs.declared.forest.Saved.{Saved}
 use Rattle.cube_colour.specs.declared.step.Step.{Step}
 use Rattle.cube_colour.specs.Colourings.{IsColouring}
-use Rattle.cube_colour.specs.Forests.{alone, IsNode, IsRanked, IsForest, IsChange, changed, restored, Labels, is_fixed, IsLabelled, AreLabels, AreGuarded, relabelled, Does}
+use Rattle.cube_colour.specs.Forests.{alone, IsNode, IsRanked, IsForest, IsChange, HasRoom, changed, restored, Labels, is_fixed, IsLabelled, AreLabels, AreGuarded, relabelled, Does}
 use Rattle.cube_colour.specs.Steps.{links_of, undone, IsGrown, IsStep, Stands}
 use Rattle.cube_colour.proofs.Components.{AreRoots, free_labels, follows_true, follows_false, labels_more}
 use Rattle.cube_colour.proofs.Guards.{fixed_first, guarded_after}
 use Rattle.cube_colour.proofs.Nodes.{change_ranked, change_labelled, change_long}
 use Rattle.cube_colour.proofs.Starts.{lone_at, lone_long}
+use Rattle.cube_colour.proofs.Weights.{lone_weight, change_weight, weight_room}
 
 -- what holds of each element, at one of them
 pub All-member : {X : Type 0} (P : X → Type 0) (x : X) (xs : List X) → All P xs → IsIn x xs → P x
@@ -75,6 +76,7 @@ pub grown_start : (n : ℕ) (guards : List ℕ) → IsGrown n guards [] (map (al
 grown_start n guards = record {
   long = lone_long guards n;
   ranked = record { node = λ i li. node i (omega (arith, li, lone_long guards n)) };
+  light = (let e = lone_weight guards 0 n in omega (arith, e));
   labels = labels;
   labelled = record {
     root = λ i li e. let at = lone_at guards n i (omega (arith, li, lone_long guards n)) in record { root = refl; same = refl; fixed = ap (λ (x : Node). x.opposite) at; guarded = ap (λ (x : Node). x.guarded) at };
@@ -177,10 +179,8 @@ module _ (n : ℕ) (guards : List ℕ) (steps : List Step) (nodes : List Node) (
     pub longer : basis n (links_of steps ++ link ∷ []) ≡ links_of steps ++ link ∷ []
     longer = basis_more n (links_of steps) link stands.own_basis not_follows
 
-    pub room : n < 2 ^ 32 → IsRanked (2 ^ 32 - 2) nodes
-    room lt = let s : length (links_of steps ++ link ∷ []) ≤ n = basis_short n (links_of steps ++ link ∷ []) longer in
-        let e : length (links_of steps ++ link ∷ []) ≡ length (links_of steps) + 1 = length-append (links_of steps) (link ∷ []) in
-        weaker (length (links_of steps)) (2 ^ 32 - 2) nodes (omega arith) grown.ranked
+    pub room : n < 2 ^ 32 → HasRoom nodes change
+    room lt = weight_room nodes change n fits grown.light lt
 
     pub stands_more : (saved : Saved) → IsOfPlaces n link → restored saved (changed change nodes) ≡ nodes → saved.first < length nodes → saved.second < length nodes → ((l : Labels) → IsLabelled nodes l → AreGuarded guards l → None ≡ find (is_fixed (relabelled change l)) guards) → Stands n guards (steps ++ record { link = link; saved = saved } ∷ []) (changed change nodes)
     stands_more saved of back first second none = record {
@@ -211,6 +211,7 @@ module _ (n : ℕ) (guards : List ℕ) (steps : List Step) (nodes : List Node) (
         now = record {
           long = change_long nodes change fits ∙ grown.long;
           ranked = weaker (suc (length (links_of steps))) (length (links_of steps ++ link ∷ [])) (changed change nodes) (omega (arith, length-append (links_of steps) (link ∷ []))) (change_ranked nodes change (length (links_of steps)) fits grown.ranked);
+          light = (let less = change_weight nodes change fits in omega (arith, less, grown.light));
           labels = relabelled change grown.labels;
           labelled = change_labelled nodes change grown.labels fits grown.labelled;
           are_labels = more;

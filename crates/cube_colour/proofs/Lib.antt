@@ -2,7 +2,9 @@ pub mod Adding
 pub mod Components
 pub mod Guards
 pub mod History
+pub mod Neighbours
 pub mod Nodes
 pub mod Searches
 pub mod Signs
 pub mod Starts
+pub mod Weights

@@ -1,6 +1,6 @@
 -- What the nodes of a forest say of the components of places, and what components say of lists that suit links.
 use Rattle.std.specs.Bool.{xor, beq}
-use Rattle.std.specs.Prelude.{◌≡◌, ◌≢◌, ℕ, ◌+◌, ◌<◌, ◌≤◌, max, Bool, true, false, ◌&&◌, ◌||◌, ◌==◌, ◌↔◌, List, length, slice_index_or, slice_set, if◌then◌else◌, ℤ, pos, negsuc, neg_ℤ}
+use Rattle.std.specs.Prelude.{◌≡◌, ◌≢◌, ℕ, suc, ◌+◌, ◌-◌, ◌^◌, ◌<◌, ◌≤◌, max, Bool, true, false, ◌&&◌, ◌||◌, ◌==◌, ◌↔◌, List, [], ◌∷◌, length, slice_index_or, slice_set, if◌then◌else◌, ℤ, pos, negsuc, neg_ℤ}
 use Rattle.cube_model.specs.declared.link.Link.{Link}
 use Rattle.cube_model.specs.Cubes.{IsIn, Each}
 use Rattle.cube_model.specs.LinkLaws.{entry, IsSmall, SuitsAll}
@@ -37,6 +37,17 @@ pub record IsRanked (most : ℕ) (nodes : List Node) : Type 0 where
 abbrev pub IsForest : List Node → Type 0
 IsForest nodes = IsRanked (length nodes) nodes
 
+-- ---- ranks are small
+
+-- two to the power of its rank for each root, and nothing for another node
+abbrev pub rooted : ℕ → Node → ℕ
+rooted i node = if node.parent == i then 2 ^ node.rank else 0
+
+-- the weight of nodes, the first of which is that of a place
+abbrev pub weight : ℕ → List Node → ℕ
+weight i [] = 0
+weight i (node ∷ nodes) = rooted i node + weight (suc i) nodes
+
 -- ---- changes of nodes
 
 -- a root over another one
@@ -56,6 +67,11 @@ restored saved nodes = slice_set (slice_set nodes saved.second saved.second_node
 abbrev pub IsChange : List Node → Change → Type 0
 IsChange nodes (Fix root) = (root < length nodes) × ((node_at nodes root).parent ≡ root)
 IsChange nodes (Join child parent opposite) = (child < length nodes) × (parent < length nodes) × (child ≢ parent) × ((node_at nodes child).parent ≡ child) × ((node_at nodes parent).parent ≡ parent) × ((node_at nodes child).rank ≤ (node_at nodes parent).rank)
+
+-- a rank that may grow by one
+abbrev pub HasRoom : List Node → Change → Type 0
+HasRoom nodes (Fix root) = Unit {0}
+HasRoom nodes (Join child parent opposite) = (node_at nodes child).rank < 2 ^ 8 - 1
 
 abbrev pub IsEffect : List Node → Effect → Type 0
 IsEffect nodes Follows = Unit {0}

@@ -6,7 +6,7 @@ use Rattle.cube_model.specs.LinkLaws.{AreOfPlaces}
 use Rattle.cube_model.specs.Links.{basis}
 use Rattle.cube_colour.specs.declared.forest.Node.{Node}
 use Rattle.cube_colour.specs.declared.step.Step.{Step}
-use Rattle.cube_colour.specs.Forests.{IsRanked, Labels, IsLabelled, AreLabels, AreGuarded, restored}
+use Rattle.cube_colour.specs.Forests.{IsRanked, weight, Labels, IsLabelled, AreLabels, AreGuarded, restored}
 
 -- the links of steps
 abbrev pub links_of : List Step → List Link
@@ -17,10 +17,11 @@ abbrev pub undone : List Step → List Node → List Node
 undone [] nodes = nodes
 undone (step ∷ steps) nodes = restored step.saved (undone steps nodes)
 
--- the nodes are those of the links kept, and these leave each guarded place free
+-- the nodes are those of the links kept, and these leave each guarded place free; trees of a high rank are large, so their weight is at most the number of places
 pub record IsGrown (n : ℕ) (guards : List ℕ) (kept : List Link) (nodes : List Node) : Type 0 where
   pub long : length nodes ≡ n
   pub ranked : IsRanked (length kept) nodes
+  pub light : weight 0 nodes ≤ n
   pub labels : Labels
   pub labelled : IsLabelled nodes labels
   pub are_labels : AreLabels n kept labels

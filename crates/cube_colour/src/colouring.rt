@@ -6,7 +6,7 @@ ghost use Rattle.cube_model.specs.LinkLaws.{AreOfPlaces, IsOfPlaces, ends};
 ghost use Rattle.cube_model.specs.Links as model;
 ghost use Rattle.cube_model.specs.Twins.{by_walks};
 ghost use Rattle.cube_colour.specs.Colourings.{IsColouring};
-ghost use Rattle.cube_colour.specs.Outcomes.{Adds, Grows};
+ghost use Rattle.cube_colour.specs.Outcomes.{Adds, Grows, IsGrown};
 
 use crate::forest::{Effect, Forest};
 use crate::step::Step;
@@ -110,8 +110,9 @@ impl Colouring {
         }
     }
 
-    /// Adds a link, unless it follows. Where it would fix guarded places, it is not added, and the
-    /// answer is the first of these.
+    /// Adds a link, unless it follows, by the ways up from its places. Where it would fix guarded
+    /// places, it is not added, and the answer is the first of these.
+    #[inline(never)]
     fn add(&mut self, link: Link) -> Result<Option<u32>, NoMemory>
         requires { IsOfPlaces self.old.places link }
         ensures grows { IfOk result (Grows self.old self.new link) }
@@ -130,8 +131,19 @@ impl Colouring {
         Ok(None)
     }
 
+    /// Whether a look at few nodes tells that a link follows, and so does not change a colouring.
+    /// Where it is not so, nothing is told.
+    #[inline(always)]
+    fn passes(&self, link: Link) -> bool
+        requires { IsOfPlaces self.now.places link }
+        ensures { result ≡ true → IsGrown self.now self.now link }
+    {
+        self.forest.tells(link)
+    }
+
     /// Adds links, all or none of them. Takes a logarithm of the number of places for each link,
-    /// whatever is kept, and looks through the guarded places once where it stops.
+    /// whatever is kept, and looks through the guarded places once where it stops. Of a long journal
+    /// most links follow, and most of these are passed over after a look at few nodes.
     pub fn try_add(&mut self, _alloc: Global, links: &LinkList) -> Result<Added, NoMemory>
         requires of_places { AreOfPlaces self.old.places links.now }
         requires few { length links.now < 2 ^ 32 }
@@ -140,6 +152,9 @@ impl Colouring {
     {
         let mark = self.mark();
         'links: for (number, link) in links.as_slice().iter().enumerate() {
+            if self.passes(*link) {
+                continue;
+            }
             match self.add(*link) {
                 Ok(None) => {}
                 Ok(Some(place)) => {

@@ -1,9 +1,9 @@
 // Components of places, as a forest whose trees are merged by rank and whose changes can be undone.
-ghost use Rattle.std.specs.Prelude.{◌≡◌, ◌≢◌, ◌-◌, ◌^◌, ◌<◌, ◌==◌, ◌||◌, ◌+ℤ◌, pos, [], length, map, find, IfOk};
+ghost use Rattle.std.specs.Prelude.{◌≡◌, ◌≢◌, ◌-◌, ◌^◌, ◌<◌, ◌==◌, ◌||◌, ◌+ℤ◌, ℤ, pos, true, [], List, length, map, find, IfOk};
 ghost use Rattle.cube_model.specs.Cubes.{count_from};
 ghost use Rattle.cube_model.specs.LinkLaws.{entry, Suits, IsOfPlaces};
 ghost use Rattle.std.specs.List.{All};
-ghost use Rattle.cube_colour.specs.Forests.{alone, node_at, IsForest, IsRanked, IsChange, IsEffect, changed, restored, Labels, is_fixed, IsLabelled, AreGuarded, Does, fixes_guarded, relabelled, sign_beside, turned};
+ghost use Rattle.cube_colour.specs.Forests.{alone, node_at, IsForest, HasRoom, IsChange, IsEffect, changed, restored, Labels, Holds, is_fixed, IsLabelled, AreGuarded, Does, fixes_guarded, relabelled, sign_beside, turned};
 
 use cube_model::{Link, NoMemory};
 use std::alloc::Global;
@@ -14,11 +14,12 @@ use std::marker::Model;
 pub struct Node {
     /// The place above, or the place itself at a root.
     pub parent: u32,
+    /// At least the height of the tree below. It is small, since a tree of a higher rank has twice
+    /// as many places.
+    pub rank: u8,
     /// Whether the entry here is the opposite of the entry at the parent. A root that is its own
     /// opposite is 0: its whole component is fixed.
     pub opposite: bool,
-    /// At least the height of the tree below.
-    pub rank: u32,
     /// At a root, whether a place of the component is guarded.
     pub guarded: bool,
 }
@@ -190,6 +191,57 @@ impl Forest {
         }
     }
 
+    /// Whether the nodes above those of two places tell that the places are opposite: they have one
+    /// parent. Where it is not so, nothing is told.
+    fn meet_above(&self, one: u32, other: u32) -> bool
+        requires forest { IsForest self.now }
+        requires one { one < length self.now }
+        requires other { other < length self.now }
+        ensures { (l : Labels) → IsLabelled self.now l → (xs : List ℤ) → Holds (length self.now) l xs → result ≡ true → entry xs one +ℤ entry xs other ≡ pos 0 }
+    {
+        let first = self.nodes[one as usize];
+        let second = self.nodes[other as usize];
+        let upper = self.nodes[first.parent as usize];
+        let beside = self.nodes[second.parent as usize];
+        upper.parent == beside.parent
+            && (first.opposite != upper.opposite) != (second.opposite != beside.opposite)
+    }
+
+    /// Whether two nodes, and those above them, tell that their places are opposite: one is the
+    /// parent of the other, or they have one parent, or their parents have. Where it is not so,
+    /// nothing is told.
+    fn are_opposite(&self, one: u32, other: u32) -> bool
+        requires forest { IsForest self.now }
+        requires one { one < length self.now }
+        requires other { other < length self.now }
+        ensures { (l : Labels) → IsLabelled self.now l → (xs : List ℤ) → Holds (length self.now) l xs → result ≡ true → entry xs one +ℤ entry xs other ≡ pos 0 }
+    {
+        let first = self.nodes[one as usize];
+        let second = self.nodes[other as usize];
+        if first.parent == second.parent {
+            first.opposite != second.opposite
+        } else if first.parent == other {
+            first.opposite
+        } else if second.parent == one {
+            second.opposite
+        } else {
+            self.meet_above(one, other)
+        }
+    }
+
+    /// Whether two nodes and those above them tell that a link follows. Most links that follow are
+    /// told so, with no way up to the roots. Where it is not so, nothing is told.
+    pub fn tells(&self, link: Link) -> bool
+        requires forest { IsForest self.now }
+        requires link { IsOfPlaces (length self.now) link }
+        ensures { (l : Labels) → IsLabelled self.now l → (xs : List ℤ) → Holds (length self.now) l xs → result ≡ true → Suits xs link }
+    {
+        match link {
+            Link::Pair(one, other) => self.are_opposite(one, other),
+            Link::Single(_) => false,
+        }
+    }
+
     /// What a link does to the components.
     pub fn effect(&self, link: Link) -> Effect
         requires forest { IsForest self.now }
@@ -232,7 +284,7 @@ impl Forest {
 
     /// Puts one root below another.
     fn join(&mut self, child: u32, parent: u32, opposite: bool)
-        requires room { IsRanked (2 ^ 32 - 2) self.old }
+        requires room { (node_at self.old child).rank < 2 ^ 8 - 1 }
         requires child { child < length self.old }
         requires parent { parent < length self.old }
         ensures { self.new ≡ changed (Change.Join child parent opposite) self.old }
@@ -254,7 +306,7 @@ impl Forest {
 
     /// Makes a change.
     pub fn change(&mut self, change: Change)
-        requires room { IsRanked (2 ^ 32 - 2) self.old }
+        requires room { HasRoom self.old change }
         requires change { IsChange self.old change }
         ensures { self.new ≡ changed change self.old }
     {

@@ -1,10 +1,11 @@
 -- The links of rows are links of their places.
 use Rattle.std.specs.List.{All, flat_map, slice_index}
 use Rattle.std.specs.List.Sorted.{IsStrictlyIncreasing}
-use Rattle.std.proofs.Common.{◌≡◌, ℕ, suc, ◌<◌, List, [], ◌∷◌, inl, inr, refl, arith, subst, true, not, ◌&&◌, ltb, eqb, ap, ◌+◌}
+use Rattle.std.proofs.Common.{◌≡◌, ℕ, suc, ◌<◌, List, [], ◌∷◌, ◌++◌, inl, inr, refl, sym, ◌∙◌, arith, subst, true, not, ◌&&◌, ltb, eqb, ap, ◌+◌, ◌*◌, length, get_or, drop, drop-cons, append_assoc}
 use Rattle.std.proofs.lemmas.Bool.{and_from, lt-ltb, ne_eqb}
 use Rattle.cube_model.specs.declared.answer.Row.{Row}
 use Rattle.cube_model.specs.declared.link.Link.{Link}
+use Rattle.cube_model.specs.declared.link.Link.TheVariants.{Pair}
 use Rattle.cube_model.specs.Cubes.{IsIn}
 use Rattle.cube_model.specs.Entries.{is_link}
 use Rattle.cube_model.specs.Links.{linked}
@@ -16,6 +17,17 @@ pub All-member : {X : Type 0} (P : X → Type 0) (x : X) (xs : List X) → All P
 All-member P x [] a h = absurd h
 All-member P x (y ∷ ys) a (inl e) = subst P e (a 0 y (omega arith))
 All-member P x (y ∷ ys) a (inr k) = All-member P x ys (λ i d lt. a (suc i) d (omega (arith, lt))) k
+
+-- one more pair of a row's places
+pub pair_more : (front start made : List Link) (places : List ℕ) (k : ℕ) → 2 * k + 1 < length places → made ≡ front ++ Pair (get_or places (2 * k) 0) (get_or places (2 * k + 1) 0) ∷ [] → front ++ linked (drop (2 * k) places) ≡ start → made ++ linked (drop (2 * (k + 1)) places) ≡ start
+pair_more front start made places k lt is so_far =
+    let one : suc (2 * k) ≡ 2 * k + 1 = omega arith in
+    let two : suc (2 * k + 1) ≡ 2 * (k + 1) = omega arith in
+    let first : drop (2 * k) places ≡ get_or places (2 * k) 0 ∷ drop (2 * k + 1) places = drop-cons places (2 * k) 0 (omega (arith, lt)) ∙ ap (λ (m : ℕ). get_or places (2 * k) 0 ∷ drop m places) one in
+    let second : drop (2 * k + 1) places ≡ get_or places (2 * k + 1) 0 ∷ drop (2 * (k + 1)) places = drop-cons places (2 * k + 1) 0 lt ∙ ap (λ (m : ℕ). get_or places (2 * k + 1) 0 ∷ drop m places) two in
+    let cut : drop (2 * k) places ≡ get_or places (2 * k) 0 ∷ get_or places (2 * k + 1) 0 ∷ drop (2 * (k + 1)) places = first ∙ ap (λ (ps : List ℕ). get_or places (2 * k) 0 ∷ ps) second in
+    let rest = linked (drop (2 * (k + 1)) places) in
+    ap (λ (ls : List Link). ls ++ rest) is ∙ append_assoc front (Pair (get_or places (2 * k) 0) (get_or places (2 * k + 1) 0) ∷ []) rest ∙ sym (ap (λ (ps : List ℕ). front ++ linked ps) cut) ∙ so_far
 
 -- the links of one row
 pub linked_places : (n : ℕ) (xs : List ℕ) → ((x : ℕ) → IsIn x xs → x < n) → (l : Link) → IsIn l (linked xs) → IsOfPlaces n l

@@ -11,16 +11,17 @@ ghost use Rattle.cube_model.specs.LinkLaws.{AreOfPlaces};
 use cube_model::{Link, LinkList, NoMemory, Rows};
 use std::alloc::Global;
 
-/// Puts the links of a row's places at the end.
-fn push_linked(links: &mut LinkList, places: &[u32]) -> Result<(), NoMemory>
-    ensures { OnOk result (links.new ≡ links.old ++ linked places.now) }
+/// Puts the links of a row's places at the end. Room for them is taken once.
+fn push_linked(links: &mut Vec<Link>, places: &[u32]) -> Result<(), NoMemory>
+    ensures { OnOk result (links.new.items ≡ links.old.items ++ linked places.now) }
 {
     let pairs = places.len() / 2;
+    links.reserve(places.len() - pairs)?;
     'pairs: for number in 0..pairs {
-        links.push(Link::Pair(places[2 * number], places[2 * number + 1]))?;
+        links.push_reserved(Link::Pair(places[2 * number], places[2 * number + 1]));
     }
     if 2 * pairs < places.len() {
-        links.push(Link::Single(places[2 * pairs]))?;
+        links.push_reserved(Link::Single(places[2 * pairs]));
     }
     Ok(())
 }
@@ -38,9 +39,9 @@ pub fn links(alloc: Global, rows: &Rows) -> Result<LinkList, NoMemory>
         → All (λ row. IsStrictlyIncreasing row.places) rows.now
         → IfOk result (λ links. (link : Link) → IsIn link links → is_link n link ≡ true) }
 {
-    let mut links = LinkList::new(alloc);
+    let mut links = Vec::new(alloc);
     'rows: for row in rows.as_slice() {
         push_linked(&mut links, row.places.as_slice())?;
     }
-    Ok(links)
+    Ok(LinkList::from_vec(links))
 }

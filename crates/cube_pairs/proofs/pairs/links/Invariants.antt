@@ -4,4 +4,4 @@ use Rattle.cube_model.specs.Links.{linked}
 use Rattle.cube_pairs.proofs.pairs.links.Given as goal
 
 abbrev pub invariant-rows : goal.invariant-rows
-invariant-rows l = l.links ≡ flat_map (λ row. linked row.places) (take l.row-index l.row-items)
+invariant-rows l = l.links.items ≡ flat_map (λ row. linked row.places) (take l.row-index l.row-items)

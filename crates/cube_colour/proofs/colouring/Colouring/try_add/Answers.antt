@@ -8,6 +8,13 @@ use Rattle.cube_colour.proofs.Adding.{standing_grown, standing_stop, standing_ba
 use Rattle.cube_colour.proofs.Searches.{member_at}
 use Rattle.cube_colour.proofs.colouring.Colouring.try_add.Goals as goal
 
+pub passes-requires : goal.passes-requires
+passes-requires c =
+    let links = c.as_slice-link-items.result.now in
+    let link = get_or links c.links.number (Pair 0 0) in
+    let of = subst (AreOfPlaces c.args.self.now.places) (sym c.as_slice-link-items.ensures) c.requires.of_places in
+    subst (λ (n : ℕ). IsOfPlaces n link) (sym c.links.invariant.places) (of link (member_at links c.links.number (Pair 0 0) c.links-test.true))
+
 pub add-requires : goal.add-requires
 add-requires c =
     let links = c.as_slice-link-items.result.now in
@@ -31,3 +38,9 @@ links-preserved c =
     let link = get_or links c.links.number (Pair 0 0) in
     let grows = rw c.in-Ok-None.field-0-is at c.in-Ok-None.ensures.grows in
     standing_grown c.args.self.now c.links.self links c.links.number link c.links-test.true refl c.links.invariant c.add.new.self grows
+
+pub links-preserved-then-passes : goal.links-preserved-then-passes
+links-preserved-then-passes c =
+    let links = c.as_slice-link-items.result.now in
+    let link = get_or links c.links.number (Pair 0 0) in
+    standing_grown c.args.self.now c.links.self links c.links.number link c.links-test.true refl c.links.invariant c.links.self (c.passes.ensures c.if-passes.true)
