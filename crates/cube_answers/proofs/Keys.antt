@@ -16,6 +16,7 @@ use Rattle.cube_model.proofs.Members.{IsIn-filter, IsIn-map, IsIn-count_from, Is
 use Rattle.cube_model.proofs.Sources.{Each-get_or}
 use Rattle.cube_core.proofs.Fitting.{lengths_fit, ancestors_long, ancestors_at}
 use Rattle.cube_core.proofs.Points.{length-point, leaf_below, dimension_of, up_there}
+use Rattle.cube_core.specs.Grouping.{pointed, key_in, ArePoints}
 use Rattle.cube_text.specs.Keys.{KeyFits}
 use Rattle.cube_answers.specs.AnswerText.{RowFits, IsThere, IsAnswer}
 use Rattle.cube_answers.specs.Sums.{row_sum}
@@ -31,6 +32,17 @@ key_there s ls xs ok e h =
           let there = up_there (dimension_at s k) (get_or ls k 0) (get_or xs k 0) (dimension_of s.dimensions k ok.each_dimension below) low (leaf_below s.dimensions xs k h below) in
           omega (arith, at, there),
     )
+
+-- there is a level for each dimension
+pub as_many_levels : (s : Dims) (r : Request) → fits (plains s) r.group r.picks ≡ true → length r.group ≡ length s.dimensions
+as_many_levels s r h = (lengths_fit s.dimensions r.group r.picks h).0
+
+-- the key of a place among some points is there
+pub tally_fits : (s : Dims) (points : List (List ℕ)) (r : Request) (i : ℕ) (key : List ℕ) → IsDims s → fits (plains s) r.group r.picks ≡ true → ArePoints (plains s) points → i < length points
+    → key ≡ key_in (pointed s points) r i → (length key ≡ length s.dimensions) × KeyFits s r.group key
+tally_fits s points r i key ok h are below is =
+    subst (λ (xs : List ℕ). (length xs ≡ length s.dimensions) × KeyFits s r.group xs) (sym is)
+    (key_there s r.group (get_or points i []) ok (as_many_levels s r h) (Each-get_or (IsPoint (plains s)) points i [] are.each below))
 
 -- what holds of all that is in a list holds at each place
 pub all_in : {X : Type 0} (P : X → Type 0) (xs : List X) → ((x : X) → IsIn x xs → P x) → All P xs

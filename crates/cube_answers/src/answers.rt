@@ -1,6 +1,7 @@
 // The text of an answer: CSV with a header.
 ghost use Rattle.std.specs.Prelude.{◌≡◌, ◌≤◌, ◌++◌, [], length, flat_map, ℤ, IfOk, OnOk};
 ghost use Rattle.std.specs.List.{All};
+ghost use Rattle.cube_text.specs.Keys.{KeyFits};
 ghost use Rattle.cube_text.specs.Quoting.{field};
 ghost use Rattle.cube_text.specs.Units.{units_text};
 ghost use Rattle.cube_answers.specs.AnswerText.{what_name, sum_text, header_line, row_line, answer_text as answer_words, RowFits, IsThere, IsAnswer};
@@ -44,8 +45,9 @@ fn push_sum(text: &mut Text, dims: &Dims, what: What, sum: i64) -> Result<(), No
     push_units(text, sum, decimals_of(dims, what))
 }
 
+/// Puts the line of the header.
 #[tactic(auto, using(cube_text::proofs::Lines::lines_behind))]
-fn push_header(
+pub(crate) fn push_header(
     alloc: Global,
     text: &mut Text,
     dims: &Dims,
@@ -60,7 +62,26 @@ fn push_header(
     text.push(b'\n')
 }
 
+/// Puts the line of a key and its sum.
 #[tactic(auto, using(cube_text::proofs::Lines::lines_behind))]
+pub(crate) fn push_line(
+    text: &mut Text,
+    dims: &Dims,
+    request: &Request,
+    key: &[u32],
+    sum: i64,
+) -> Result<(), NoMemory>
+    requires levels { length request.now.group ≡ length dims.now.dimensions }
+    requires measure { IsThere dims.now request.now.what }
+    requires long { length key.now ≡ length dims.now.dimensions }
+    requires there { KeyFits dims.now request.now.group key.now }
+    ensures { OnOk result (text.new ≡ text.old ++ row_line dims.now request.now (record { key = key.now; sum = sum })) }
+{
+    push_key(text, dims, request.group.as_slice(), key)?;
+    push_sum(text, dims, request.what, sum)?;
+    text.push(b'\n')
+}
+
 fn push_row(
     text: &mut Text,
     dims: &Dims,
@@ -72,9 +93,7 @@ fn push_row(
     requires row { RowFits dims.now request.now row.now }
     ensures { OnOk result (text.new ≡ text.old ++ row_line dims.now request.now row.now) }
 {
-    push_key(text, dims, request.group.as_slice(), row.key.as_slice())?;
-    push_sum(text, dims, request.what, row.sum)?;
-    text.push(b'\n')
+    push_line(text, dims, request, row.key.as_slice(), row.sum)
 }
 
 fn push_rows(
@@ -94,8 +113,8 @@ fn push_rows(
     Ok(())
 }
 
-// Room for so many lines, as long as most are.
-fn room_for(alloc: Global, lines: usize) -> Result<Text, NoMemory>
+/// Room for so many lines, as long as most are.
+pub(crate) fn room_for(alloc: Global, lines: usize) -> Result<Text, NoMemory>
     ensures { IfOk result (λ text. text ≡ []) }
 {
     let room = lines.saturating_add(1).saturating_mul(LINE);

@@ -64,6 +64,23 @@ fn sums_by_rank<L: Ledger>(
     }
 }
 
+/// The answer to a request, row by row: the rows are found first, then summed.
+pub(crate) fn answer_by_rows<L: Ledger>(
+    alloc: Global,
+    core: &Core,
+    request: &Request,
+    steps: &mut Steps<L>,
+) -> Result<Answer, NoMemory>
+    requires fits { fits (plains core.now.dims) request.now.group request.now.picks ≡ true }
+    requires measure { IsThere core.now.dims request.now.what }
+    ensures sums { IfOk result (λ answer. (p : Policy) → answer ≡ requests.answer (world core.now p) request.now) }
+    ensures written { IfOk result (λ answer. IsAnswer core.now.dims request.now answer) }
+{
+    let _rules = core.dims();
+    let rows = core.rows(alloc, request)?;
+    sum_rows(alloc, core, request.what, rows, steps)
+}
+
 /// The answer to a request: the plain sum of each row, or the number of its facts.
 pub fn answer<L: Ledger>(
     alloc: Global,
@@ -78,9 +95,8 @@ pub fn answer<L: Ledger>(
 {
     let _rules = core.dims();
     let found = sums_by_rank(alloc, core, request, steps)?;
-    if let Some(answer) = found {
-        return Ok(answer);
+    match found {
+        Some(answer) => Ok(answer),
+        None => answer_by_rows(alloc, core, request, steps),
     }
-    let rows = core.rows(alloc, request)?;
-    sum_rows(alloc, core, request.what, rows, steps)
 }

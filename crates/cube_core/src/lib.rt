@@ -13,6 +13,6 @@ mod sums;
 mod tally;
 
 pub use core_cube::Core;
-pub use rows::rows_of;
+pub use rows::{rows_of, write_key};
 pub use steps::Steps;
-pub use tally::sums_of;
+pub use tally::{Tally, sums_of, tallies_of};

@@ -1,11 +1,15 @@
 // The cuboids that a book answers from, and the answers.
-ghost use Rattle.std.specs.Prelude.{◌≡◌, ◌<◌, ◌≤◌, ◌+◌, ℕ, true, None, length, option_copied, IfOk, OnOk};
+ghost use Rattle.std.specs.Prelude.{◌≡◌, ◌<◌, ◌≤◌, ◌+◌, ℕ, true, None, length, flat_map, option_copied, IfOk, OnOk};
+ghost use Rattle.std.specs.List.{AllByRecursion};
 ghost use Rattle.std.specs.Option.{IfSome};
 ghost use Rattle.cube_model.specs.declared.policy.Policy.{Policy};
 ghost use Rattle.cube_model.specs.declared.request.What.TheVariants as whats;
 ghost use Rattle.cube_model.specs.Cores.{shown, world};
+ghost use Rattle.cube_model.specs.Dims.{plains};
 ghost use Rattle.cube_model.specs.Policies.{IsPolicy};
 ghost use Rattle.cube_model.specs.Requests.{answer as answer_of};
+ghost use Rattle.cube_core.specs.Grouping.{pointed, ArePoints};
+ghost use Rattle.cube_core.specs.Tallies.{row_of_tally};
 ghost use Rattle.cube_admit.specs.States.{waiting, StandsFor};
 ghost use Rattle.cube_query.specs.Canonical.{is_request};
 ghost use Rattle.cube_answers.specs.AnswerText.{answer_text as answer_words, IsAnswer};
@@ -13,8 +17,8 @@ ghost use Rattle.cube_rollup.specs.Rollups.{kept_at, IsCuboidAt, RollupsStand};
 ghost use Rattle.cube_engine.specs.Reads.{cuboid_of, IsFineEnough};
 
 use cube_admit::{Next, State};
-use cube_answers::{answer, answer_text};
-use cube_core::{Core, Steps};
+use cube_answers::{answer_text, tallied_text, written_answer};
+use cube_core::{Core, Steps, Tally};
 use cube_model::{Answer, NoMemory, Policy, Request, Text, What};
 use cube_rollup::{Cuboid, Rollups};
 use std::alloc::Global;
@@ -126,7 +130,29 @@ fn rolled_sums<L: Ledger>(
     cuboid.answer(alloc, core.dims(), request, steps)
 }
 
+// The tallies of the keys of a request over the cells of a cuboid, where that is the shorter way.
+#[tactic(auto, using(cube_answers::proofs::Valid::valid_fits))]
+fn rolled_tallies<L: Ledger>(
+    alloc: Global,
+    core: &Core,
+    cuboid: &Cuboid,
+    request: &Request,
+    steps: &mut Steps<L>,
+) -> Result<Option<Vec<Tally>>, NoMemory>
+    requires request { is_request core.now.dims request.now ≡ true }
+    requires serves { IsFineEnough core.now request.now cuboid.now }
+    ensures rows { IfOk result (λ found. IfSome found (λ tallies. (p : Policy) → flat_map (row_of_tally (pointed core.now.dims cuboid.now.points) request.now) tallies.items ≡ answer_of (world core.now p) request.now)) }
+    ensures marks { IfOk result (λ found. IfSome found (λ tallies. AllByRecursion (λ tally. tally.mark ≤ length cuboid.now.points) tallies.items)) }
+    ensures points { ArePoints (plains core.now.dims) cuboid.now.points }
+    ensures steps { steps.new ≤ steps.old + length cuboid.now.cells }
+    ensures none { IfOk result (λ found. found ≡ None → steps.new ≡ steps.old) }
+{
+    let _rules = core.dims();
+    cuboid.tallies(alloc, core.dims(), request, steps)
+}
+
 // The text of the answer to a request from the cells of a cuboid, grouped anew.
+#[tactic(auto, using(cube_answers::proofs::Valid::valid_fits, cube_answers::proofs::Valid::valid_measure))]
 fn grouped_text<L: Ledger>(
     alloc: Global,
     core: &Core,
@@ -139,6 +165,12 @@ fn grouped_text<L: Ledger>(
     ensures text { IfOk result (λ text. (p : Policy) → text ≡ answer_words core.now.dims request.now (answer_of (world core.now p) request.now)) }
     ensures steps { steps.new ≤ steps.old + length cuboid.now.cells }
 {
+    let _rules = core.dims();
+    let found = rolled_tallies(alloc, core, cuboid, request, steps)?;
+    if let Some(tallies) = found {
+        let points = cuboid.points();
+        return tallied_text(alloc, core.dims(), points, request, tallies.as_slice());
+    }
     let sums = rolled_sums(alloc, core, cuboid, request, steps)?;
     answer_text(alloc, core.dims(), request, &sums)
 }
@@ -174,8 +206,7 @@ fn core_text<L: Ledger>(
     requires { is_request core.now.dims request.now ≡ true }
     ensures { IfOk result (λ text. (p : Policy) → text ≡ answer_words core.now.dims request.now (answer_of (world core.now p) request.now)) }
 {
-    let sums = answer(alloc, core, request, steps)?;
-    answer_text(alloc, core.dims(), request, &sums)
+    written_answer(alloc, core, request, steps)
 }
 
 /// The answer to a request that was read, in words: from the cells of the cuboid of its measure, where there is one, and else

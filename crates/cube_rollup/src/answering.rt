@@ -1,5 +1,5 @@
 // Answers from cells.
-ghost use Rattle.std.specs.Prelude.{◌≡◌, ◌+◌, ◌≤◌, true, length, map, is_none, is_some, option_copied, IfOk};
+ghost use Rattle.std.specs.Prelude.{◌≡◌, ◌+◌, ◌≤◌, true, None, length, map, flat_map, is_none, is_some, option_copied, IfOk};
 ghost use Rattle.std.specs.List.{list_all, sum_by, AllByRecursion};
 ghost use Rattle.std.specs.Option.{ForNone, IfSome};
 ghost use Rattle.cube_core.specs.Rows.{ArePlaces};
@@ -11,10 +11,11 @@ ghost use Rattle.cube_model.specs.Requests.{asks, fits, grain, total};
 ghost use Rattle.cube_model.specs.declared.policy.Policy.{Policy};
 ghost use Rattle.cube_rollup.specs.Cuboids as said;
 ghost use Rattle.cube_rollup.specs.Cuboids.{sums_of, StandsFor, StandsWith};
-ghost use Rattle.cube_core.specs.Tallies.{summed_row};
+ghost use Rattle.cube_core.specs.Grouping.{pointed, ArePoints};
+ghost use Rattle.cube_core.specs.Tallies.{row_of_tally, summed_row};
 
 use crate::Cuboid;
-use cube_core::{Steps, rows_of, sums_of as sums_over};
+use cube_core::{Steps, Tally, rows_of, sums_of as sums_over, tallies_of};
 use cube_model::{Answer, AnswerRow, Dims, NoMemory, Pick, Request, Row, Rows};
 use std::alloc::Global;
 use std::sync::ledger::Ledger;
@@ -100,6 +101,32 @@ impl Cuboid {
         }
         let rows = rows_of(alloc, dims, points, request)?;
         self.sum_rows(alloc, rows, steps)
+    }
+
+    /// The tallies of the keys of a request for the cuboid's measure whose grain the cuboid is finer than or equal to, over
+    /// the cells with their points, if the grouping levels have at most four keys for each cell: their rows are the answer.
+    ///
+    /// It reads each cell at most once.
+    pub fn tallies<L: Ledger>(
+        &self,
+        alloc: Global,
+        dims: &Dims,
+        request: &Request,
+        steps: &mut Steps<L>,
+    ) -> Result<Option<Vec<Tally>>, NoMemory>
+        requires measure { asks self.now.measure request.now ≡ true }
+        requires fits { fits (plains dims.now) request.now.group request.now.picks ≡ true }
+        requires finer { is_finer self.now.levels (grain request.now) ≡ true }
+        requires stands { StandsWith dims.now self.now }
+        ensures answer { IfOk result (λ found. IfSome found (λ tallies. (core : Core) (p : Policy) → core.dims ≡ dims.now → StandsFor core self.now → flat_map (row_of_tally (pointed dims.now self.now.points) request.now) tallies.items ≡ requests.answer (world core p) request.now)) }
+        ensures marks { IfOk result (λ found. IfSome found (λ tallies. AllByRecursion (λ tally. tally.mark ≤ length self.now.points) tallies.items)) }
+        ensures points { ArePoints (plains dims.now) self.now.points }
+        ensures steps { steps.new ≤ steps.old + length self.now.cells }
+        ensures none { IfOk result (λ found. found ≡ None → steps.new ≡ steps.old) }
+    {
+        let _bounds = self.cells();
+        let points = self.points();
+        tallies_of(alloc, dims, points, request, self.sums(), steps)
     }
 
     /// The answer to a request for the cuboid's measure, where the cells are the answer as they stand:

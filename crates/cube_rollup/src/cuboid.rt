@@ -73,7 +73,7 @@ impl Cuboid {
     }
 
     /// A point of each cell.
-    pub(crate) fn points(&self) -> &[Key]
+    pub fn points(&self) -> &[Key]
         ensures { result.now ≡ self.now.points }
     {
         self.points.as_slice()
