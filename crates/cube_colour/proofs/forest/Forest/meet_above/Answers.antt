@@ -12,4 +12,4 @@ returns-then-upper-beside c l labelled xs holds e =
     let upper = read nodes all c.index-first.result.now.parent c.index-upper.result.now c.self.view_is low c.index-upper.ensures in
     let beside = read nodes all c.index-second.result.now.parent c.index-beside.result.now c.self.view_is high c.index-beside.ensures in
     both_above all c.requires.forest l labelled xs holds c.args.one c.args.other c.index-first.result.now c.index-second.result.now c.requires.one c.requires.other first second
-        (cousins all c.requires.forest l labelled xs holds c.index-first.result.now c.index-second.result.now c.index-upper.result.now c.index-beside.result.now low high upper beside c.if-upper-beside.true e)
+    (cousins all c.requires.forest l labelled xs holds c.index-first.result.now c.index-second.result.now c.index-upper.result.now c.index-beside.result.now low high upper beside c.if-upper-beside.true e)
