@@ -208,6 +208,11 @@ def measure_load(program, room, number, rounds):
         "witness": with_journal(program, full, "witness", "--cell", "cell v a.l=a0, b.l=b0"),
     }
     print_rows("The commands on the same files", by_turns(named, rounds), ["check"])
+    named = {
+        "check": lambda: run(files(program, "check"), full),
+        "draft": lambda: run([program, "draft", "--facts", "facts.csv"], full),
+    }
+    print_rows("What drafts the dimensions of the same facts", by_turns(named, rounds), ["check"])
 
 
 def measure_growth(program, room, number, rounds):
@@ -251,6 +256,18 @@ class Asker:
             sys.exit(f"{query}: {status.decode()} {body.decode()}")
         return self.used() - before, body.count(b"\n") - 1
 
+    def ask_again(self, query, many):
+        """The seconds that as many equal answers take, read as they come."""
+        before = self.used()
+        asks = f"{query}\n".encode() * 100
+        for _ in range(many // 100):
+            self.child.stdin.write(asks)
+            self.child.stdin.flush()
+            for _ in range(100):
+                status, length = self.child.stdout.readline().split()
+                self.child.stdout.read(int(length))
+        return self.used() - before
+
     def close(self):
         self.child.stdin.close()
         self.child.wait()
@@ -283,6 +300,25 @@ ANSWERS = (
 )
 
 
+# How often an answer that is kept is asked for once more.
+AGAIN = 20_000
+
+
+def measure_again(program, folder, base, rounds):
+    """A roll-up of kept cells, the processor time of one of many."""
+    before, query, peer = "slice v by a.h, b.l", "slice v by b.l", "select b, sum(v) from facts group by b"
+    ours, theirs = [], []
+    for _ in range(rounds):
+        asker = Asker(program, folder)
+        asker.ask(before)
+        asker.ask(query)
+        ours.append(asker.ask_again(query, AGAIN) / AGAIN)
+        asker.close()
+        theirs.append(sqlite_seconds(base, peer)[0])
+    mine, peers = statistics.median(ours), statistics.median(theirs)
+    print(f"| the same roll-up, one of {AGAIN:,} | {mine * 1000:.3f} | {peers * 1000:.1f} | 1/{peers / mine:,.0f} |")
+
+
 def measure_answers(program, room, number, rounds):
     folder = make(room, "answers", (256, 256), POINTS, POINTS, 1, number)
     write_dims(folder, (256, 256), halves=True)
@@ -305,6 +341,7 @@ def measure_answers(program, room, number, rounds):
         mine, peers = statistics.median(ours), statistics.median(theirs)
         ratio = f"{mine / peers:.3f}" if mine * 100 > peers else f"1/{peers / mine:,.0f}"
         print(f"| {name} | {mine * 1000:.3f} | {peers * 1000:.1f} | {ratio} |")
+    measure_again(program, folder, base, rounds)
 
 
 # ---- journals, until they are open
