@@ -4,16 +4,19 @@ ghost use Rattle.cube_text.specs.Units.{last_digits, units_text};
 
 use cube_model::{NoMemory, Text};
 
-// Puts the last digits of a number, so many of them.
-#[tactic(auto, using(cube_text::proofs::Digits::last_step))]
+// Puts the last digits of a number, so many of them, at once.
 fn push_digits(text: &mut Text, value: u64, places: u32) -> Result<(), NoMemory>
+    requires { places ≤ 6 }
     ensures { OnOk result (text.new ≡ text.old ++ last_digits places value) }
 {
-    if places > 0 {
-        push_digits(text, value / 10, places - 1)?;
-        text.push(b'0' + (value % 10) as u8)?;
+    let many = places as usize;
+    let mut digits = [0u8; 6];
+    let mut rest = value;
+    'places: for place in 0..many {
+        digits[5 - place] = b'0' + (rest % 10) as u8;
+        rest /= 10;
     }
-    Ok(())
+    text.extend(&digits[6 - many..])
 }
 
 // Puts the text of so many units.
