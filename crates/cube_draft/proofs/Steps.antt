@@ -87,16 +87,16 @@ pub record Passed (bytes : List ℕ) (members : List Bool) (fields : List (List 
   pub long : (count + 1) * width ≡ length all
   pub cut : cut_rows width (count + 1) all ≡ header ∷ earlier
 
-pub passed_start : (bytes : List ℕ) (members : List Bool) (fields : List (List (List ℕ))) (header all : List (List ℕ)) (left : List (List (List ℕ)))
-    → records_of bytes ≡ header ∷ left → ((k : ℕ) → get_or fields k [] ≡ []) → all ≡ header → Passed bytes members fields 0 (length header) all left
-passed_start bytes members fields header all left is empty same = record {
+pub passed_start : (bytes : List ℕ) (members : List Bool) (fields : List (List (List ℕ))) (width : ℕ) (header all : List (List ℕ)) (left : List (List (List ℕ)))
+    → records_of bytes ≡ header ∷ left → ((k : ℕ) → get_or fields k [] ≡ []) → all ≡ header → width ≡ length header → Passed bytes members fields 0 width all left
+passed_start bytes members fields width header all left is empty same wide = record {
   header = header;
   earlier = [];
   counted = refl;
   records = is;
   held = λ k l m. empty k;
-  long = let m = suc-mul 0 (length header) in let none = zero-mul (length header) in let same_long = ap length same in omega (arith, m, none, same_long);
-  cut = ap (λ (fs : List (List ℕ)). take (length header) fs ∷ []) same ∙ ap (λ (h : List (List ℕ)). h ∷ []) (take_all (length header) header (omega arith));
+  long = let m = suc-mul 0 width in let none = zero-mul width in let same_long = ap length same in omega (arith, m, none, same_long, wide);
+  cut = ap (λ (fs : List (List ℕ)). take width fs ∷ []) same ∙ ap (λ (h : List (List ℕ)). h ∷ []) (take_all width header (omega (arith, wide)));
 }
 
 pub passed_more : (bytes : List ℕ) (members : List Bool) (fields more : List (List (List ℕ))) (count width : ℕ) (all further : List (List ℕ)) (left behind : List (List (List ℕ))) (f : List (List ℕ))
