@@ -1,5 +1,5 @@
 -- The columns of a fact file as they are kept.
-use Rattle.std.specs.Prelude.{◌≡◌, ℕ, zero, suc, ◌<◌, ◌+◌, ◌-◌, ◌*◌, ◌^◌, Bool, true, false, List, [], ◌∷◌, ◌++◌, length, map, take, drop, slice_index_or}
+use Rattle.std.specs.Prelude.{◌≡◌, ℕ, ◌<◌, Bool, true, false, List, [], ◌∷◌, ◌++◌, length, map, slice_index_or}
 use Rattle.cube_model.specs.Dims.{NamedDimension}
 use Rattle.cube_facts.specs.Records.{records_of}
 use Rattle.cube_draft.specs.Drafts.{field_of, level_name, IsAmong}
@@ -24,22 +24,10 @@ pub record Holds (bytes : List ℕ) (header : List (List ℕ)) (members : List B
   pub counted : many ≡ length rows
   pub held : (k : ℕ) → k < length members → IsMarked members k → slice_index_or fields k [] ≡ map (field_of k) rows
 
--- so many records of this width, whose fields stand one behind another
-abbrev pub cut_rows : ℕ → ℕ → List (List ℕ) → List (List (List ℕ))
-cut_rows width zero fields = []
-cut_rows width (suc n) fields = take width fields ∷ cut_rows width n (drop width fields)
-
--- All fields of a file: those of the header, and of as many records behind it, each of this width.
-pub record HasAll (bytes : List ℕ) (many width : ℕ) (all : List (List ℕ)) : Type 0 where
-  pub few : many < 2 ^ 64 - 1
-  pub long : (many + 1) * width ≡ length all
-  pub records : cut_rows width (many + 1) all ≡ records_of bytes
-
--- a scan has gone over all records, and has kept their fields
-pub record Scanned (bytes : List ℕ) (members : List Bool) (fields : List (List (List ℕ))) (many width : ℕ) (all : List (List ℕ)) : Type 0 where
+-- a scan has gone over all records
+pub record Scanned (bytes : List ℕ) (members : List Bool) (fields : List (List (List ℕ))) (many : ℕ) : Type 0 where
   pub header : List (List ℕ)
   pub holds : Holds bytes header members fields many
-  pub has_all : HasAll bytes many width all
 
 -- the path of a row in some columns that are kept
 abbrev pub kept_path : List (List (List ℕ)) → List ℕ → ℕ → List (List ℕ)

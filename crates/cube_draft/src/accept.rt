@@ -1,21 +1,15 @@
 // What is drafted is read as those who use it will read it.
-ghost use Rattle.std.specs.Prelude.{◌≡◌, ◌<◌, ◌+◌, ◌-◌, ◌*◌, ◌^◌, ℕ, List, false, length, Ok, IfOk, OnOk, IfErr};
-ghost use Rattle.csv.specs.Reading.{strip_bom};
-ghost use Rattle.csv.specs.Records.{fields_of};
+ghost use Rattle.std.specs.Prelude.{◌≡◌, Ok, IfOk, OnOk, IfErr};
 ghost use Rattle.cube_model.specs.declared.policy.Policy.{Policy};
 ghost use Rattle.cube_model.specs.declared.shape.Shape.{Shape};
-ghost use Rattle.cube_model.specs.Names.{begins_with_mark};
 ghost use Rattle.cube_dims.specs.DimsFile.{dims_of};
 ghost use Rattle.cube_facts.specs.FactFile.{filled_of};
 ghost use Rattle.cube_policy.specs.PolicyFile.{policy_of};
 ghost use Rattle.cube_draft.specs.Drafts.{IsFilled, IsGoverned};
-ghost use Rattle.cube_draft.specs.Kept.{HasAll};
 
-use crate::again::Again;
 use crate::fault::DraftFault;
-use crate::table::Table;
 use cube_dims::{DimsFault, read_dims};
-use cube_facts::{FactsFault, read_facts_of};
+use cube_facts::{FactsFault, read_facts};
 use cube_model::{Dims, LimitKind, Text};
 use cube_policy::{PolicyFault, read_policy};
 use std::alloc::Global;
@@ -66,14 +60,11 @@ pub(crate) fn read_drafted(alloc: Global, text: &Text) -> Result<Dims, DraftFaul
     }
 }
 
-/// Reads a fact file, whose fields were kept, under dimensions that were drafted.
-pub(crate) fn check_facts(alloc: Global, dims: &Dims, table: &Table) -> Result<(), DraftFault>
-    requires long { (table.now.rows + 1) * table.now.width ≡ length (fields_of table.now.all) }
-    requires few { table.now.rows < 2 ^ 64 - 1 }
-    ensures { (bytes : List ℕ) → begins_with_mark (strip_bom bytes) ≡ false → HasAll bytes table.now.rows table.now.width (fields_of table.now.all) → OnOk result (IsFilled dims.now bytes) }
+/// Reads the fact file under dimensions that were drafted.
+pub(crate) fn check_facts(alloc: Global, dims: &Dims, bytes: &[u8]) -> Result<(), DraftFault>
+    ensures { OnOk result (IsFilled dims.now bytes.now) }
 {
-    let mut records = Again::new(&table.all, table.width, table.rows + 1);
-    match read_facts_of(alloc, dims, &mut records) {
+    match read_facts(alloc, dims, bytes) {
         Ok(_) => Ok(()),
         Err(fault) => Err(facts_fault(fault)),
     }

@@ -2,7 +2,6 @@
 #![tactic(auto)]
 
 mod accept;
-mod again;
 mod check;
 mod choices;
 mod columns;

@@ -1,12 +1,9 @@
 // What the columns of a fact file hold: members, or numbers alone.
-ghost use Rattle.std.specs.Prelude.{◌≡◌, ◌<◌, ◌-◌, ◌^◌, ◌++◌, ◌∷◌, [], ℕ, false, length, slice_index_or, IfOk, OnOk};
-ghost use Rattle.csv.specs.Reading.{strip_bom};
+ghost use Rattle.std.specs.Prelude.{◌≡◌, ◌<◌, ◌-◌, ◌^◌, ◌++◌, ◌∷◌, [], ℕ, length, slice_index_or, IfOk, OnOk};
 ghost use Rattle.csv.specs.Records.{fields_of};
-ghost use Rattle.cube_model.specs.Names.{begins_with_mark};
 ghost use Rattle.cube_draft.specs.Drafts.{field_of};
-ghost use Rattle.cube_draft.specs.Kept.{Grows, HasAll, Holds, Scanned};
+ghost use Rattle.cube_draft.specs.Kept.{Grows, Holds, Scanned};
 
-use crate::again::push_fields_of;
 use crate::choices::Choices;
 use crate::columns::{MAX_COLUMNS, field_at, marks_of, no_header, read_header, stated_places};
 use crate::fault::DraftFault;
@@ -17,8 +14,7 @@ use cube_text::{UnitFault, read_units};
 use std::alloc::Global;
 
 /// The columns of a fact file: of each its name, whether it has members, its fields where it has,
-/// and the decimals of its numbers where it has none. And all fields of all records, the header
-/// among them, one record of this width behind another.
+/// and the decimals of its numbers where it has none.
 #[derive(Drop)]
 pub(crate) struct Table {
     pub(crate) header: Texts,
@@ -26,8 +22,6 @@ pub(crate) struct Table {
     pub(crate) fields: Vec<NumberedNames>,
     pub(crate) decimals: Vec<u32>,
     pub(crate) rows: usize,
-    pub(crate) width: usize,
-    pub(crate) all: ByteRecord,
 }
 
 // What a pass over the records finds.
@@ -38,8 +32,6 @@ struct Found {
     // The columns that hold something else than numbers, against what they were taken for.
     turned: Vec<bool>,
     rows: usize,
-    width: usize,
-    all: ByteRecord,
 }
 
 // A number without its sign.
@@ -166,8 +158,7 @@ fn note_fields(decimals: &mut Vec<u32>, turned: &mut Vec<bool>, members: &[bool]
 // Checks a record behind so many others.
 fn check_record(row: &ByteRecord, width: usize, earlier: u64) -> Result<(), DraftFault>
     requires { earlier < 2 ^ 64 - 1 }
-    ensures few { OnOk result (earlier < 1000000) }
-    ensures long { OnOk result (length (fields_of row.now) ≡ width) }
+    ensures { OnOk result (earlier < 1000000) }
 {
     if earlier >= MAX_FACTS {
         return Err(DraftFault::Facts {
@@ -187,9 +178,9 @@ fn check_record(row: &ByteRecord, width: usize, earlier: u64) -> Result<(), Draf
 
 // Passes over the records, where the columns that are marked have members.
 fn scan(alloc: Global, bytes: &[u8], members: &[bool]) -> Result<Found, DraftFault>
-    ensures { IfOk result (λ found. Scanned bytes.now members.now found.fields.items found.rows found.width (fields_of found.all)) }
+    ensures { IfOk result (λ found. Scanned bytes.now members.now found.fields.items found.rows) }
 {
-    let columns = members.len();
+    let width = members.len();
     let mut reader = open_records(alloc, bytes);
     let mut row = ByteRecord::new(alloc);
     match reader.read_byte_record(&mut row) {
@@ -197,12 +188,9 @@ fn scan(alloc: Global, bytes: &[u8], members: &[bool]) -> Result<Found, DraftFau
         Ok(false) => return Err(no_header()),
         Err(_) => return Err(DraftFault::NoMemory),
     }
-    let width = row.len();
-    let mut all = ByteRecord::new(alloc);
-    push_fields_of(&mut all, &row)?;
-    let mut fields = no_fields(alloc, columns)?;
-    let mut decimals = vec![in alloc; 0u32; columns]?;
-    let mut turned = vec![in alloc; false; columns]?;
+    let mut fields = no_fields(alloc, width)?;
+    let mut decimals = vec![in alloc; 0u32; width]?;
+    let mut turned = vec![in alloc; false; width]?;
     'records: for earlier in 0..u64::MAX {
         match reader.read_byte_record(&mut row) {
             Ok(true) => {}
@@ -212,14 +200,11 @@ fn scan(alloc: Global, bytes: &[u8], members: &[bool]) -> Result<Found, DraftFau
                     decimals,
                     turned,
                     rows: earlier as usize,
-                    width,
-                    all,
                 });
             }
             Err(_) => return Err(DraftFault::NoMemory),
         }
         check_record(&row, width, earlier)?;
-        push_fields_of(&mut all, &row)?;
         push_fields(alloc, &mut fields, members, &row)?;
         note_fields(&mut decimals, &mut turned, members, &row);
     }
@@ -263,9 +248,7 @@ pub(crate) fn read_columns(
     bytes: &[u8],
     choices: &Choices,
 ) -> Result<Table, DraftFault>
-    ensures holds { IfOk result (λ table. Holds bytes.now table.header table.members.items table.fields.items table.rows) }
-    ensures all { IfOk result (λ table. HasAll bytes.now table.rows table.width (fields_of table.all)) }
-    ensures unmarked { OnOk result (begins_with_mark (strip_bom bytes.now) ≡ false) }
+    ensures { IfOk result (λ table. Holds bytes.now table.header table.members.items table.fields.items table.rows) }
 {
     let header = read_header(alloc, bytes)?;
     let stated = stated_places(alloc, header.as_slice(), choices)?;
@@ -280,8 +263,6 @@ pub(crate) fn read_columns(
                 fields: found.fields,
                 decimals: found.decimals,
                 rows: found.rows,
-                width: found.width,
-                all: found.all,
             });
         }
         members = either(alloc, members.as_slice(), found.turned.as_slice())?;

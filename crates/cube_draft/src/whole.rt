@@ -1,10 +1,7 @@
 // A draft as a whole.
-ghost use Rattle.std.specs.Prelude.{◌≡◌, false, IfOk};
-ghost use Rattle.csv.specs.Reading.{strip_bom};
-ghost use Rattle.csv.specs.Records.{fields_of};
-ghost use Rattle.cube_model.specs.Names.{begins_with_mark};
+ghost use Rattle.std.specs.Prelude.{IfOk};
 ghost use Rattle.cube_draft.specs.Drafts.{IsDraft};
-ghost use Rattle.cube_draft.specs.Kept.{HasAll, Holds};
+ghost use Rattle.cube_draft.specs.Kept.{Holds};
 
 use crate::accept::{check_facts, check_policy, read_drafted};
 use crate::check::are_true;
@@ -34,13 +31,11 @@ fn accepted(
     plan: &Plan,
     texts: Draft,
 ) -> Result<Draft, DraftFault>
-    requires holds { Holds bytes.now table.now.header table.now.members.items table.now.fields.items table.now.rows }
-    requires all { HasAll bytes.now table.now.rows table.now.width (fields_of table.now.all) }
-    requires unmarked { begins_with_mark (strip_bom bytes.now) ≡ false }
+    requires { Holds bytes.now table.now.header table.now.members.items table.now.fields.items table.now.rows }
     ensures { IfOk result (λ draft. IsDraft bytes.now draft.dims draft.policy) }
 {
     let said = read_drafted(alloc, &texts.dims)?;
-    check_facts(alloc, &said, table)?;
+    check_facts(alloc, &said, bytes)?;
     check_policy(alloc, &said, &texts.policy)?;
     if !are_true(&said, table, plan.dimensions.as_slice()) {
         return Err(DraftFault::Untrue);
@@ -51,7 +46,7 @@ fn accepted(
 /// Drafts a dimension file and a policy file for a fact file.
 ///
 /// The time grows in step with the size of the fact file, for each pair of columns with members
-/// once more, without reading the file again. Its fields are all kept meanwhile.
+/// once more, without reading the file again.
 pub fn draft_files(alloc: Global, bytes: &[u8], choices: &Choices) -> Result<Draft, DraftFault>
     ensures { IfOk result (λ draft. IsDraft bytes.now draft.dims draft.policy) }
 {

@@ -1,4 +1,4 @@
-use Rattle.std.proofs.Common.{rules, ap, Bor, List, ℕ, ◌++◌, ◌∙◌, inl, inr, Some}
+use Rattle.std.proofs.Common.{rules, Bor, List, ℕ, ◌∙◌, inl, inr, Some}
 use Rattle.csv.specs.Records.{fields_of}
 use Rattle.csv.specs.Reading.{strip_bom}
 use Rattle.cube_facts.proofs.Whole.{left-end, left-more, first-more}
@@ -8,17 +8,16 @@ use Rattle.cube_draft.proofs.table.scan.Goals as goal
 
 pub returns-in-Ok-false-read_byte_record : goal.returns-in-Ok-false-read_byte_record
 returns-in-Ok-false-read_byte_record c =
-    let (w, a, b, d, plain, ready, config, between, y, source, passed) = c.records.invariant in
+    let (a, b, d, plain, ready, config, between, y, source, passed) = c.records.invariant in
     let read = rw c.in-Ok-false-read_byte_record.field-0-test at (c.in-Ok-false-read_byte_record.ensures.reads plain ready) in
     let none = left-end (λ (s : Bor (List ℕ)). Some s.now) c.records.reader c.read_byte_record-in-records.new.self (fields_of c.read_byte_record-in-records.new.row) y config source read in
-    passed_end c.args.bytes.now c.args.members.now c.records.fields.items c.records.earlier c.len-width.result (fields_of c.records.all) (left_from c.records.reader.state y) passed none (search rules)
+    passed_end c.args.bytes.now c.args.members.now c.records.fields.items c.records.earlier (left_from c.records.reader.state y) passed none
 
 pub records-init : goal.records-init
 records-init c =
     let fr = c.open_records-reader.ensures in
     let read = rw c.in-Ok-true.field-0-test at (c.in-Ok-true.ensures.reads fr.trim (inr (inr (fr.has_headers, fr.headers)))) in
     let (z, at_z, between, step) = first-more (λ (s : Bor (List ℕ)). Some s.now) c.open_records-reader.result c.read_byte_record.new.self (fields_of c.read_byte_record.new.row) (strip_bom c.args.bytes.now) fr.config fr.source fr.state read in (
-      c.in_ok-push_fields_of.ensures.whole,
       c.in_ok-fields.ensures.long,
       search rules,
       search rules,
@@ -28,16 +27,15 @@ records-init c =
       between,
       z,
       at_z,
-      passed_start c.args.bytes.now c.args.members.now c.in_ok-fields.fields.items c.len-width.result (fields_of c.read_byte_record.new.row) (fields_of c.push_fields_of.new.all) (left_from c.read_byte_record.new.self.state z) step c.in_ok-fields.ensures.empty (c.in_ok-push_fields_of.ensures.kept ∙ ap (λ (fs : List (List ℕ)). fs ++ fields_of c.read_byte_record.new.row) c.new-all.ensures.fields) c.len-width.ensures,
+      passed_start c.args.bytes.now c.args.members.now c.in_ok-fields.fields.items (fields_of c.read_byte_record.new.row) (left_from c.read_byte_record.new.self.state z) step c.in_ok-fields.ensures.empty,
     )
 
 pub records-preserved : goal.records-preserved
 records-preserved c =
-    let (w, a, b, d, plain, ready, config, between, y, source, passed) = c.records.invariant in
+    let (a, b, d, plain, ready, config, between, y, source, passed) = c.records.invariant in
     let read = rw c.in-Ok-true-read_byte_record.field-0-test at (c.in-Ok-true-read_byte_record.ensures.reads plain ready) in
     let f = fields_of c.read_byte_record-in-records.new.row in
     let (z, at_z, next_between, step) = left-more (λ (s : Bor (List ℕ)). Some s.now) c.records.reader c.read_byte_record-in-records.new.self f y config source between read in (
-      c.in_ok-push_fields_of-2.ensures.whole,
       c.push_fields.ensures.long ∙ a,
       c.note_fields.ensures.decimals ∙ b,
       c.note_fields.ensures.turned ∙ d,
@@ -47,5 +45,5 @@ records-preserved c =
       next_between,
       z,
       at_z,
-      passed_more c.args.bytes.now c.args.members.now c.records.fields.items c.push_fields.new.columns.items c.records.earlier c.len-width.result (fields_of c.records.all) (fields_of c.push_fields_of-in-records.new.all) (left_from c.records.reader.state y) (left_from c.read_byte_record-in-records.new.self.state z) f passed step c.in_ok-push_fields.ensures.grows c.in_ok-push_fields_of-2.ensures.kept c.in_ok-check_record.ensures.long,
+      passed_more c.args.bytes.now c.args.members.now c.records.fields.items c.push_fields.new.columns.items c.records.earlier (left_from c.records.reader.state y) (left_from c.read_byte_record-in-records.new.self.state z) f passed step c.in_ok-push_fields.ensures.grows,
     )
