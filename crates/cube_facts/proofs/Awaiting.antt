@@ -1,17 +1,19 @@
 -- Facts that were taken from records and wait to be added up.
-use Rattle.std.proofs.Common.{◌≡◌, ◌⊎◌, ℕ, suc, ◌+◌, ◌<◌, ◌≤◌, List, [], ◌∷◌, ◌++◌, length, map, Bool, true, false, Result, Ok, Err, IfOk, IfErr, refl, sym, ap, subst, ◌∙◌, arith, append_assoc, get_or, set, take, drop}
-use Rattle.std.proofs.lemmas.List.{take_more_set, length-map, map-append, length-take-le, drop_all}
+use Rattle.std.proofs.Common.{◌≡◌, ◌≢◌, ◌⊎◌, ℕ, zero, suc, ◌+◌, ◌<◌, ◌≤◌, List, [], ◌∷◌, ◌++◌, length, map, Bool, true, false, Result, Ok, Err, IfOk, IfErr, refl, sym, ap, subst, ◌∙◌, arith, append_assoc, get_or, set, slice_set, take, drop, eqb, eqb-true, eq-eqb}
+use Rattle.std.proofs.lemmas.Bool.{false≢true}
+use Rattle.cube_model.proofs.Members.{tested}
+use Rattle.std.proofs.lemmas.List.{take_more_set, length-map, map-append, length-take-le, drop_all, get_or_default, get_or-set_same, get_or-set_other}
 use Rattle.cube_facts.proofs.Turns.{at_hand}
 use Rattle.cube_facts.specs.declared.blocks.Held.{Held}
 use Rattle.cube_model.specs.Dims.{Dims, IsDims}
 use Rattle.cube_model.specs.declared.limit.LimitKind.TheVariants as limit
 use Rattle.cube_facts.specs.FactFile.{Fact, facts_in, fact_of}
-use Rattle.cube_facts.specs.Filling.{Gathers, Fits}
-use Rattle.cube_facts.specs.Blocks.{fact_held, Reads, SaysFact, SayFacts, FirstIsFaulty, Takes, Awaits}
+use Rattle.cube_facts.specs.Filling.{Gathers, Fits, IsFact, IsNoted}
+use Rattle.cube_facts.specs.Blocks.{fact_held, Reads, SaysFact, SayFacts, FirstIsFaulty, Takes, Awaits, MayAdd, MayLook}
 use Rattle.cube_facts.specs.declared.fault.FactsFault.{FactsFault}
 use Rattle.cube_facts.specs.declared.fault.FactsFault.TheVariants as fault
 use Rattle.cube_facts.specs.declared.totals.Points.{Points}
-use Rattle.cube_facts.proofs.Filled.{reads_more, reads_fault, reads_points, reads_fits}
+use Rattle.cube_facts.proofs.Filled.{reads_more, reads_fault, reads_points, reads_fits, reads_within, reads_combinations}
 
 module _ (s : Dims) (header : List (List ℕ)) where
   -- ---- taking
@@ -101,6 +103,35 @@ module _ (s : Dims) (header : List (List ℕ)) where
         go (q ∷ rows) r h = absurd h
 
 -- ---- places of a block
+
+says_at : (s : Dims) (header : List (List ℕ)) (count : ℕ) (block : List Held) (rows : List (List (List ℕ))) → SayFacts s header count (map fact_held block) rows → (i : ℕ) (d : Held) → i < length block → IsFact s (fact_held (get_or block i d))
+says_at s header count [] rows h i d l = absurd (omega (arith, l))
+says_at s header count (x ∷ xs) [] h i d l = absurd h
+says_at s header count (x ∷ xs) (r ∷ rows) h zero d l = h.0.rules
+says_at s header count (x ∷ xs) (r ∷ rows) h (suc i) d l = says_at s header (count + 1) xs rows h.1 i d (omega (arith, l))
+
+-- places may be looked for where facts may be added up
+pub may_look : (points : Points) (count : ℕ) (block : List Held) → MayAdd points count (map fact_held block) → MayLook points block
+may_look points count block m =
+    let w = m.awaits in
+    record {
+      each = λ i d l. reads_within m.s m.all m.header points count (w.rows ++ m.rest) (fact_held (get_or block i d)) w.reads (says_at m.s m.header count block w.rows w.say i d l);
+      combinations = reads_combinations m.s m.all m.header points count (w.rows ++ m.rest) w.reads m.rules;
+    }
+
+-- what is noted of the fact at hand
+pub noted_at : (points : Points) (block : List Held) (i : ℕ) (h : Held) (n : ℕ) → i < length block → h ≡ get_or block i h → IsNoted points h.leaves.items n → (d : Held) → IsNoted points (get_or block i d).leaves.items n
+noted_at points block i h n l at is d = subst (λ (g : Held). IsNoted points g.leaves.items n) (at ∙ get_or_default block i h d l) is
+
+-- one place more is noted
+pub noted_next : (points : Points) (noted : List ℕ) (block : List Held) (i n : ℕ) → i < length noted → i < length block
+    → ((k : ℕ) (d : Held) → k < i → IsNoted points (get_or block k d).leaves.items (get_or noted k 0)) → ((d : Held) → IsNoted points (get_or block i d).leaves.items n)
+    → (k : ℕ) (d : Held) → k < i + 1 → IsNoted points (get_or block k d).leaves.items (get_or (slice_set noted i n) k 0)
+noted_next points noted block i n l m h now k d b = tested (eqb k i)
+    (λ y. (let same = eqb-true k i y in rw same (rw (get_or-set_same noted i n 0 l) (now d))))
+    (λ z. (
+    let apart : k ≢ i = λ q. false≢true (sym z ∙ eq-eqb k i q) in
+    rw (get_or-set_other noted i k n 0 apart) (h k d (omega (arith, b, apart)))))
 
 -- the fact in a place waits in front of those behind it
 pub at_front : (s : Dims) (all : List (List (List ℕ))) (header : List (List ℕ)) (points : Points) (n : ℕ) (block : List Held) (i : ℕ) (h : Held) (f : Fact) (rest : List (List (List ℕ)))

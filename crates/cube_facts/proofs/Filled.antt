@@ -246,16 +246,23 @@ combinations_below [] (suc n) h l = let rest = combinations_below [] n h (omega 
 combinations_below (d ∷ ds) zero h l = absurd (omega (arith, l))
 combinations_below (d ∷ ds) (suc n) h l = mul-le-mul (h.0).few_leaves (combinations_below ds n h.1 (omega (arith, l)))
 
-pub reads_fits : (s : Dims) (all : List (List (List ℕ))) (header : List (List ℕ)) (points : Points) (count : ℕ) (left : List (List (List ℕ))) (fact : Fact) → Reads s all header points count left → IsDims s → IsFact s fact → count < 1000000 → Fits points count fact.leaves fact.units
+-- ranks of points are few enough
+pub reads_combinations : (s : Dims) (all : List (List (List ℕ))) (header : List (List ℕ)) (points : Points) (count : ℕ) (left : List (List (List ℕ))) → Reads s all header points count left → IsDims s → key_count points.sizes.items ≤ 2 ^ 128
 unfolding most_combinations
+reads_combinations s all header points count left r rules = subst (λ ss. key_count ss ≤ 2 ^ 128) (sym r.gathers.sizes) (combinations_below s.dimensions 8 rules.each_dimension rules.few_dimensions)
+
+pub reads_within : (s : Dims) (all : List (List (List ℕ))) (header : List (List ℕ)) (points : Points) (count : ℕ) (left : List (List (List ℕ))) (fact : Fact) → Reads s all header points count left → IsFact s fact → IsWithin points.sizes.items fact.leaves
+reads_within s all header points count left fact r is = subst (λ ss. IsWithin ss fact.leaves) (sym r.gathers.sizes) (point_within s.dimensions fact.leaves is.leaves)
+
+pub reads_fits : (s : Dims) (all : List (List (List ℕ))) (header : List (List ℕ)) (points : Points) (count : ℕ) (left : List (List (List ℕ))) (fact : Fact) → Reads s all header points count left → IsDims s → IsFact s fact → count < 1000000 → Fits points count fact.leaves fact.units
 reads_fits s all header points count left fact r rules is few =
     let facts = map (fact_of s header) r.earlier in
     let long : length facts ≡ count = length-map r.earlier (fact_of s header) ∙ sym r.counted in
     let g = r.gathers in
     record {
       few = few;
-      point = subst (λ ss. IsWithin ss fact.leaves) (sym g.sizes) (point_within s.dimensions fact.leaves is.leaves);
-      combinations = subst (λ ss. key_count ss ≤ 2 ^ 128) (sym g.sizes) (combinations_below s.dimensions 8 rules.each_dimension rules.few_dimensions);
+      point = reads_within s all header points count left fact r is;
+      combinations = reads_combinations s all header points count left r rules;
       facts = λ place. subst (λ (ns : List ℕ). get_or ns place 0 < 1000000) (sym g.facts_are)
           (read_any (λ n. n < 1000000) (λ x. length (facts_at facts x)) 0 points.leaves place (λ x. (let most = at_most facts x in omega (arith, most, long, few))) (omega arith));
       sums = subst (All (IsSumOf count)) (sym g.sums)

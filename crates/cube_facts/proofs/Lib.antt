@@ -4,10 +4,12 @@ pub mod Whole
 pub mod Between
 pub mod Load
 pub mod Parts
+pub mod Numbers
 pub mod Block
 pub mod Turns
 pub mod Known
 pub mod Recent
+pub mod Tagged
 pub mod Adding
 pub mod Recorded
 pub mod Filled

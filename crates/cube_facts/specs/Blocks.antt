@@ -1,10 +1,12 @@
 -- Facts that are read from records in blocks, and added up a block at a time.
-use Rattle.std.specs.Prelude.{◌≡◌, ℕ, ◌+◌, ◌<◌, List, [], ◌∷◌, ◌++◌, length, map, Some, Result, ⊤}
+use Rattle.std.specs.Prelude.{◌≡◌, ℕ, ◌+◌, ◌<◌, ◌≤◌, ◌^◌, slice_index_or, List, [], ◌∷◌, ◌++◌, length, map, Some, Result, ⊤}
 use Rattle.cube_model.specs.Checks.{in_turn, unless}
 use Rattle.cube_model.specs.Dims.{Dims, IsDims}
 use Rattle.cube_model.specs.Protection.{first}
+use Rattle.cube_core.specs.Keys.{key_count}
+use Rattle.cube_core.proofs.Ranking.{IsWithin}
 use Rattle.cube_facts.specs.FactFile.{Fact, facts_in, fact_of, own_faults, record_faults}
-use Rattle.cube_facts.specs.Filling.{AreFacts, Gathers, IsFact}
+use Rattle.cube_facts.specs.Filling.{AreFacts, Gathers, IsFact, IsNoted}
 use Rattle.cube_facts.specs.declared.blocks.Held.{Held}
 use Rattle.cube_facts.specs.declared.fault.FactsFault.{FactsFault}
 use Rattle.cube_facts.specs.declared.totals.Points.{Points}
@@ -60,6 +62,15 @@ pub record Awaits (s : Dims) (all : List (List (List ℕ))) (header : List (List
   pub rows : List (List (List ℕ))
   pub reads : Reads s all header points count (rows ++ rest)
   pub say : SayFacts s header count facts rows
+
+-- the places of the points of a block may be looked for
+pub record MayLook (points : Points) (block : List Held) : Type 0 where
+  pub each : (i : ℕ) (d : Held) → i < length block → IsWithin points.sizes.items (slice_index_or block i d).leaves.items
+  pub combinations : key_count points.sizes.items ≤ 2 ^ 128
+
+-- places are noted for the points of a block, as far as they are known
+abbrev pub AreNoted : Points → List ℕ → List Held → Type 0
+AreNoted points noted block = (i : ℕ) (d : Held) → i < length block → IsNoted points (slice_index_or block i d).leaves.items (slice_index_or noted i 0)
 
 -- facts have been taken that may be added up
 pub record MayAdd (points : Points) (count : ℕ) (facts : List Fact) : Type 0 where

@@ -1,5 +1,5 @@
 -- How facts are added up: at each point the number of its facts, and the plain sum of each measure.
-use Rattle.std.specs.Prelude.{◌≡◌, ℕ, ◌+◌, ◌*◌, ◌<◌, ◌≤◌, ◌^◌, nat_lt, nat_eq, if◌then◌else◌, List, [], ◌∷◌, ◌++◌, length, take, drop, map, flat_map, slice_index_or, slice_set, ℤ, ◌+ℤ◌, All, ⊤}
+use Rattle.std.specs.Prelude.{◌≡◌, ℕ, ◌+◌, ◌*◌, ◌<◌, ◌≤◌, ◌^◌, nat_lt, nat_eq, if◌then◌else◌, List, [], ◌∷◌, ◌++◌, length, take, drop, map, flat_map, slice_index_or, slice_set, position, Some, ℤ, ◌+ℤ◌, All, ⊤}
 use Rattle.std.specs.List.{position_or_len}
 use Rattle.cube_model.specs.Cores.{IsSumOf}
 use Rattle.cube_model.specs.Cubes.{Each, IsIn, IsPoint, count_from, in_order}
@@ -50,6 +50,10 @@ pub record Gathers (s : Dims) (facts : List Fact) (p : Points) : Type 0 where
   pub facts_are : p.facts.items ≡ map (λ x. length (facts_at facts x)) p.leaves
   pub measures : p.measures ≡ length s.measures
   pub sums : p.sums.items ≡ flat_map (λ x. map (λ m. units_sum m (facts_at facts x)) (count_from 0 (length s.measures))) p.leaves
+
+-- the place of a point is noted, and 1 more; 0 says nothing
+abbrev pub IsNoted : Points → List ℕ → ℕ → Type 0
+IsNoted p leaves noted = (place : ℕ) → noted ≡ place + 1 → position (nat_eq (rank 0 p.sizes.items leaves)) p.places ≡ Some place
 
 -- one fact more may be added behind so many
 pub record Fits (p : Points) (earlier : ℕ) (leaves : List ℕ) (units : List ℤ) : Type 0 where

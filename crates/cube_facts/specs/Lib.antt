@@ -3,7 +3,9 @@ pub mod Words
 pub mod FactFile
 pub mod Flat
 pub mod Table
+pub mod Tags
 pub mod Known
+pub mod Plain
 pub mod Unread
 pub mod Filling
 pub mod Blocks

@@ -4,7 +4,7 @@ ghost use Rattle.std.specs.Prelude.{◌≡◌, ◌⊎◌, ◌≤◌, ◌<◌, �
 ghost use Rattle.csv.specs.Records.{fields_of};
 ghost use Rattle.cube_model.specs.Dims.{Dims, IsDims};
 ghost use Rattle.cube_facts.specs.FactFile.{facts_in};
-ghost use Rattle.cube_facts.specs.Blocks.{fact_held, SaysFact, FirstIsFaulty, Takes, Reads, Awaits, MayAdd};
+ghost use Rattle.cube_facts.specs.Blocks.{fact_held, SaysFact, FirstIsFaulty, Takes, Reads, Awaits, MayAdd, MayLook, AreNoted};
 ghost use Rattle.cube_facts.specs.declared.fault.FactsFault.TheVariants as fault;
 
 use crate::FactsFault;
@@ -113,6 +113,20 @@ pub(crate) fn read_block<R: Records>(
     (block.len(), Ok(true))
 }
 
+// The places of the points of a block, each and 1 more, and 0 where it is not known. All are looked for before any fact is
+// added up, so that the facts of a block wait for memory together.
+fn noted_places(points: &Points, block: &[Held]) -> [u16; BLOCK]
+    requires short { length block.now ≤ 128 }
+    requires may { MayLook points.now block.now }
+    ensures { AreNoted points.now result block.now }
+{
+    let mut noted = [0u16; BLOCK];
+    for (place, held) in block.iter().enumerate() {
+        noted[place] = points.noted(held.leaves.as_slice());
+    }
+    noted
+}
+
 /// Adds up the facts of a block, behind so many others, until there are too many points.
 pub(crate) fn add_block(
     alloc: Global,
@@ -120,14 +134,17 @@ pub(crate) fn add_block(
     earlier: u64,
     block: &[Held],
 ) -> Result<(), FactsFault>
-    requires { MayAdd points.old earlier (map fact_held block.now) }
+    requires short { length block.now ≤ 128 }
+    requires may { MayAdd points.old earlier (map fact_held block.now) }
     ensures ok { (s : Dims) (all : List (List (List ℕ))) (header : List (List ℕ)) (rest : List (List (List ℕ))) → Awaits s all header points.old earlier (map fact_held block.now) rest → OnOk result (Reads s all header points.new (earlier + length block.now) rest) }
     ensures err { (s : Dims) (all : List (List (List ℕ))) (header : List (List ℕ)) (rest : List (List (List ℕ))) → Awaits s all header points.old earlier (map fact_held block.now) rest → IfErr result (λ e. (e ≡ fault.NoMemory) ⊎ (facts_in s all ≡ Err e)) }
 {
+    let noted = noted_places(points, block);
     for (place, held) in block.iter().enumerate() {
         points.add(
             alloc,
             earlier + place as u64,
+            noted[place],
             held.leaves.as_slice(),
             held.units.as_slice(),
         )?;

@@ -65,12 +65,8 @@ fn read_points<R: Records>(
     Err(FactsFault::NoMemory)
 }
 
-/// Reads facts from records by the columns that the dimensions and the measures name: the points at
-/// which there are facts, and the plain sum of each measure at each of them.
-///
-/// Columns that nothing names are ignored. The time is that of the records, each with one look-up
-/// of its point by a hash, and of one sort of the points.
-pub fn read_facts_of<R: Records>(
+// Reads facts from records.
+fn read_facts_of<R: Records>(
     alloc: Global,
     dims: &Dims,
     records: &mut R,
@@ -85,7 +81,11 @@ pub fn read_facts_of<R: Records>(
     Ok((shape, cube))
 }
 
-/// Reads a fact file, as `read_facts_of` reads its records.
+/// Reads a fact file by the columns that the dimensions and the measures name: the points at which there
+/// are facts, and the plain sum of each measure at each of them.
+///
+/// Columns that nothing names are ignored. The time is that of the records, each with one look-up
+/// of its point by a hash, and of one sort of the points.
 pub fn read_facts(alloc: Global, dims: &Dims, bytes: &[u8]) -> Result<(Shape, Cube), FactsFault>
     ensures said { Answers fault.NoMemory result (filled_of dims.now bytes.now) }
     ensures rules { IfOk result (λ filled. IsCore (record { dims = dims.now; shape = filled.0; cube = filled.1 })) }

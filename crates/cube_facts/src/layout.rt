@@ -11,10 +11,13 @@ ghost use Rattle.cube_text.specs.Units.{units_of};
 ghost use Rattle.cube_facts.specs.FactFile.{field_in, leaf_of, fact_of, own_faults, column_faults, leaf_faults, number_faults, field_faults};
 ghost use Rattle.cube_facts.specs.Records.{value_faults};
 ghost use Rattle.cube_facts.specs.Table.{IsUnits};
+ghost use Rattle.cube_facts.specs.Tags.{tag_of, AreBytes, HasTags, HaveTags};
 ghost use Rattle.cube_facts.specs.declared.fault.FactsFault.TheVariants as fault;
 
 use crate::FactsFault;
+use crate::plain::plain_units;
 use crate::records::MAX_FACTS;
+use crate::tags::{all_tags, tag_of};
 use csv::ByteRecord;
 use cube_model::{
     Dimension, Dims, Items, LimitKind, Measure, NoMemory, Recent, Text, Texts, Values,
@@ -124,19 +127,45 @@ fn is_leaf(dimension: &Dimension, leaf: usize, name: &[u8]) -> bool
     leaf < names.count() && names.name(leaf) == name
 }
 
+// Whether a leaf has a name. Short names are compared by their tags alone.
+fn is_known(dimension: &Dimension, tags: &[u64], leaf: usize, tag: u64, name: &[u8]) -> bool
+    requires tags { HasTags dimension.now tags.now }
+    requires tag { tag ≡ tag_of name.now }
+    requires bytes { AreBytes name.now }
+    ensures { result ≡ true → leaf_of dimension.now name.now ≡ Some leaf }
+{
+    if tag == 0 {
+        return is_leaf(dimension, leaf, name);
+    }
+    leaf < tags.len() && tags[leaf] == tag
+}
+
+// So many slots are used for short names, a prime number.
+const SHORT_SLOTS: u64 = 16_381;
+
+fn slot_of(recent: &Recent, number: usize, tag: u64, name: &[u8]) -> usize {
+    if tag == 0 {
+        return recent.slot(number, name);
+    }
+    (tag.wrapping_add(number as u64) % SHORT_SLOTS) as usize
+}
+
 // The number of the leaf of a name. Where the name is that of the leaf that was found last in its slot, nothing else is
 // looked at.
 fn find_recent(
     recent: &mut Recent,
     number: usize,
     dimension: &Dimension,
+    tags: &[u64],
     name: &[u8],
 ) -> Option<u32>
+    requires { HasTags dimension.now tags.now }
     ensures { result ≡ leaf_of dimension.now name.now }
 {
-    let slot = recent.slot(number, name);
+    let tag = tag_of(name);
+    let slot = slot_of(recent, number, tag, name);
     if let Some(guess) = recent.guess(slot) {
-        if guess <= u32::MAX as usize && is_leaf(dimension, guess, name) {
+        if guess <= u32::MAX as usize && is_known(dimension, tags, guess, tag, name) {
             return Some(guess as u32);
         }
     }
@@ -152,7 +181,10 @@ fn find_units(measure: &Measure, number: &[u8]) -> Result<i64, UnitFault>
     ensures said { result ≡ units_of measure.now.decimals number.now }
     ensures bounded { IfOk result IsUnits }
 {
-    read_units(number, measure.decimals())
+    match plain_units(number, measure.decimals()) {
+        Some(units) => Ok(units),
+        None => read_units(number, measure.decimals()),
+    }
 }
 
 // Checks a field as a leaf of a dimension, where its column is for that.
@@ -254,8 +286,10 @@ pub(crate) struct Layout<'a> {
     dims: &'a Dims,
     header: Texts,
     places: Items<usize>,
+    tags: Items<Items<u64>>,
     ghost found: { places ≡ map (λ name. unwrap_or (found name header) 0) (column_names dims.now) } by { Prim.hlevel props },
     ghost once: { flat_map (column_faults header) (column_names dims.now) ≡ [] } by { Prim.hlevel props },
+    ghost tagged: { HaveTags dims.now tags } by { Prim.hlevel props },
 }
 
 impl<'a> Layout<'a> {
@@ -272,10 +306,12 @@ impl<'a> Layout<'a> {
         let header = texts_of(alloc, row)?;
         let names = needed_columns(alloc, dims)?;
         let places = find_columns(alloc, header.as_slice(), names.as_slice())?;
+        let tags = all_tags(alloc, dims)?;
         Ok(Layout {
             dims,
             header,
             places,
+            tags,
         })
     }
 
@@ -299,7 +335,8 @@ impl<'a> Layout<'a> {
         leaves.clear();
         for (number, dimension) in self.dims.dimensions().iter().enumerate() {
             let name = self.field_under(row, number);
-            let Some(leaf) = find_recent(recent, number, dimension, name) else {
+            let tags = self.tags.as_slice()[number].as_slice();
+            let Some(leaf) = find_recent(recent, number, dimension, tags, name) else {
                 return Ok(false);
             };
             leaves.push(leaf)?;

@@ -51,7 +51,7 @@ pub fn open_records(alloc: Global, bytes: &[u8]) -> Reader<&[u8]>
 }
 
 /// Records, from the header on, one after another.
-pub trait Records {
+pub(crate) trait Records {
     /// The records that are left.
     ghost left: { Self → List (List (List ℕ)) };
 

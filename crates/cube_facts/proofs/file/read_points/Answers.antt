@@ -15,8 +15,8 @@ turns-init g c =
       omega arith,
     )
 
-pub add_block-requires : goal.add_block-requires
-add_block-requires g c =
+pub add_block-requires-clause-may : goal.add_block-requires-clause-may
+add_block-requires-clause-may g c =
     let s = c.args.dims.now in
     let all = g.R.Records.left c.args.records.now in
     let header = c.in-Ok.layout.header in
