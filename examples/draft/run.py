@@ -148,9 +148,51 @@ def what_cannot_be_drafted_is_told(folder):
     assert status == 5, text
 
 
+def table(late, many=3_000):
+    """A file whose record 2,001 is another one."""
+    lines = [f"a{row % 7},b{row % 11},{row},1" for row in range(many)]
+    lines[2_000] = late
+    return "a,b,v,w\n" + "\n".join(lines) + "\n"
+
+
+def pairs(many, points):
+    """A file with so many records, at so many of 90,000 possible points."""
+    return "a,b,v\n" + "".join(f"a{row % points % 300},b{row % points // 300},1\n" for row in range(many))
+
+
+LATE = [
+    # A first look at the records does not tell these.
+    ("finer", table("a1,b1,0.125,1"), 'name = "v"\ndecimals = 3', 77),
+    ("turned", table("a1,b1,many,1"), 'name = "v"\nlevels = ["v"', 3_000),
+    # More records and more combinations than there may be points: the points are counted.
+    ("counted", pairs(70_000, 60_000), 'name = "a"', 60_000),
+]
+
+LATE_REFUSED = [
+    (table("a1,b1,1000000000001,1"), "row 2001 "),
+    (table("a1,b1,1"), "row 2001 fields"),
+    (pairs(70_000, 65_537), "limit points 65536"),
+]
+
+
+def what_comes_late_is_found(folder):
+    for name, facts, words, points in LATE:
+        facts = written(folder, f"{name}.csv", facts)
+        status, text = draft(facts)
+        assert status == 0 and words in text, (name, status, text[-400:])
+        policy_status, policy = draft(facts, "--policy")
+        assert policy_status == 0, policy
+        held = summary(written(folder, f"{name}.toml", text), facts, written(folder, f"{name}-policy.toml", policy))
+        assert held["points"] == str(points), (name, held)
+    for number, (facts, words) in enumerate(LATE_REFUSED):
+        status, text = draft(written(folder, f"late-{number}.csv", facts))
+        assert status == 3 and words in text, (number, status, text)
+
+
 def main():
     with tempfile.TemporaryDirectory() as folder:
-        for check in (the_pay_of_an_office, levels_are_found, texts_are_read_as_they_are, what_cannot_be_drafted_is_told):
+        checks = (the_pay_of_an_office, levels_are_found, texts_are_read_as_they_are, what_cannot_be_drafted_is_told, what_comes_late_is_found)
+        for check in checks:
             check(folder)
             print("draft:", check.__name__.replace("_", " "))
 

@@ -1,2 +1,4 @@
 pub mod Names
 pub mod Steps
+pub mod Counting
+pub mod Seen

@@ -52,8 +52,8 @@ fn is_path(path: &[Text], table: &Table, columns: &[usize], row: usize) -> bool
     true
 }
 
-// The number of the member of a row in a column.
-fn number_in(table: &Table, place: usize, row: usize) -> usize {
+/// The number of the member of a row in a column.
+pub(crate) fn number_in(table: &Table, place: usize, row: usize) -> usize {
     match table.fields.get(place) {
         Some(names) if row < names.len() => names.number(row) as usize,
         _ => 0,
@@ -95,8 +95,8 @@ fn has_same(table: &Table, place: usize, one: usize, other: usize) -> bool
     place < table.fields.len() && are_alike(&table.fields[place], one, other)
 }
 
-// Whether some columns have the same fields in two rows.
-fn have_same(table: &Table, columns: &[usize], one: usize, other: usize) -> bool
+/// Whether some columns have the same fields in two rows.
+pub(crate) fn have_same(table: &Table, columns: &[usize], one: usize, other: usize) -> bool
     ensures { result ≡ true → kept_path table.now.fields.items columns.now one ≡ kept_path table.now.fields.items columns.now other }
 {
     for level in 0..columns.len() {
@@ -132,8 +132,8 @@ fn have_paths(paths: &[Texts], table: &Table, columns: &[usize], finest: usize) 
     true
 }
 
-// Whether some columns are marked.
-fn are_marked(members: &[bool], columns: &[usize]) -> bool
+/// Whether some columns are marked.
+pub(crate) fn are_marked(members: &[bool], columns: &[usize]) -> bool
     ensures { result ≡ true → (k : ℕ) → k < length columns.now → (slice_index_or columns.now k 0 < length members.now) × IsMarked members.now (slice_index_or columns.now k 0) }
 {
     for level in 0..columns.len() {

@@ -1,7 +1,9 @@
 // The columns of a fact file by their names, and what is stated of them.
-ghost use Rattle.std.specs.Prelude.{◌≡◌, [], slice_index_or, position, IfOk};
+ghost use Rattle.std.specs.Prelude.{◌≡◌, [], false, slice_index_or, position, IfOk, OnOk};
 ghost use Rattle.std.specs.Str.{bytes_eq};
+ghost use Rattle.csv.specs.Reading.{strip_bom};
 ghost use Rattle.csv.specs.Records.{fields_of};
+ghost use Rattle.cube_model.specs.Names.{begins_with_mark};
 ghost use Rattle.cube_draft.specs.Drafts.{field_of};
 ghost use Rattle.cube_draft.specs.Kept.{Begins};
 
@@ -83,7 +85,8 @@ fn check_once(alloc: Global, header: &[Text]) -> Result<(), DraftFault> {
 
 /// The names of the columns of a fact file.
 pub(crate) fn read_header(alloc: Global, bytes: &[u8]) -> Result<Texts, DraftFault>
-    ensures { IfOk result (λ header. Begins bytes.now header) }
+    ensures begins { IfOk result (λ header. Begins bytes.now header) }
+    ensures unmarked { OnOk result (begins_with_mark (strip_bom bytes.now) ≡ false) }
 {
     if has_second_mark(bytes) {
         return Err(no_header());

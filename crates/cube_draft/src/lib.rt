@@ -8,6 +8,7 @@ mod columns;
 mod fault;
 mod hierarchy;
 mod plan;
+mod shown;
 mod table;
 mod text;
 mod whole;

@@ -1,8 +1,10 @@
 // What the columns of a fact file hold: members, or numbers alone.
-ghost use Rattle.std.specs.Prelude.{◌≡◌, ◌<◌, ◌-◌, ◌^◌, ◌++◌, ◌∷◌, [], ℕ, length, slice_index_or, IfOk, OnOk};
+ghost use Rattle.std.specs.Prelude.{◌≡◌, ◌<◌, ◌-◌, ◌^◌, ◌++◌, ◌∷◌, [], ℕ, true, false, length, slice_index_or, IfOk, OnOk};
+ghost use Rattle.csv.specs.Reading.{strip_bom};
 ghost use Rattle.csv.specs.Records.{fields_of};
+ghost use Rattle.cube_model.specs.Names.{begins_with_mark};
 ghost use Rattle.cube_draft.specs.Drafts.{field_of};
-ghost use Rattle.cube_draft.specs.Kept.{Grows, Holds, Scanned};
+ghost use Rattle.cube_draft.specs.Kept.{AreNumbers, Grows, Holds, IsNumber, Scanned, Shown};
 
 use crate::choices::Choices;
 use crate::columns::{MAX_COLUMNS, field_at, marks_of, no_header, read_header, stated_places};
@@ -14,7 +16,8 @@ use cube_text::{UnitFault, read_units};
 use std::alloc::Global;
 
 /// The columns of a fact file: of each its name, whether it has members, its fields where it has,
-/// and the decimals of its numbers where it has none.
+/// and the decimals of its numbers where it has none. A table is sound where each of these numbers
+/// was read, and is not too large.
 #[derive(Drop)]
 pub(crate) struct Table {
     pub(crate) header: Texts,
@@ -22,6 +25,7 @@ pub(crate) struct Table {
     pub(crate) fields: Vec<NumberedNames>,
     pub(crate) decimals: Vec<u32>,
     pub(crate) rows: usize,
+    pub(crate) sound: bool,
 }
 
 // What a pass over the records finds.
@@ -32,43 +36,24 @@ struct Found {
     // The columns that hold something else than numbers, against what they were taken for.
     turned: Vec<bool>,
     rows: usize,
+    // Whether each field of a column of numbers was read by the decimals that it began with.
+    sound: bool,
 }
 
-// A number without its sign.
-fn unsigned(field: &[u8]) -> &[u8] {
-    match field {
-        [b'-' | b'+', rest @ ..] => rest,
-        _ => field,
-    }
+// What a look at the first records finds.
+#[derive(Drop)]
+struct First {
+    members: Vec<bool>,
+    decimals: Vec<u32>,
 }
 
-// Whether a field is a number with no more digits behind its point than there are decimals: most
-// fields are, and of these no value is wanted yet.
-fn is_plain(field: &[u8], decimals: u32) -> bool {
-    let body = unsigned(field);
-    let mut point = None;
-    for (place, byte) in body.iter().enumerate() {
-        if *byte == b'.' && point.is_none() {
-            point = Some(place);
-        } else if !byte.is_ascii_digit() {
-            return false;
-        }
-    }
-    match point {
-        None => !body.is_empty(),
-        Some(place) => {
-            let behind = body.len().saturating_sub(place).saturating_sub(1);
-            place > 0 && behind > 0 && behind <= decimals as usize
-        }
-    }
-}
+// The most records of a first look, which spares another pass where it tells the members and the
+// decimals well.
+const FIRST_RECORDS: usize = 1_000;
 
 /// The least decimals, so many or more, by which a field is read as a number, also as one that is
 /// too large.
 pub(crate) fn decimals_from(field: &[u8], least: u32) -> Option<u32> {
-    if is_plain(field, least) {
-        return Some(least);
-    }
     for decimals in least..7 {
         match read_units(field, decimals) {
             Err(UnitFault::TooFine) => {}
@@ -128,37 +113,92 @@ fn push_fields(
     Ok(())
 }
 
-// Notes a field of a column of numbers.
-fn note_field(decimals: &mut Vec<u32>, turned: &mut Vec<bool>, place: usize, field: &[u8])
+// Whether a field is read as a number of so many decimals.
+fn is_number(field: &[u8], decimals: u32) -> bool
+    ensures { result ≡ true → IsNumber decimals field.now }
+{
+    decimals <= 6 && read_units(field, decimals).is_ok()
+}
+
+// Whether both are true.
+fn both(one: bool, other: bool) -> bool
+    ensures one { result ≡ true → one ≡ true }
+    ensures other { result ≡ true → other ≡ true }
+{
+    one && other
+}
+
+// Notes a field of a column of numbers, and whether it is one of the decimals that the others have.
+fn note_field(decimals: &mut Vec<u32>, turned: &mut Vec<bool>, place: usize, field: &[u8]) -> bool
     requires decimals { place < length decimals.old.items }
     requires turned { place < length turned.old.items }
     ensures decimals { length decimals.new.items ≡ length decimals.old.items }
     ensures turned { length turned.new.items ≡ length turned.old.items }
+    ensures steady { result ≡ true → decimals.new.items ≡ decimals.old.items }
+    ensures read { result ≡ true → IsNumber (slice_index_or decimals.old.items place 0) field.now }
 {
-    match decimals_from(field, decimals[place]) {
-        Some(more) => decimals[place] = more,
-        None => turned[place] = true,
+    if is_number(field, decimals[place]) {
+        return true;
     }
+    if !turned[place] {
+        match decimals_from(field, decimals[place]) {
+            Some(more) => decimals[place] = more,
+            None => turned[place] = true,
+        }
+    }
+    false
 }
 
-// Notes the fields of a record in the columns of numbers.
-fn note_fields(decimals: &mut Vec<u32>, turned: &mut Vec<bool>, members: &[bool], row: &ByteRecord)
+// Notes the field of a record in a column, where that has numbers.
+fn note_column(
+    decimals: &mut Vec<u32>,
+    turned: &mut Vec<bool>,
+    members: &[bool],
+    place: usize,
+    row: &ByteRecord,
+) -> bool
+    requires place { place < length members.now }
     requires decimals { length members.now ≡ length decimals.old.items }
     requires turned { length members.now ≡ length turned.old.items }
     ensures decimals { length decimals.new.items ≡ length decimals.old.items }
     ensures turned { length turned.new.items ≡ length turned.old.items }
+    ensures steady { result ≡ true → decimals.new.items ≡ decimals.old.items }
+    ensures read { result ≡ true → slice_index_or members.now place false ≡ false → IsNumber (slice_index_or decimals.old.items place 0) (field_of place (fields_of row.now)) }
 {
-    for place in 0..members.len() {
-        if !members[place] && !turned[place] {
-            note_field(decimals, turned, place, field_at(row, place));
-        }
+    if members[place] {
+        return true;
     }
+    note_field(decimals, turned, place, field_at(row, place))
+}
+
+// Notes the fields of a record in the columns of numbers, and whether each is one of the decimals
+// that the others have.
+fn note_fields(
+    decimals: &mut Vec<u32>,
+    turned: &mut Vec<bool>,
+    members: &[bool],
+    row: &ByteRecord,
+) -> bool
+    requires decimals { length members.now ≡ length decimals.old.items }
+    requires turned { length members.now ≡ length turned.old.items }
+    ensures decimals { length decimals.new.items ≡ length decimals.old.items }
+    ensures turned { length turned.new.items ≡ length turned.old.items }
+    ensures steady { result ≡ true → decimals.new.items ≡ decimals.old.items }
+    ensures read { result ≡ true → AreNumbers members.now decimals.old.items (fields_of row.now) }
+{
+    let mut sound = true;
+    for place in 0..members.len() {
+        let read = note_column(decimals, turned, members, place, row);
+        sound = both(sound, read);
+    }
+    sound
 }
 
 // Checks a record behind so many others.
 fn check_record(row: &ByteRecord, width: usize, earlier: u64) -> Result<(), DraftFault>
     requires { earlier < 2 ^ 64 - 1 }
-    ensures { OnOk result (earlier < 1000000) }
+    ensures few { OnOk result (earlier < 1000000) }
+    ensures wide { OnOk result (length (fields_of row.now) ≡ width) }
 {
     if earlier >= MAX_FACTS {
         return Err(DraftFault::Facts {
@@ -176,11 +216,14 @@ fn check_record(row: &ByteRecord, width: usize, earlier: u64) -> Result<(), Draf
     Ok(())
 }
 
-// Passes over the records, where the columns that are marked have members.
-fn scan(alloc: Global, bytes: &[u8], members: &[bool]) -> Result<Found, DraftFault>
-    ensures { IfOk result (λ found. Scanned bytes.now members.now found.fields.items found.rows) }
+// Passes over the records, where the columns that are marked have members, and the numbers of the
+// others so many decimals or more.
+fn scan(alloc: Global, bytes: &[u8], members: &[bool], least: Vec<u32>) -> Result<Found, DraftFault>
+    requires { length members.now ≡ length least.items }
+    ensures scanned { IfOk result (λ found. Scanned bytes.now members.now found.fields.items found.rows found.decimals.items found.sound) }
+    ensures decimals { IfOk result (λ found. length found.decimals.items ≡ length members.now) }
 {
-    let width = members.len();
+    let columns = members.len();
     let mut reader = open_records(alloc, bytes);
     let mut row = ByteRecord::new(alloc);
     match reader.read_byte_record(&mut row) {
@@ -188,9 +231,11 @@ fn scan(alloc: Global, bytes: &[u8], members: &[bool]) -> Result<Found, DraftFau
         Ok(false) => return Err(no_header()),
         Err(_) => return Err(DraftFault::NoMemory),
     }
-    let mut fields = no_fields(alloc, width)?;
-    let mut decimals = vec![in alloc; 0u32; width]?;
-    let mut turned = vec![in alloc; false; width]?;
+    let width = row.len();
+    let mut fields = no_fields(alloc, columns)?;
+    let mut decimals = least;
+    let mut turned = vec![in alloc; false; columns]?;
+    let mut sound = true;
     'records: for earlier in 0..u64::MAX {
         match reader.read_byte_record(&mut row) {
             Ok(true) => {}
@@ -200,19 +245,35 @@ fn scan(alloc: Global, bytes: &[u8], members: &[bool]) -> Result<Found, DraftFau
                     decimals,
                     turned,
                     rows: earlier as usize,
+                    sound,
                 });
             }
             Err(_) => return Err(DraftFault::NoMemory),
         }
         check_record(&row, width, earlier)?;
         push_fields(alloc, &mut fields, members, &row)?;
-        note_fields(&mut decimals, &mut turned, members, &row);
+        let read = note_fields(&mut decimals, &mut turned, members, &row);
+        sound = both(sound, read);
     }
     Err(DraftFault::NoMemory)
 }
 
-// Marks the columns whose field in the first record is no number, beside those that are marked.
-fn mark_first(alloc: Global, bytes: &[u8], marks: &[bool]) -> Result<Vec<bool>, DraftFault> {
+// Marks also those that another list marks.
+fn mark_turned(members: &mut Vec<bool>, turned: &[bool])
+    ensures { length members.new.items ≡ length members.old.items }
+{
+    for (place, mark) in turned.iter().enumerate() {
+        if *mark && place < members.len() {
+            members[place] = true;
+        }
+    }
+}
+
+// Looks at the first records: which columns have something else than numbers there, beside those
+// that are marked, and how many decimals the numbers of the others have.
+fn look_first(alloc: Global, bytes: &[u8], marks: &[bool]) -> Result<First, DraftFault>
+    ensures { IfOk result (λ first. length first.decimals.items ≡ length first.members.items) }
+{
     let mut reader = open_records(alloc, bytes);
     let mut row = ByteRecord::new(alloc);
     match reader.read_byte_record(&mut row) {
@@ -225,47 +286,52 @@ fn mark_first(alloc: Global, bytes: &[u8], marks: &[bool]) -> Result<Vec<bool>, 
         Ok(false) => return Err(DraftFault::NoRecord),
         Err(_) => return Err(DraftFault::NoMemory),
     }
-    let mut members = Vec::new(alloc);
-    for (place, mark) in marks.iter().enumerate() {
-        members.push(*mark || decimals_from(field_at(&row, place), 0).is_none())?;
+    let mut decimals = vec![in alloc; 0u32; marks.len()]?;
+    let mut turned = vec![in alloc; false; marks.len()]?;
+    for _ in 0..FIRST_RECORDS {
+        note_fields(&mut decimals, &mut turned, marks, &row);
+        match reader.read_byte_record(&mut row) {
+            Ok(true) => {}
+            Ok(false) => break,
+            Err(_) => return Err(DraftFault::NoMemory),
+        }
     }
-    Ok(members)
-}
-
-// Marks those of either list.
-fn either(alloc: Global, marks: &[bool], more: &[bool]) -> Result<Vec<bool>, NoMemory> {
-    let mut members = Vec::new(alloc);
-    for (mark, other) in marks.iter().zip(more.iter()) {
-        members.push(*mark || *other)?;
-    }
-    Ok(members)
+    let mut members = Vec::from_slice(alloc, marks)?;
+    mark_turned(&mut members, turned.as_slice());
+    Ok(First { members, decimals })
 }
 
 /// The columns of a fact file. A file is passed over once more where a column begins with numbers
-/// and has another field behind them.
+/// and has another field behind them, or finer ones.
 pub(crate) fn read_columns(
     alloc: Global,
     bytes: &[u8],
     choices: &Choices,
 ) -> Result<Table, DraftFault>
-    ensures { IfOk result (λ table. Holds bytes.now table.header table.members.items table.fields.items table.rows) }
+    ensures holds { IfOk result (λ table. Holds bytes.now table.header table.members.items table.fields.items table.rows) }
+    ensures shown { IfOk result (λ table. table.sound ≡ true → Shown bytes.now table.header table.members.items table.fields.items table.rows table.decimals.items) }
+    ensures unmarked { OnOk result (begins_with_mark (strip_bom bytes.now) ≡ false) }
 {
     let header = read_header(alloc, bytes)?;
     let stated = stated_places(alloc, header.as_slice(), choices)?;
     let marks = marks_of(alloc, header.len(), stated.as_slice())?;
-    let mut members = mark_first(alloc, bytes, marks.as_slice())?;
-    for _ in 0..=MAX_COLUMNS {
-        let found = scan(alloc, bytes, members.as_slice())?;
-        if !found.turned.contains(&true) {
+    let first = look_first(alloc, bytes, marks.as_slice())?;
+    let mut members = first.members;
+    let mut decimals = first.decimals;
+    for pass in 0..=MAX_COLUMNS {
+        let found = scan(alloc, bytes, members.as_slice(), decimals)?;
+        if !found.turned.contains(&true) && (found.sound || pass > 0) {
             return Ok(Table {
                 header,
                 members,
                 fields: found.fields,
                 decimals: found.decimals,
                 rows: found.rows,
+                sound: found.sound,
             });
         }
-        members = either(alloc, members.as_slice(), found.turned.as_slice())?;
+        mark_turned(&mut members, found.turned.as_slice());
+        decimals = found.decimals;
     }
     Err(DraftFault::NoMemory)
 }

@@ -5,8 +5,8 @@ use Rattle.cube_facts.proofs.Whole.{first-more}
 use Rattle.cube_facts.proofs.Left.{left_from}
 use Rattle.cube_draft.proofs.columns.read_header.Goals as goal
 
-pub returns : goal.returns
-returns c =
+pub returns-clause-begins : goal.returns-clause-begins
+returns-clause-begins c =
     let fr = c.open_records-reader.ensures in
     let read = rw c.in-Ok-true.field-0-test at (c.in-Ok-true.ensures.reads fr.trim (inr (inr (fr.has_headers, fr.headers)))) in
     let (z, at_z, between, step) = first-more (λ (s : Bor (List ℕ)). Some s.now) c.open_records-reader.result c.read_byte_record.new.self (fields_of c.read_byte_record.new.row) (strip_bom c.args.bytes.now) fr.config fr.source fr.state read in

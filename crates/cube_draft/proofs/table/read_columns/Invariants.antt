@@ -1,5 +1,6 @@
+use Rattle.std.proofs.Common.{◌≡◌, length}
 use Rattle.cube_draft.specs.Kept.{Begins}
 use Rattle.cube_draft.proofs.table.read_columns.Given as goal
 
-abbrev pub invariant-loop : goal.invariant-loop
-invariant-loop l = Begins l.fn.bytes l.header
+abbrev pub invariant-loop-pass : goal.invariant-loop-pass
+invariant-loop-pass l = Begins l.fn.bytes l.header × (length l.decimals.items ≡ length l.members.items)

@@ -10,4 +10,4 @@ abbrev pub invariant-records : goal.invariant-records
 invariant-records l = (length l.fields.items ≡ length l.members) × (length l.decimals.items ≡ length l.members) × (length l.turned.items ≡ length l.members)
     × (l.reader.trim ≡ trim.None) × Ready l.reader × (l.reader.config ≡ default_config) × (ends_at_end l.reader.state ≡ false)
     × (y : List ℕ) × (source_of (λ s. Some s.now) l.reader ≡ Some y)
-    × Passed l.fn.bytes l.members l.fields.items l.earlier (left_from l.reader.state y)
+    × Passed l.fn.bytes l.members l.fields.items l.earlier l.width l.decimals.items l.sound (left_from l.reader.state y)
