@@ -1,11 +1,12 @@
 -- What a crash may leave of the log of a talk.
-use Rattle.std.proofs.Common.{◌≡◌, ℕ, IsTrue, List, inl, inr, sym, subst}
+use Rattle.std.proofs.Common.{◌≡◌, ℕ, IsTrue, List, [], inl, inr, refl, sym, subst}
 use Rattle.cube_model.specs.declared.entry.Entry.{Entry}
 use Rattle.cube_model.specs.declared.outcome.Outcome.{Outcome}
 use Rattle.cube_model.specs.declared.policy.Policy.{Policy}
 use Rattle.cube_model.specs.Cores.{Core, world}
 use Rattle.cube_model.specs.Rooms.{Room, alone}
 use Rattle.cube_model.specs.TwoWorlds.{Extends}
+use Rattle.cube_io.specs.Desks.{GivesRooms}
 use Rattle.cube_io.specs.Seen.{SourceState, SinkState, StoreState, Seen}
 use Rattle.cube_io.specs.States.{State, Log, Gained}
 use Rattle.cube_io.proofs.Trails.{gained_then, gained_map}
@@ -17,9 +18,11 @@ use Rattle.cube_engine.specs.Worlds.{first_history}
 use Rattle.cube_talk.specs.Asks.{rooms_behind}
 use Rattle.cube_talk.specs.Moments.{Moment, moment}
 use Rattle.cube_talk.specs.declared.talk.TalkEnd.{TalkEnd}
-use Rattle.cube_talk.specs.Crashes.{IsOnTheWay, IsPassed, TalkedOver}
-use Rattle.cube_serving.specs.Starting.{IsBetween, Survived}
+use Rattle.cube_talk.specs.Crashes.{IsOnTheWay, IsInHand, IsPassed, TalkedOver}
+use Rattle.cube_serving.specs.Starting.{IsBetween, Survived, HeldIn}
+use Rattle.cube_serving.proofs.Held.{settled_leaves, held}
 use Rattle.cube_serving.proofs.Started.{exact_of, within_of, begun}
+use Rattle.cube_app.specs.Talks.{IsInLine}
 use Rattle.cube_app.proofs.Worlds.{behind_grows, behind_more}
 
 -- ---- the log while the lines are answered
@@ -67,3 +70,17 @@ survived {S} {I} {O} {input} {out} core policy h j stated last end mid store zer
       ends = subst (λ (rs : List Room). IsWithin core policy (first_history rs) s) v.rooms_are (((lives.within_stays (rooms_of last) 0 s).0 (lives.ends_within tells 0 around)).1);
       exact = λ none. subst (λ (rs : List Room). IsExact core policy (first_history rs) s) v.rooms_are (((lives.exact_stays (rooms_of last) 0 s).0 (lives.ends_exact tells none 0 here)).1);
     }
+
+-- and of what is in hand meanwhile
+pub held_lines : {S I O : Type 0} {input : Seen SourceState I} {out : Seen SinkState O} (core : Core) (policy : Policy) (h : List Entry) (j : Journal) (stated : ℕ) (last : Engine) (end : TalkEnd) (mid : StoreState) (store : Seen StoreState S)
+    → j.log ≡ 0 → IsTrue mid.told → IsExact core policy h (mid.logs 0).state → Gained (IsInRecovery (history_of core policy) (store.before.logs 0).state) (store.before.logs 0) (mid.logs 0)
+    → (v : TalkedOver (moment_of (begun core policy h j stated) mid) (moment_of last store.after) end input out) → HeldIn 0 core policy (IsInLine core policy h v.talked.first last.outcomes) store
+held_lines {S} {I} {O} {input} {out} core policy h j stated last end mid store zeroth tells exact opened v =
+    let e = begun core policy h j stated in
+    let rooms = alone (world core policy) h in
+    let ls = v.talked.first in
+    let around : within_of e rooms 0 (mid.logs 0).state = (sym zeroth, λ b image. inl (exact b image)) in
+    held 0 core policy h (IsInLine core policy h ls last.outcomes) (GivesRooms (exact_of e) 0) (IsInHand (manner core.dims) rooms ls last.outcomes) mid store
+    (rooms, inl (record { first = []; more = ls; split = refl; are = refl }), refl)
+    (λ r bytes i g. (first_history r, (r, i, refl), g.1 bytes (settled_leaves bytes)))
+    exact opened (v.survives.in_hand tells 0 around)

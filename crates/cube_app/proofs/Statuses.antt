@@ -36,7 +36,7 @@ use Rattle.cube_audit.specs.Audits.{audited}
 use Rattle.cube_audit.specs.AuditText.{audited_text}
 use Rattle.cube_app.specs.Advising.{workload_said, EndsUnread, Puts, FirstEnds, LaterEnds}
 use Rattle.cube_app.specs.Auditing.{transcript_said, PrintsAudit, AuditEnds}
-use Rattle.cube_app.specs.Reasons.{reason_said, IsWhyOf, IsWhetherOf, Says, SaysOne, WhyEnds, WhetherEnds}
+use Rattle.cube_app.specs.Reasons.{reason_said, IsWhyOf, IsWhetherOf, PutsSaid, SaysOne, WhyEnds, WhetherEnds}
 use Rattle.cube_app.specs.Carrying.{Handing, Hands, HandsOver, CarryEnds}
 use Rattle.cube_app.specs.Cells.{Tells, TellEnds, told_text}
 use Rattle.cube_app.specs.declared.cells.Telling.{Telling}
@@ -220,7 +220,7 @@ carries cube older files store out r (inl e) = all_files cube files r e.0
 carries cube older files store out r (inr (inl e)) = closed older (names_of older) (record { before = e.0.between; after = files.after; old = e.0.moment; new = files.new }) store r e.0.ends
 carries cube older files store out r (inr (inr e)) = hands_over e.0.handing out r e.0.hands
 
-says : {O : Type 0} (said : Result (List ℕ) (List ℕ)) (out : Seen SinkState O) (r : Report) → Says said out r → Known r.status
+says : {O : Type 0} (said : Result (List ℕ) (List ℕ)) (out : Seen SinkState O) (r : Report) → PutsSaid said out r → Known r.status
 says (Ok text) out r e = prints text out r e
 says (Err line) out r (inl e, same) = refused e.0
 says (Err line) out r (inr e, same) = no_memory e.0

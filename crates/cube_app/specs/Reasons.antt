@@ -60,9 +60,9 @@ IsWhetherOf core policy h query reason (Ok text) = SaysWhether core policy h que
 IsWhetherOf core policy h query reason (Err line) = Unasked core query line
 
 -- the text was put on the sink, or the query is refused with the line and nothing is put
-abbrev pub Says : {O : Type 0} → Result (List ℕ) (List ℕ) → Seen SinkState O → Report → Type 0
-Says (Ok text) out r = Prints text out r
-Says (Err line) out r = (IsReport 3 (codes "query: " ++ line) r ⊎ NoRoom r) × (out.after.written ≡ out.before.written)
+abbrev pub PutsSaid : {O : Type 0} → Result (List ℕ) (List ℕ) → Seen SinkState O → Report → Type 0
+PutsSaid (Ok text) out r = Prints text out r
+PutsSaid (Err line) out r = (IsReport 3 (codes "query: " ++ line) r ⊎ NoRoom r) × (out.after.written ≡ out.before.written)
 
 -- ---- why nothing is said
 
@@ -78,14 +78,14 @@ IsUnsaid core query NoMemory = ⊤
 
 -- a report on what is said of a query, or on why nothing is
 abbrev pub SaysSo : {O : Type 0} → Result (List ℕ) Unsaid → Seen SinkState O → Report → Type 0
-SaysSo (Ok text) out r = Says (Ok text) out r
-SaysSo (Err (Query line)) out r = Says (Err line) out r
+SaysSo (Ok text) out r = PutsSaid (Ok text) out r
+SaysSo (Err (Query line)) out r = PutsSaid (Err line) out r
 SaysSo (Err NoMemory) out r = IsReport 7 (codes "no memory\n") r × (out.after.written ≡ out.before.written)
 
 -- Of these something was said, unless memory ran out before.
 abbrev pub SaysOne : {O : Type 0} → (Result (List ℕ) (List ℕ) → Type 0) → Seen SinkState O → Report → Type 0
 SaysOne Is out r =
-    ((said : Result (List ℕ) (List ℕ)) × Is said × Says said out r)
+    ((said : Result (List ℕ) (List ℕ)) × Is said × PutsSaid said out r)
     ⊎ (IsReport 7 (codes "no memory\n") r × (out.after.written ≡ out.before.written))
 
 -- ---- why

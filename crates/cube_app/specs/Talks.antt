@@ -1,9 +1,10 @@
 -- All that `sum` and `ask` do with the lines of the input.
 use Rattle.std.specs.Prelude.{◌≡◌, ◌≢◌, ◌⊎◌, ◌≤◌, ◌+◌, ℕ, true, IsTrue, List, [], ◌∷◌, length, IfSome, IsSomeAnd, IsOk, Ok}
 use Rattle.cube_model.specs.declared.entry.Entry.{Entry}
+use Rattle.cube_model.specs.declared.outcome.Outcome.{Outcome}
 use Rattle.cube_model.specs.declared.policy.Policy.{Policy}
 use Rattle.cube_model.specs.Cores.{Core, world}
-use Rattle.cube_model.specs.Rooms.{alone}
+use Rattle.cube_model.specs.Rooms.{Room, alone}
 use Rattle.cube_io.specs.Causes.{Rose, RoseBy}
 use Rattle.cube_io.specs.Desks.{faults_in}
 use Rattle.cube_io.specs.Files.{file_of}
@@ -14,13 +15,14 @@ use Rattle.cube_engine.specs.Steps.{manner}
 use Rattle.cube_engine.specs.Worlds.{first_history}
 use Rattle.cube_talk.specs.Asks as asking
 use Rattle.cube_talk.specs.Asks.{Talk, FailedFresh, rooms_behind}
+use Rattle.cube_talk.specs.Crashes.{IsInHand}
 use Rattle.cube_talk.specs.Sums.{Talked}
 use Rattle.cube_talk.specs.declared.talk.TalkEnd.{TalkEnd}
 use Rattle.cube_opening.specs.Opening.{flat_said, FileSays, EndsAt, GotBehind, HasAll, names_of}
 use Rattle.cube_opening.specs.Reports.{IsReport, IsDone}
 use Rattle.cube_opening.specs.declared.cube_files.CubeFiles.{CubeFiles}
 use Rattle.cube_opening.specs.declared.report.Report.{Report}
-use Rattle.cube_serving.specs.Starting.{EndsClosed, HasJournal, IsOpen, Survived}
+use Rattle.cube_serving.specs.Starting.{EndsClosed, HasJournal, IsOpen, Survived, HeldIn}
 use Rattle.cube_app.specs.Ends.{AsksJournal}
 use Rattle.cube_app.specs.Texts.{status_of, ending_text}
 
@@ -58,9 +60,13 @@ pub record SumRun {F I O : Type 0} (facts : List ℕ) (files : Seen FolderState 
 
 -- ---- asks of a cube
 
+-- the history is the one behind some of the lines, from the first on, or that with the request of the line that comes next
+abbrev pub IsInLine : Core → Policy → List Entry → List (List ℕ) → List Outcome → List Entry → Type 0
+IsInLine core policy first ls os h = (here : List Room) × IsInHand (manner core.dims) (alone (world core policy) first) ls os here × (h ≡ first_history here)
+
 -- The asks of the input were answered by an open cube, from the first history to the last; what became of them is reported. The answers
 -- hide each protected cell: over the world with the changes the same would have been written, by the same lines and outcomes. The journal
--- kept what was answered. For each ask in which it failed the store's count of faults rose, and the ask was to be kept.
+-- kept what was answered: beyond that a crash leaves the request of the line in hand, and no other. For each ask in which it failed the store's count of faults rose, and the ask was to be kept.
 pub record Asked {S I O : Type 0} (cube : CubeFiles) (files : FolderState) (store : Seen StoreState S) (talk : Talk) (input : Seen SourceState I) (out : Seen SinkState O) : Type 0 where
   pub core : Core
   pub policy : Policy
@@ -72,6 +78,7 @@ pub record Asked {S I O : Type 0} (cube : CubeFiles) (files : FolderState) (stor
   pub last_is : last ≡ first_history (rooms_behind (manner core.dims) (alone (world core policy) first) talked.first talk.outcomes)
   pub hides : Hides core policy last (λ w. asking.Says talk.ending (manner core.dims) (alone w first) talk.stated talk.outcomes talked.text out.before.written out.after.written)
   pub survived : IsTrue store.before.told → Survived core policy first last talk.outcomes store
+  pub held : IsTrue store.before.told → HeldIn 0 core policy (IsInLine core policy first talked.first talk.outcomes) store
   pub failed : RoseBy (faults_in talk.outcomes) store.before.faults store.after.faults
   pub fresh : FailedFresh (manner core.dims) (alone (world core policy) first) talked.first talk.outcomes
 

@@ -56,8 +56,8 @@ if_false false x y e = refl
 pub sent_adds : (c : ℕ) (bytes : List ℕ) → Adds c (Sent c bytes) bytes []
 sent_adds c bytes was = if_true (c == c) (record { sent = was.sent ++ bytes; came = was.came }) was (same_number c) ∙ ap (λ (l : List ℕ). let f : Flow = record { sent = was.sent ++ bytes; came = l } in f) (sym (append-nil was.came))
 
-pub torn_adds : (c : ℕ) (bytes : List ℕ) → Adds c (Torn c bytes) bytes []
-torn_adds c bytes was = if_true (c == c) (record { sent = was.sent ++ bytes; came = was.came }) was (same_number c) ∙ ap (λ (l : List ℕ). let f : Flow = record { sent = was.sent ++ bytes; came = l } in f) (sym (append-nil was.came))
+pub torn_adds : (c : ℕ) (bytes : List ℕ) (size : ℕ) → Adds c (Torn c bytes size) bytes []
+torn_adds c bytes size was = if_true (c == c) (record { sent = was.sent ++ bytes; came = was.came }) was (same_number c) ∙ ap (λ (l : List ℕ). let f : Flow = record { sent = was.sent ++ bytes; came = l } in f) (sym (append-nil was.came))
 
 pub came_adds : (c : ℕ) (bytes : List ℕ) → Adds c (Heard (Came c bytes)) [] bytes
 came_adds c bytes was = if_true (c == c) (record { sent = was.sent; came = was.came ++ bytes }) was (same_number c) ∙ ap (λ (l : List ℕ). let f : Flow = record { sent = l; came = was.came ++ bytes } in f) (sym (append-nil was.sent))
@@ -65,8 +65,8 @@ came_adds c bytes was = if_true (c == c) (record { sent = was.sent; came = was.c
 pub sent_leaves : (c : ℕ) (bytes : List ℕ) → LeavesOthers c (Sent c bytes)
 sent_leaves c bytes d differs = record { flow = λ was. if_false (c == d) (record { sent = was.sent ++ bytes; came = was.came }) was (other_number c d differs); opens = λ was. refl }
 
-pub torn_leaves : (c : ℕ) (bytes : List ℕ) → LeavesOthers c (Torn c bytes)
-torn_leaves c bytes d differs = record { flow = λ was. if_false (c == d) (record { sent = was.sent ++ bytes; came = was.came }) was (other_number c d differs); opens = λ was. refl }
+pub torn_leaves : (c : ℕ) (bytes : List ℕ) (size : ℕ) → LeavesOthers c (Torn c bytes size)
+torn_leaves c bytes size d differs = record { flow = λ was. if_false (c == d) (record { sent = was.sent ++ bytes; came = was.came }) was (other_number c d differs); opens = λ was. refl }
 
 pub came_leaves : (c : ℕ) (bytes : List ℕ) → LeavesOthers c (Heard (Came c bytes))
 came_leaves c bytes d differs = record { flow = λ was. if_false (c == d) (record { sent = was.sent; came = was.came ++ bytes }) was (other_number c d differs); opens = λ was. refl }
@@ -246,19 +246,19 @@ send_takes (Ok u) c piece s s' links old new few is only stage goes taken =
     takes_at c (Sent c piece) s s' links old new few is (elsewhere_only c s s' only) (sent_leaves c piece)
     (λ told. entry_ties c (Sent c piece) piece [] s s' old new (sent_adds c piece) (λ i. ap is_there (sym stage) ∙ i) (λ i. ap is_open (sym stage) ∙ i) (ap is_open (sym stage)) (goes told) (λ i. taken told ∙ sym (append-nil (s.taken c))))
 send_takes (Err n) c piece s s' links old new few is only stage goes taken =
-    takes_at c (Torn c (take n piece)) s s' links old new few is (elsewhere_only c s s' only) (torn_leaves c (take n piece))
-    (λ told. entry_ties c (Torn c (take n piece)) (take n piece) [] s s' old new (torn_adds c (take n piece)) (λ i. ap is_there (sym stage) ∙ i) (λ i. ap is_open (sym stage) ∙ i) (ap is_open (sym stage)) (goes told) (λ i. taken told ∙ sym (append-nil (s.taken c))))
+    takes_at c (Torn c (take n piece) (length piece)) s s' links old new few is (elsewhere_only c s s' only) (torn_leaves c (take n piece) (length piece))
+    (λ told. entry_ties c (Torn c (take n piece) (length piece)) (take n piece) [] s s' old new (torn_adds c (take n piece) (length piece)) (λ i. ap is_there (sym stage) ∙ i) (λ i. ap is_open (sym stage) ∙ i) (ap is_open (sym stage)) (goes told) (λ i. taken told ∙ sym (append-nil (s.taken c))))
 
 -- nothing went out of a send
-nothing_torn : (c d : ℕ) → Leaves d (Torn c [])
-nothing_torn c d = record { flow = λ was. by was (c == d); opens = λ was. refl }
+nothing_torn : (c d size : ℕ) → Leaves d (Torn c [] size)
+nothing_torn c d size = record { flow = λ was. by was (c == d); opens = λ was. refl }
   where
     by : (was : Flow) (b : Bool) → (if b then record { sent = was.sent ++ []; came = was.came } else was) ≡ was
     by was true = ap (λ (l : List ℕ). let f : Flow = record { sent = l; came = was.came } in f) (append-nil was.sent)
     by was false = refl
 
-pub no_send_takes : (c : ℕ) (s s' : SocketsState) (links links' : List Link) → Keeps s links s' links' → Takes (Torn c []) s links s' links'
-no_send_takes c s s' links links' keeps = takes_still (Torn c []) s s' links links' (nothing_torn c) keeps
+pub no_send_takes : (c size : ℕ) (s s' : SocketsState) (links links' : List Link) → Keeps s links s' links' → Takes (Torn c [] size) s links s' links'
+no_send_takes c size s s' links links' keeps = takes_still (Torn c [] size) s s' links links' (λ d. nothing_torn c d size) keeps
 
 -- a close told of connection c, that is not open behind it
 pub shut_ties : (c : ℕ) (s s' : SocketsState) (old new : Link) → is_open new.stage ≡ false → (IsTrue (is_there new.stage) → IsTrue (is_there old.stage)) → outgoing c s' new.waiting ≡ outgoing c s old.waiting

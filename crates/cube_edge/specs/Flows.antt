@@ -1,5 +1,5 @@
 -- What a log says of the bytes of each connection, and how that stands to what the sockets tell.
-use Rattle.std.specs.Prelude.{◌≡◌, ℕ, ◌==◌, Bool, true, false, IsTrue, List, [], ◌∷◌, ◌++◌, take, slice_get, if◌then◌else◌, Option, Some, None, Result, Ok, Err}
+use Rattle.std.specs.Prelude.{◌≡◌, ℕ, ◌==◌, Bool, true, false, IsTrue, List, [], ◌∷◌, ◌++◌, length, take, slice_get, if◌then◌else◌, Option, Some, None, Result, Ok, Err}
 use Rattle.cube_io.specs.declared.faults.Failed.{Failed}
 use Rattle.cube_io.specs.declared.wire.Event.{Event}
 use Rattle.cube_io.specs.Wires.{LogEntry, arrival_of, open_after}
@@ -27,7 +27,7 @@ flow_by c was (Heard (Came d bytes)) = if d == c then record { sent = was.sent; 
 flow_by c was (Heard (Closed d)) = was
 flow_by c was (Heard End) = was
 flow_by c was (Sent d bytes) = if d == c then record { sent = was.sent ++ bytes; came = was.came } else was
-flow_by c was (Torn d bytes) = if d == c then record { sent = was.sent ++ bytes; came = was.came } else was
+flow_by c was (Torn d bytes size) = if d == c then record { sent = was.sent ++ bytes; came = was.came } else was
 flow_by c was (Shut d) = was
 
 abbrev pub flow_after : ℕ → Flow → List LogEntry → Flow
@@ -89,7 +89,7 @@ TakesAccept (Err failed) old links new links' = Keeps old links new links'
 -- a send, or one that failed behind so many bytes
 abbrev pub TakesSend : Result (Unit {0}) ℕ → ℕ → List ℕ → SocketsState → List Link → SocketsState → List Link → Type 0
 TakesSend (Ok u) c piece old links new links' = Takes (Sent c piece) old links new links'
-TakesSend (Err n) c piece old links new links' = Takes (Torn c (take n piece)) old links new links'
+TakesSend (Err n) c piece old links new links' = Takes (Torn c (take n piece) (length piece)) old links new links'
 
 -- a turn of connection c: bytes came, or nothing did, or it is no more
 abbrev pub TurnTies : ℕ → Look → List ℕ → SocketsState → Link → SocketsState → Link → Type 0

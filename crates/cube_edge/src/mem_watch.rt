@@ -113,8 +113,8 @@ impl Watch for MemWatch {
     }
 
     #[tactic(auto, using(cube_io::proofs::Scrolled::torn_pays))]
-    fn torn(&mut self, c: u32, said: &[u8]) {
-        self.scroll.add(Note::Torn(c), said);
+    fn torn(&mut self, c: u32, said: &[u8], len: usize) {
+        self.scroll.add(Note::Torn(c, len), said);
     }
 
     #[tactic(auto, using(cube_io::proofs::Scrolled::shut_pays))]

@@ -47,11 +47,11 @@ pub trait Watch {
         requires { length piece.now < (state self.old).room }
         ensures { Notes (Sent c piece.now) (state self.old) (state self.new) };
 
-    /// A send failed, and these bytes went out of it; none where there was no room for it.
-    fn torn(&mut self, c: u32, said: &[u8])
+    /// A send of so many bytes failed, and these went out of it; none where there was no room for it.
+    fn torn(&mut self, c: u32, said: &[u8], len: usize)
         requires sound { IsTrue (state self.old).told → IsSound c (state self.old).log }
         requires room { 0 < length said.now → length said.now < (state self.old).room }
-        ensures { Notes (Torn c said.now) (state self.old) (state self.new) };
+        ensures { Notes (Torn c said.now len) (state self.old) (state self.new) };
 
     /// A connection was closed.
     fn shut(&mut self, c: u32)
@@ -82,7 +82,7 @@ impl Watch for NoWatch {
 
     fn sent(&mut self, _c: u32, _piece: &[u8]) {}
 
-    fn torn(&mut self, _c: u32, _said: &[u8]) {}
+    fn torn(&mut self, _c: u32, _said: &[u8], _len: usize) {}
 
     fn shut(&mut self, _c: u32) {}
 }

@@ -161,7 +161,7 @@ impl<S: Sockets + Drop, N: Watch + Drop> Wire for SocketWire<S, N> {
 
     fn send(&mut self, c: u32, piece: &[u8]) -> Result<(), Failed> {
         if !self.watch.takes(piece.len()) {
-            self.watch.torn(c, b"");
+            self.watch.torn(c, b"", piece.len());
             self.send_faults = self.send_faults.saturating_add(1);
             return Err(Failed);
         }
@@ -171,7 +171,7 @@ impl<S: Sockets + Drop, N: Watch + Drop> Wire for SocketWire<S, N> {
                 Ok(())
             }
             Err(count) => {
-                self.watch.torn(c, &piece[..count]);
+                self.watch.torn(c, &piece[..count], piece.len());
                 self.send_faults = self.send_faults.saturating_add(1);
                 Err(Failed)
             }

@@ -20,11 +20,13 @@ use Rattle.cube_model.specs.Logs.{Left, is_refused, is_taken, left}
 use Rattle.cube_model.specs.Logs.Left.{Leaves, Stops}
 use Rattle.cube_model.specs.Policies.{IsPolicy}
 use Rattle.cube_model.specs.Protection.{method, is_lattice, is_parity}
+use Rattle.cube_model.specs.Rooms.{Room}
 use Rattle.cube_model.specs.Verdicts.{verdict, judged, judged_what, taken, taken_by}
-use Rattle.cube_io.specs.Desks.{ForeignStay}
+use Rattle.cube_io.specs.Desks.{ForeignStay, GivesRooms, LeavesOf, LeavesAll, IsOneOf}
 use Rattle.cube_io.specs.Seen.{StoreState}
 use Rattle.cube_io.specs.States.{State, Log, Gained, IsImage, settled}
 use Rattle.cube_io.specs.Told.{OthersStay}
+use Rattle.cube_io.proofs.Hands.{leaves_all_map}
 use Rattle.cube_io.proofs.Trails.{gained_map}
 use Rattle.cube_journal.specs.Digests.{is_digest}
 use Rattle.cube_journal.specs.Keeping.{Journal, Fits, KeepsSafe, IsInKeep, IsInRecovery}
@@ -43,7 +45,7 @@ use Rattle.cube_engine.specs.declared.fault.EngineFault.{EngineFault}
 use Rattle.cube_engine.specs.declared.fault.EngineFault.TheVariants.{Inadmissible, NoMemory}
 use Rattle.cube_rollup.specs.Rollups.{entry_of}
 use Rattle.cube_engine.specs.Books.{Holding}
-use Rattle.cube_engine.specs.Kept.{digest_for, written, first_entry, by_left, judged_in, history_of, IsExact, RecoversWithin, IsWithin, MayEnter, IsTail, IsKept}
+use Rattle.cube_engine.specs.Kept.{digest_for, written, first_entry, by_left, judged_in, history_of, GivesHistory, IsExact, RecoversWithin, IsWithin, MayEnter, IsTail, IsKept}
 use Rattle.cube_engine.specs.Opening.{of_open, IsStartFault}
 use Rattle.cube_engine.specs.Worlds.{first_history}
 use Rattle.cube_engine.proofs.Named.{valid_under}
@@ -286,6 +288,43 @@ opened_exact c p h es bytes digest s n t is dims few lower reads leaves done = e
 pub keep_crash : (c : Core) (p : Policy) (h : List Entry) (j : Journal) (old new : Log) (r : Request) (line : List ℕ) → IsDims c.dims → IsKept c p h j old.state → MayEnter c p h r → line ≡ request_line c.dims r → Gained (IsInKeep line old.state) old new → Gained (IsWithin c p h) old new
 keep_crash c p h j old new r line dims kept may is gained = gained_map (IsInKeep line old.state) (IsWithin c p h) old new (λ s e. keep_within c p h j old.state s r line dims kept may is e) gained
 
+-- beyond what a crash could leave before, the history comes back, alone or with the request whose line is kept
+part_either : (c : Core) (p : Policy) (h : List Entry) (bytes part : List ℕ) (r : Request) (safe : Safe c p h bytes) → MayEnter c p h r → IsPrefix part (request_line c.dims r) → (history_of c p (bytes ++ part) ≡ Ok h) ⊎ (history_of c p (bytes ++ part) ≡ Ok (h ++ Asked r ∷ []))
+part_either c p h bytes part r safe may prefix =
+    ⊎_elim
+    (λ same. inl (history_by c p (bytes ++ part) safe.entries h same safe.leaves))
+    (λ more. inr (history_by c p (bytes ++ part) (safe.entries ++ Asked r ∷ []) (h ++ Asked r ∷ []) more (leaves_more c p h bytes r safe may)))
+    ((grows c p h bytes r safe may).part part prefix)
+
+one_of : (c : Core) (p : Policy) (h k : List Entry) (b : List ℕ) → GivesHistory c p h b ⊎ GivesHistory c p k b → (x : List Entry) × IsOneOf h k x × GivesHistory c p x b
+one_of c p h k b (inl g) = (h, inl refl, g)
+one_of c p h k b (inr g) = (k, inr refl, g)
+
+tail_either : (old ts : List (List ℕ)) (line t : List ℕ) → Each (λ x. IsIn x old ⊎ IsPrefix x line) ts → IsIn t ts → IsIn t old ⊎ IsPrefix t line
+tail_either old [] line t e i = absurd i
+tail_either old (x ∷ ts) line t e (inl same) = subst (λ (y : List ℕ). IsIn y old ⊎ IsPrefix y line) same e.0
+tail_either old (x ∷ ts) line t e (inr i) = tail_either old ts line t e.1 i
+
+keep_either : (c : Core) (p : Policy) (h : List Entry) (j : Journal) (old s : State) (r : Request) (line : List ℕ) → IsDims c.dims → IsKept c p h j old → MayEnter c p h r → line ≡ request_line c.dims r → IsInKeep line old s → LeavesOf (GivesHistory c p) (IsOneOf h (h ++ Asked r ∷ [])) old s
+keep_either c p h j old s r line dims k may is (inl safe) b image =
+    let keeps = subst (λ (l : List ℕ). KeepsSafe l old s) is safe in
+    let bytes : b ≡ old.safe ++ image.kept = image.whole ∙ ap (λ (x : List ℕ). x ++ image.kept) keeps.safe in
+    ⊎_elim
+    (λ before. inl (record { kept = image.kept; lost = image.lost; is_tail = before; whole = bytes }))
+    (λ prefix. inr (one_of c p h (h ++ Asked r ∷ []) b (subst (λ (x : List ℕ). GivesHistory c p h x ⊎ GivesHistory c p (h ++ Asked r ∷ []) x) (sym bytes)
+    (part_either c p h old.safe image.kept r (safe_of c p h j old dims k) may (image.lost ++ prefix.0, sym (append_assoc image.kept image.lost prefix.0) ∙ prefix.1)))))
+    (tail_either old.tails s.tails (request_line c.dims r) (image.kept ++ image.lost) keeps.tails image.is_tail)
+keep_either c p h j old s r line dims k may is (inr whole) b image =
+    let all : b ≡ old.safe ++ line = settled_image (old.safe ++ line) b (subst (λ (t : State). IsImage t b) whole image) in
+    inr (one_of c p h (h ++ Asked r ∷ []) b (inr (ap (history_of c p) (all ∙ ap (λ (l : List ℕ). old.safe ++ l) is) ∙ recovers_more c p h old.safe r (safe_of c p h j old dims k) may)))
+
+pub keep_in_hand : (c : Core) (p : Policy) (h : List Entry) (j : Journal) (old new : Log) (r : Request) (line : List ℕ) → IsDims c.dims → IsKept c p h j old.state → MayEnter c p h r → line ≡ request_line c.dims r
+    → Gained (IsInKeep line old.state) old new → IsInKeep line old.state new.state → LeavesAll (GivesHistory c p) (IsOneOf h (h ++ Asked r ∷ [])) old new
+keep_in_hand c p h j old new r line dims kept may is gained last = record {
+  passed = gained_map (IsInKeep line old.state) (LeavesOf (GivesHistory c p) (IsOneOf h (h ++ Asked r ∷ [])) old.state) old new (λ s e. keep_either c p h j old.state s r line dims kept may is e) gained;
+  last = keep_either c p h j old.state new.state r line dims kept may is last;
+}
+
 -- the request that waited is the last of the history now
 pub has_entered : (old new : Holding) (r : Request) → new ≡ record { core = old.core; policy = old.policy; history = old.history ++ entry_of old.waiting; waiting = None } → old.waiting ≡ Some r → new.history ≡ old.history ++ Asked r ∷ []
 has_entered old new r is waits = ap (λ (b : Holding). b.history) is ∙ ap (λ (o : Option Request). old.history ++ entry_of o) waits
@@ -308,3 +347,18 @@ log_crash c p h k old new own log is gained =
 pub log_within : (c c' : Core) (p p' : Policy) (h : List Entry) (logs : ℕ → Log) (own own' log : ℕ) → log ≡ own → c' ≡ c → p' ≡ p → own' ≡ own → IsWithin c p h (logs own).state → (log ≡ own') × IsWithin c' p' h (logs log).state
 log_within c c' p p' h logs own own' log is core policy same within =
     (is ∙ sym same, subst (λ (d : Core). IsWithin d p' h (logs log).state) (sym core) (subst (λ (q : Policy). IsWithin c q h (logs log).state) (sym policy) (subst (λ (n : ℕ). IsWithin c p h (logs n).state) (sym is) within)))
+
+pub log_in_hand : (c : Core) (p : Policy) (h k : List Entry) (rooms rooms' : List Room) (own log : ℕ) (old new : ℕ → Log) → h ≡ first_history rooms → k ≡ first_history rooms' → log ≡ own
+    → LeavesAll (GivesHistory c p) (IsOneOf h k) (old own) (new own) → LeavesAll (GivesRooms (λ rs n s. (n ≡ own) × IsExact c p (first_history rs) s) log) (IsOneOf rooms rooms') (old log) (new log)
+log_in_hand c p h k rooms rooms' own log old new here there is leaves =
+    leaves_all_map (GivesHistory c p) (GivesRooms (λ rs n s. (n ≡ own) × IsExact c p (first_history rs) s) log) (IsOneOf h k) (IsOneOf rooms rooms') (old log) (new log) (λ x bytes one gives. by_room x bytes gives one)
+    (subst (λ (n : ℕ). LeavesAll (GivesHistory c p) (IsOneOf h k) (old n) (new n)) (sym is) leaves)
+  where
+    by_room : (x : List Entry) (bytes : List ℕ) → GivesHistory c p x bytes → IsOneOf h k x → (rs : List Room) × IsOneOf rooms rooms' rs × GivesRooms (λ qs n s. (n ≡ own) × IsExact c p (first_history qs) s) log rs bytes
+    by_room x bytes gives (inl e) = (rooms, inl refl, (is, settled_exact c p bytes (first_history rooms) (settled bytes) refl (subst (λ (y : List Entry). GivesHistory c p y bytes) (e ∙ here) gives)))
+    by_room x bytes gives (inr e) = (rooms', inr refl, (is, settled_exact c p bytes (first_history rooms') (settled bytes) refl (subst (λ (y : List Entry). GivesHistory c p y bytes) (e ∙ there) gives)))
+
+pub log_renewed : (c c' : Core) (p p' : Policy) (h : List Entry) (old new : ℕ → Log) (own own' log : ℕ) → log ≡ own → c' ≡ c → p' ≡ p → own' ≡ own → (new own ≡ old own) ⊎ IsExact c p h (new own).state → (new log ≡ old log) ⊎ ((log ≡ own') × IsExact c' p' h (new log).state)
+log_renewed c c' p p' h old new own own' log is core policy same (inl stays) = inl (subst (λ (n : ℕ). new n ≡ old n) (sym is) stays)
+log_renewed c c' p p' h old new own own' log is core policy same (inr exact) =
+    inr (is ∙ sym same, subst (λ (d : Core). IsExact d p' h (new log).state) (sym core) (subst (λ (q : Policy). IsExact c q h (new log).state) (sym policy) (subst (λ (n : ℕ). IsExact c p h (new n).state) (sym is) exact)))

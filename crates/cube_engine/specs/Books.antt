@@ -1,5 +1,5 @@
 -- A holding is one cube with the policy that it is asked under, and what its history holds; a book is one whose history is kept in a log.
-use Rattle.std.specs.Prelude.{◌≡◌, ℕ, IsTrue, List, Bool, true, false, Some}
+use Rattle.std.specs.Prelude.{◌≡◌, ◌⊎◌, ℕ, IsTrue, List, Bool, true, false, Some}
 use Rattle.std.specs.declared.option.Option.{Option}
 use Rattle.cube_model.specs.declared.ask.Question.{Question}
 use Rattle.cube_model.specs.declared.entry.Entry.{Entry}
@@ -12,11 +12,13 @@ use Rattle.cube_model.specs.declared.verdict.Verdict.TheVariants.{Answer, Full, 
 use Rattle.cube_model.specs.Cores.{Core, shown, world}
 use Rattle.cube_model.specs.Rooms.{Room, alone}
 use Rattle.cube_model.specs.Runs.{reply_by, next_by}
+use Rattle.cube_io.specs.Desks.{LeavesAll, IsOneOf}
 use Rattle.cube_io.specs.Seen.{StoreState}
+use Rattle.cube_io.specs.States.{Log}
 use Rattle.cube_journal.specs.Keeping.{Journal}
 use Rattle.cube_journal.specs.RequestLines.{request_line}
 use Rattle.cube_rollup.specs.Rollups.{entry_of}
-use Rattle.cube_engine.specs.Kept.{MayEnter, IsExact}
+use Rattle.cube_engine.specs.Kept.{MayEnter, GivesHistory, IsExact}
 use Rattle.cube_engine.specs.Steps.{by_words}
 
 -- one cube with its policy and its history, and the request that waits to enter that, if any
@@ -60,6 +62,14 @@ book_rooms b = alone (world b.core b.policy) b.history
 -- where every crash left just the history of the book, it leaves just this one behind
 abbrev pub StaysExact : Book → List Entry → StoreState → StoreState → Type 0
 StaysExact b h store store' = IsTrue store.told → IsExact b.core b.policy b.history (store.logs b.journal.log).state → IsExact b.core b.policy h (store'.logs b.journal.log).state
+
+-- beyond what a crash could leave of the log of a book before, it leaves the history of the book or this one
+abbrev pub KeepsInHand : Book → List Entry → Log → Log → Type 0
+KeepsInHand b h old new = LeavesAll (GivesHistory b.core b.policy) (IsOneOf b.history h) old new
+
+-- the log is as it was, or whatever a crash leaves of it recovers just this history
+abbrev pub IsRenewed : Book → List Entry → Log → Log → Type 0
+IsRenewed b h old new = (new ≡ old) ⊎ IsExact b.core b.policy h new.state
 
 -- the book where this waits
 abbrev pub with_waiting : Option Request → Book → Book

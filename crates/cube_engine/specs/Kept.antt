@@ -55,6 +55,10 @@ history_of c p bytes = judged_in c p (written c p bytes)
 
 -- ---- what a crash may leave
 
+-- the bytes give just the history back
+abbrev pub GivesHistory : Core → Policy → List Entry → List ℕ → Type 0
+GivesHistory c p h b = history_of c p b ≡ Ok h
+
 -- whatever a crash leaves of the log at this state recovers just the history
 abbrev pub IsExact : Core → Policy → List Entry → State → Type 0
 IsExact c p h s = (b : List ℕ) → IsImage s b → history_of c p b ≡ Ok h

@@ -4,6 +4,7 @@ use Rattle.cube_model.specs.declared.ask.Ask.{Ask}
 use Rattle.cube_model.specs.declared.cell.Cell.{Cell}
 use Rattle.cube_model.specs.declared.entry.Entry.{Entry}
 use Rattle.cube_model.specs.declared.outcome.Outcome.{Outcome}
+use Rattle.cube_model.specs.declared.outcome.Outcome.TheVariants.{Given}
 use Rattle.cube_model.specs.declared.reply.Reply.{Reply}
 use Rattle.cube_model.specs.Cores.{IsCore, shown, world}
 use Rattle.cube_model.specs.Cubes.{World, IsIn}
@@ -12,7 +13,7 @@ use Rattle.cube_model.specs.Protection.{protected}
 use Rattle.cube_model.specs.Rooms.{Room, alone}
 use Rattle.cube_model.specs.Twins.{changes, twin, sum_of}
 use Rattle.cube_model.specs.Verdicts.{IsAdmissible}
-use Rattle.cube_engine.specs.Books.{Book}
+use Rattle.cube_engine.specs.Books.{Book, book_rooms}
 use Rattle.cube_engine.specs.Engines.{Engine}
 use Rattle.cube_engine.specs.Steps.{manner}
 
@@ -26,6 +27,10 @@ pub record IsRuled (b : Book) : Type 0 where
 abbrev pub first_history : List Room → List Entry
 first_history [] = []
 first_history (room ∷ rooms) = room.history
+
+-- the history of a book behind an ask that gets its answer
+abbrev pub history_with : Book → Ask → List Entry
+history_with b ask = first_history ((manner b.core.dims).next (book_rooms b) ask Given)
 
 -- the world of an engine with the changes for a cell by its history
 abbrev pub twin_of : Engine → ℕ → Cell → World

@@ -4,7 +4,7 @@ ghost use Rattle.cube_model.specs.declared.outcome.Outcome.TheVariants as outcom
 ghost use Rattle.cube_model.specs.Cores.{shown, world};
 ghost use Rattle.cube_io.specs.States.{Gained};
 ghost use Rattle.cube_io.specs.Told.{Works, OthersStay};
-ghost use Rattle.cube_engine.specs.Books.{book_reply, book_history, StaysExact};
+ghost use Rattle.cube_engine.specs.Books.{book_reply, book_history, StaysExact, KeepsInHand, IsRenewed};
 ghost use Rattle.cube_engine.specs.Kept.{IsKept, IsWithin};
 ghost use Rattle.cube_engine.specs.Prepared.{QuestionComes, SettleCause};
 ghost use Rattle.cube_engine.specs.Reads.{AskReadsFew};
@@ -19,7 +19,7 @@ use std::sync::ledger::Ledger;
 
 // Keeps what is to be kept of a question, behind which its reply stands.
 #[tactic(auto, using(crate::proofs::Alone::entered))]
-fn settle_question<S: Store>(
+fn conclude_question<S: Store>(
     book: &mut Book,
     store: &mut S,
     question: &Question,
@@ -41,6 +41,8 @@ fn settle_question<S: Store>(
     ensures kept { IsTrue (S.state store.old).told → IsKept book.old.core book.old.policy book.new.history book.new.journal ((S.state store.new).logs book.old.journal.log).state }
     ensures exact { result.1 ≢ outcome.JournalFault → StaysExact book.old book.new.history (S.state store.old) (S.state store.new) }
     ensures crash { IsTrue (S.state store.old).told → Gained (IsWithin book.old.core book.old.policy book.old.history) ((S.state store.old).logs book.old.journal.log) ((S.state store.new).logs book.old.journal.log) }
+    ensures in_hand { IsTrue (S.state store.old).told → KeepsInHand book.old (book_history outcome.Given book.old question.now) ((S.state store.old).logs book.old.journal.log) ((S.state store.new).logs book.old.journal.log) }
+    ensures renewed { result.1 ≢ outcome.JournalFault → IsTrue (S.state store.old).told → IsRenewed book.old book.new.history ((S.state store.old).logs book.old.journal.log) ((S.state store.new).logs book.old.journal.log) }
 {
     let _question = question;
     match prepared {
@@ -89,9 +91,14 @@ impl Book {
         ensures exact { result.1 ≢ outcome.JournalFault → StaysExact self.old self.new.history (S.state store.old) (S.state store.new) }
         ensures within { IsTrue (S.state store.old).told → IsWithin self.old.core self.old.policy self.new.history ((S.state store.new).logs self.old.journal.log).state }
         ensures crash { IsTrue (S.state store.old).told → Gained (IsWithin self.old.core self.old.policy self.old.history) ((S.state store.old).logs self.old.journal.log) ((S.state store.new).logs self.old.journal.log) }
+
+        // Beyond what a crash could leave before, it leaves the history without the request in hand or with it. Where the journal did not
+        // fail the log stays, or every crash leaves just the history behind the question, also where an earlier keep failed.
+        ensures in_hand { IsTrue (S.state store.old).told → KeepsInHand self.old (book_history outcome.Given self.old question.now) ((S.state store.old).logs self.old.journal.log) ((S.state store.new).logs self.old.journal.log) }
+        ensures renewed { result.1 ≢ outcome.JournalFault → IsTrue (S.state store.old).told → IsRenewed self.old self.new.history ((S.state store.old).logs self.old.journal.log) ((S.state store.new).logs self.old.journal.log) }
     {
         let prepared = self.prepare(alloc, question, steps);
-        let told = settle_question(self, store, question, prepared);
+        let told = conclude_question(self, store, question, prepared);
         let _rules = self.core();
         told
     }

@@ -10,7 +10,7 @@ ghost use Rattle.cube_io.specs.States.{Gained};
 ghost use Rattle.cube_io.specs.Told.{Works, OthersStay};
 ghost use Rattle.cube_journal.specs.Keeping.{IsInRecovery};
 ghost use Rattle.cube_query.specs.Canonical.{is_request};
-ghost use Rattle.cube_engine.specs.Books.{IsWaiting, entry_waiting, with_waiting};
+ghost use Rattle.cube_engine.specs.Books.{IsWaiting, entry_waiting, with_waiting, KeepsInHand};
 ghost use Rattle.cube_engine.specs.Changes.{Refuses, changes_for, text_of, twin_for};
 ghost use Rattle.cube_engine.specs.Compacting.{compacted_text};
 ghost use Rattle.cube_engine.specs.Kept.{history_of, IsKept, IsExact, IsWithin};
@@ -217,6 +217,7 @@ impl Book {
         ensures kept { IsTrue (S.state store.old).told → IsKept self.old.core self.old.policy self.new.history self.new.journal ((S.state store.new).logs self.old.journal.log).state }
         ensures exact { IsTrue (S.state store.old).told → OnOk result (IsExact self.old.core self.old.policy self.new.history ((S.state store.new).logs self.old.journal.log).state) }
         ensures crash { IsTrue (S.state store.old).told → Gained (IsWithin self.old.core self.old.policy self.old.history) ((S.state store.old).logs self.old.journal.log) ((S.state store.new).logs self.old.journal.log) }
+        ensures in_hand { IsTrue (S.state store.old).told → KeepsInHand self.old (self.old.history ++ entry_waiting self.old) ((S.state store.old).logs self.old.journal.log) ((S.state store.new).logs self.old.journal.log) }
     {
         let _rules = self.holding.core();
         let _short = line.as_slice();

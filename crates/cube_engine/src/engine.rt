@@ -14,7 +14,7 @@ ghost use Rattle.cube_io.specs.States.{Gained};
 ghost use Rattle.cube_io.specs.Told.{Works, OthersStay};
 ghost use Rattle.cube_journal.specs.Keeping.{IsInRecovery};
 ghost use Rattle.cube_query.specs.Canonical.{is_request};
-ghost use Rattle.cube_engine.specs.Books.{book_rooms, with_waiting, StaysExact};
+ghost use Rattle.cube_engine.specs.Books.{book_rooms, with_waiting, StaysExact, KeepsInHand, IsRenewed};
 ghost use Rattle.cube_engine.specs.Changes.{Refuses, changes_for, text_of, twin_for};
 ghost use Rattle.cube_engine.specs.Compacting.{compacted_text};
 ghost use Rattle.cube_engine.specs.Engines.{book_of, rooms_of};
@@ -23,7 +23,7 @@ ghost use Rattle.cube_engine.specs.Opening.{StartCause, IsStartFault};
 ghost use Rattle.cube_engine.specs.Prepared.{AskComes, IsMissed, SettleCause};
 ghost use Rattle.cube_engine.specs.Reads.{AskReadsFew};
 ghost use Rattle.cube_engine.specs.Steps.{manner};
-ghost use Rattle.cube_engine.specs.Worlds.{IsRuled, Opens};
+ghost use Rattle.cube_engine.specs.Worlds.{IsRuled, Opens, history_with};
 
 use crate::prepared::Prepared;
 use crate::turns::Turns;
@@ -81,7 +81,7 @@ fn prepare<L: Ledger>(alloc: Global, book: &mut Book, ask: &Ask, steps: &mut Ste
 }
 
 // Keeps what is to be kept of an ask, behind which its reply stands.
-fn settle<S: Store>(
+fn conclude<S: Store>(
     book: &mut Book,
     store: &mut S,
     ask: &Ask,
@@ -103,6 +103,8 @@ fn settle<S: Store>(
     ensures kept { IsTrue (S.state store.old).told → IsKept book.old.core book.old.policy book.new.history book.new.journal ((S.state store.new).logs book.old.journal.log).state }
     ensures exact { result.1 ≢ outcome.JournalFault → StaysExact book.old book.new.history (S.state store.old) (S.state store.new) }
     ensures crash { IsTrue (S.state store.old).told → Gained (IsWithin book.old.core book.old.policy book.old.history) ((S.state store.old).logs book.old.journal.log) ((S.state store.new).logs book.old.journal.log) }
+    ensures in_hand { IsTrue (S.state store.old).told → KeepsInHand book.old (history_with book.old ask.now) ((S.state store.old).logs book.old.journal.log) ((S.state store.new).logs book.old.journal.log) }
+    ensures renewed { result.1 ≢ outcome.JournalFault → IsTrue (S.state store.old).told → IsRenewed book.old book.new.history ((S.state store.old).logs book.old.journal.log) ((S.state store.new).logs book.old.journal.log) }
 {
     let _ask = ask;
     match prepared {
@@ -279,9 +281,14 @@ impl Engine {
         ensures exact { self.new.outcomes ≢ self.old.outcomes ++ outcome.JournalFault ∷ [] → StaysExact (book_of self.old) self.new.history (S.state store.old) (S.state store.new) }
         ensures within { IsTrue (S.state store.old).told → IsWithin self.old.core self.old.policy self.new.history ((S.state store.new).logs self.old.journal.log).state }
         ensures crash { IsTrue (S.state store.old).told → Gained (IsWithin self.old.core self.old.policy self.old.history) ((S.state store.old).logs self.old.journal.log) ((S.state store.new).logs self.old.journal.log) }
+
+        // Beyond what a crash could leave before, it leaves the history without the request in hand or with it. Where the journal did not
+        // fail the log stays, or every crash leaves just the history behind the ask, also where an earlier keep failed.
+        ensures in_hand { IsTrue (S.state store.old).told → KeepsInHand (book_of self.old) (history_with (book_of self.old) ask.now) ((S.state store.old).logs self.old.journal.log) ((S.state store.new).logs self.old.journal.log) }
+        ensures renewed { self.new.outcomes ≢ self.old.outcomes ++ outcome.JournalFault ∷ [] → IsTrue (S.state store.old).told → IsRenewed (book_of self.old) self.new.history ((S.state store.old).logs self.old.journal.log) ((S.state store.new).logs self.old.journal.log) }
     {
         let prepared = prepare(alloc, &mut self.book, ask, steps);
-        let (reply, outcome) = settle(&mut self.book, store, ask, prepared);
+        let (reply, outcome) = conclude(&mut self.book, store, ask, prepared);
         let _rules = self.book.core();
         self.turns.record(outcome);
         reply
@@ -313,6 +320,8 @@ impl Engine {
         ensures exact { self.new.outcomes ≢ self.old.outcomes ++ outcome.JournalFault ∷ [] → StaysExact (book_of self.old) self.new.history (S.state store.old) (S.state store.new) }
         ensures within { IsTrue (S.state store.old).told → IsWithin self.old.core self.old.policy self.new.history ((S.state store.new).logs self.old.journal.log).state }
         ensures crash { IsTrue (S.state store.old).told → Gained (IsWithin self.old.core self.old.policy self.old.history) ((S.state store.old).logs self.old.journal.log) ((S.state store.new).logs self.old.journal.log) }
+        ensures in_hand { IsTrue (S.state store.old).told → KeepsInHand (book_of self.old) (history_with (book_of self.old) ask.now) ((S.state store.old).logs self.old.journal.log) ((S.state store.new).logs self.old.journal.log) }
+        ensures renewed { self.new.outcomes ≢ self.old.outcomes ++ outcome.JournalFault ∷ [] → IsTrue (S.state store.old).told → IsRenewed (book_of self.old) self.new.history ((S.state store.old).logs self.old.journal.log) ((S.state store.new).logs self.old.journal.log) }
     {
         let mut steps = Steps::<L>::new(blank);
         self.answer_counted(alloc, store, ask, &mut steps)

@@ -99,7 +99,7 @@ open_held (Heard (arrival.Came d bytes)) c was = refl
 open_held (Heard (arrival.Closed d)) c was = refl
 open_held (Heard arrival.End) c was = refl
 open_held (Sent d bytes) c was = refl
-open_held (Torn d bytes) c was = refl
+open_held (Torn d bytes size) c was = refl
 open_held (Shut d) c was = refl
 
 sound_held : (e : LogEntry) (c : ℕ) (was : Bool) → sound_by c was e ≡ held (sound_act e) c was
@@ -108,7 +108,7 @@ sound_held (Heard (arrival.Came d bytes)) c was = refl
 sound_held (Heard (arrival.Closed d)) c was = refl
 sound_held (Heard arrival.End) c was = refl
 sound_held (Sent d bytes) c was = refl
-sound_held (Torn d bytes) c was = refl
+sound_held (Torn d bytes size) c was = refl
 sound_held (Shut d) c was = refl
 
 open_among : (c : ℕ) (conns : List ℕ) (log : List LogEntry) → open_after c (among c conns) log ≡ among c (conns_after open_act conns log)
@@ -148,7 +148,7 @@ event_owes (note.Came c) bytes log h = rw (after_one open_act [] log (Heard (arr
 event_owes (note.Closed c) bytes log h = rw (after_one open_act [] log (Heard (arrival.Closed c)), after_one sound_act [] log (Heard (arrival.Closed c))) (omega (arith, cut_short c (conns_after open_act [] log), cut_short c (conns_after sound_act [] log)))
 event_owes note.End bytes log h = rw (after_one open_act [] log (Heard arrival.End), after_one sound_act [] log (Heard arrival.End)) (omega arith)
 event_owes (note.Sent c) bytes log h = absurd (cc)
-event_owes (note.Torn c) bytes log h = absurd (cc)
+event_owes (note.Torn c size) bytes log h = absurd (cc)
 event_owes (note.Shut c) bytes log h = absurd (cc)
 
 -- a send that went well owes no more
@@ -156,10 +156,10 @@ pub sent_owes : (c : ℕ) (bytes : List ℕ) (log : List LogEntry) → owed_by (
 sent_owes c bytes log = rw (after_one open_act [] log (Sent c bytes), after_one sound_act [] log (Sent c bytes)) (omega arith)
 
 -- one that failed pays one entry
-pub torn_pays : (c : ℕ) (bytes : List ℕ) (log : List LogEntry) → IsSound c log → owed_by (log ++ Torn c bytes ∷ []) + 1 ≤ owed_by log
-torn_pays c bytes log sound =
+pub torn_pays : (c : ℕ) (bytes : List ℕ) (size : ℕ) (log : List LogEntry) → IsSound c log → owed_by (log ++ Torn c bytes size ∷ []) + 1 ≤ owed_by log
+torn_pays c bytes size log sound =
     let here : among c (conns_after sound_act [] log) ≡ true = sym (sound_among c [] log) ∙ sound in
-    rw (after_one open_act [] log (Torn c bytes), after_one sound_act [] log (Torn c bytes)) (omega (arith, cut_one c (conns_after sound_act [] log) here))
+    rw (after_one open_act [] log (Torn c bytes size), after_one sound_act [] log (Torn c bytes size)) (omega (arith, cut_one c (conns_after sound_act [] log) here))
 
 -- and so does a close
 pub shut_pays : (c : ℕ) (log : List LogEntry) → IsOpen c log → owed_by (log ++ Shut c ∷ []) + 1 ≤ owed_by log

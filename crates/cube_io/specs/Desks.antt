@@ -1,5 +1,5 @@
 -- Desks: what a server answers for, and what it does with an ask.
-use Rattle.std.specs.Prelude.{◌≡◌, ◌≢◌, ℕ, ◌≤◌, Bool, true, false, IsTrue, List, [], ◌∷◌, ◌++◌, count_by}
+use Rattle.std.specs.Prelude.{◌≡◌, ◌≢◌, ◌⊎◌, ℕ, ◌≤◌, Bool, true, false, IsTrue, List, [], ◌∷◌, ◌++◌, count_by}
 use Rattle.cube_model.specs.declared.ask.Ask.{Ask}
 use Rattle.cube_model.specs.declared.outcome.Outcome.{Outcome}
 use Rattle.cube_model.specs.declared.outcome.Outcome.TheVariants.{Given, JournalFault, NoMemory}
@@ -9,7 +9,7 @@ use Rattle.cube_model.specs.declared.reply.Reply.TheVariants.{Fixed}
 use Rattle.cube_model.specs.Rooms.{Room}
 use Rattle.cube_io.specs.Causes.{Rose}
 use Rattle.cube_io.specs.Seen.{StoreState}
-use Rattle.cube_io.specs.States.{State}
+use Rattle.cube_io.specs.States.{State, Log, IsImage, Gained, settled}
 
 -- what is replied to an ask over some rooms, and the rooms behind it, by what became of it
 pub record Manner : Type 0 where
@@ -49,3 +49,22 @@ IsForeign holds log = (rooms : List Room) (state : State) → ¬ holds rooms log
 -- no log changed that keeps no room's history
 abbrev pub ForeignStay : (List Room → ℕ → State → Type 0) → StoreState → StoreState → Type 0
 ForeignStay holds old new = IsTrue old.told → (log : ℕ) → IsForeign holds log → new.logs log ≡ old.logs log
+
+-- ---- what a crash leaves beyond what it could leave before
+
+-- a log with just these bytes gives just the history of its room back
+abbrev pub GivesRooms : (List Room → ℕ → State → Type 0) → ℕ → List Room → List ℕ → Type 0
+GivesRooms exact log rooms bytes = exact rooms log (settled bytes)
+
+-- Whatever a crash leaves of a log at this state, it could leave at an earlier one, or it gives one of these back.
+abbrev pub LeavesOf : {X : Type 0} → (X → List ℕ → Type 0) → (X → Type 0) → State → State → Type 0
+LeavesOf {X} gives these old s = (bytes : List ℕ) → IsImage s bytes → IsImage old bytes ⊎ ((x : X) × these x × gives x bytes)
+
+-- So it is at each state that a log gains, and at the last.
+pub record LeavesAll {X : Type 0} (gives : X → List ℕ → Type 0) (these : X → Type 0) (old new : Log) : Type 0 where
+  pub passed : Gained (LeavesOf gives these old.state) old new
+  pub last : LeavesOf gives these old.state new.state
+
+-- it is one of two
+abbrev pub IsOneOf : {X : Type 0} → X → X → X → Type 0
+IsOneOf first second x = (x ≡ first) ⊎ (x ≡ second)

@@ -17,7 +17,7 @@ entry_of (note.Came c) bytes = Heard (arrival.Came c bytes)
 entry_of (note.Closed c) bytes = Heard (arrival.Closed c)
 entry_of note.End bytes = Heard arrival.End
 entry_of (note.Sent c) bytes = Sent c bytes
-entry_of (note.Torn c) bytes = Torn c bytes
+entry_of (note.Torn c size) bytes = Torn c bytes size
 entry_of (note.Shut c) bytes = Shut c
 
 -- an entry whose bytes stand in a buffer
@@ -59,7 +59,7 @@ open_act (Heard (arrival.Came d bytes)) = Stay
 open_act (Heard (arrival.Closed d)) = Cut d
 open_act (Heard arrival.End) = Stay
 open_act (Sent d bytes) = Stay
-open_act (Torn d bytes) = Stay
+open_act (Torn d bytes size) = Stay
 open_act (Shut d) = Cut d
 
 -- to those on which a send may go out
@@ -69,7 +69,7 @@ sound_act (Heard (arrival.Came d bytes)) = Stay
 sound_act (Heard (arrival.Closed d)) = Cut d
 sound_act (Heard arrival.End) = Stay
 sound_act (Sent d bytes) = Stay
-sound_act (Torn d bytes) = Cut d
+sound_act (Torn d bytes size) = Cut d
 sound_act (Shut d) = Cut d
 
 abbrev pub cut_out : ℕ → List ℕ → List ℕ
@@ -95,7 +95,7 @@ is_event (note.Came c) = true
 is_event (note.Closed c) = true
 is_event note.End = true
 is_event (note.Sent c) = false
-is_event (note.Torn c) = false
+is_event (note.Torn c size) = false
 is_event (note.Shut c) = false
 
 -- how many entries more are owed behind it
@@ -105,5 +105,5 @@ owes (note.Came c) = 0
 owes (note.Closed c) = 0
 owes note.End = 0
 owes (note.Sent c) = 0
-owes (note.Torn c) = 0
+owes (note.Torn c size) = 0
 owes (note.Shut c) = 0

@@ -13,11 +13,11 @@ pub data Arrival : Type 0 where
   Closed : ℕ → Arrival
   End : Arrival
 
--- an entry of a log: what came, what went out, what went out of a send that failed, a close
+-- an entry of a log: what came, what went out, what went out of a send that failed and how many bytes all of it had, a close
 pub data LogEntry : Type 0 where
   Heard : Arrival → LogEntry
   Sent : ℕ → List ℕ → LogEntry
-  Torn : ℕ → List ℕ → LogEntry
+  Torn : ℕ → List ℕ → ℕ → LogEntry
   Shut : ℕ → LogEntry
 
 -- What a wire is to play: events, and room for so many sends that go well and for so many bytes of them all; and whether it refused
@@ -53,7 +53,7 @@ open_by c was (Heard (Came d bytes)) = was
 open_by c was (Heard (Closed d)) = if d == c then false else was
 open_by c was (Heard End) = was
 open_by c was (Sent d bytes) = was
-open_by c was (Torn d bytes) = was
+open_by c was (Torn d bytes size) = was
 open_by c was (Shut d) = if d == c then false else was
 
 -- whether it is open behind a log
@@ -72,7 +72,7 @@ sound_by c was (Heard (Came d bytes)) = was
 sound_by c was (Heard (Closed d)) = if d == c then false else was
 sound_by c was (Heard End) = was
 sound_by c was (Sent d bytes) = was
-sound_by c was (Torn d bytes) = if d == c then false else was
+sound_by c was (Torn d bytes size) = if d == c then false else was
 sound_by c was (Shut d) = if d == c then false else was
 
 abbrev pub sound_after : ℕ → Bool → List LogEntry → Bool
@@ -83,10 +83,10 @@ sound_after c was (e ∷ log) = sound_after c (sound_by c was e) log
 abbrev pub IsSound : ℕ → List LogEntry → Type 0
 IsSound c log = IsTrue (sound_after c false log)
 
--- a send: all of the piece, or after a failure a prefix of it
+-- a send: all of the piece, or after a failure a prefix of it, and how long the piece was
 abbrev pub SendTells : ℕ → List ℕ → Result (Unit {0}) Failed → List LogEntry → List LogEntry → Type 0
 SendTells c piece (Ok u) old new = new ≡ old ++ Sent c piece ∷ []
-SendTells c piece (Err e) old new = (said : List ℕ) × (unsaid : List ℕ) × (piece ≡ said ++ unsaid) × (new ≡ old ++ Torn c said ∷ [])
+SendTells c piece (Err e) old new = (said : List ℕ) × (unsaid : List ℕ) × (piece ≡ said ++ unsaid) × (new ≡ old ++ Torn c said (length piece) ∷ [])
 
 -- an event, or after a failure nothing
 abbrev pub NextTells : Result Event Failed → List ℕ → List LogEntry → List LogEntry → Type 0
@@ -97,7 +97,7 @@ NextTells (Err f) buf old new = new ≡ old
 abbrev pub event_in : LogEntry → Option Arrival
 event_in (Heard e) = Some e
 event_in (Sent c bytes) = None
-event_in (Torn c bytes) = None
+event_in (Torn c bytes size) = None
 event_in (Shut c) = None
 
 -- the events that were taken
@@ -108,7 +108,7 @@ events_in log = filter_map event_in log
 abbrev pub rendered : LogEntry → List ℕ
 rendered (Heard e) = []
 rendered (Sent c bytes) = codes "sent " ++ decimal c ++ codes " " ++ decimal (length bytes) ++ 10 ∷ bytes ++ 10 ∷ []
-rendered (Torn c bytes) = []
+rendered (Torn c bytes size) = []
 rendered (Shut c) = codes "shut " ++ decimal c ++ 10 ∷ []
 
 abbrev pub render : List LogEntry → List ℕ

@@ -69,7 +69,7 @@ impl Book {
     pub fn send(&mut self, c: u32, piece: &[u8], failing: Option<u64>) -> bool
         requires { IsSound c self.old.scroll.log }
         ensures sent { result ≡ true → self.new.scroll.log ≡ self.old.scroll.log ++ Sent c piece.now ∷ [] }
-        ensures torn { result ≡ false → (said : List ℕ) × (unsaid : List ℕ) × (piece.now ≡ said ++ unsaid) × (self.new.scroll.log ≡ self.old.scroll.log ++ Torn c said ∷ []) }
+        ensures torn { result ≡ false → (said : List ℕ) × (unsaid : List ℕ) × (piece.now ≡ said ++ unsaid) × (self.new.scroll.log ≡ self.old.scroll.log ++ Torn c said (length piece.now) ∷ []) }
     {
         match failing {
             Some(goes) => self.tear(c, piece, goes),
@@ -81,7 +81,7 @@ impl Book {
     fn put(&mut self, c: u32, piece: &[u8]) -> bool
         requires { IsSound c self.old.scroll.log }
         ensures sent { result ≡ true → self.new.scroll.log ≡ self.old.scroll.log ++ Sent c piece.now ∷ [] }
-        ensures torn { result ≡ false → (said : List ℕ) × (unsaid : List ℕ) × (piece.now ≡ said ++ unsaid) × (self.new.scroll.log ≡ self.old.scroll.log ++ Torn c said ∷ []) }
+        ensures torn { result ≡ false → (said : List ℕ) × (unsaid : List ℕ) × (piece.now ≡ said ++ unsaid) × (self.new.scroll.log ≡ self.old.scroll.log ++ Torn c said (length piece.now) ∷ []) }
     {
         if self.scroll.entries_left() == self.owed || self.scroll.bytes_left() < piece.len() {
             return self.tear(c, piece, 0);
@@ -104,11 +104,11 @@ impl Book {
     #[tactic(auto, using(crate::proofs::Scrolled::torn_pays))]
     fn tear(&mut self, c: u32, piece: &[u8], goes: u64) -> bool
         requires { IsSound c self.old.scroll.log }
-        ensures torn { (said : List ℕ) × (unsaid : List ℕ) × (piece.now ≡ said ++ unsaid) × (self.new.scroll.log ≡ self.old.scroll.log ++ Torn c said ∷ []) }
+        ensures torn { (said : List ℕ) × (unsaid : List ℕ) × (piece.now ≡ said ++ unsaid) × (self.new.scroll.log ≡ self.old.scroll.log ++ Torn c said (length piece.now) ∷ []) }
         ensures fails { result ≡ false }
     {
         let said = front(piece, goes, self.scroll.bytes_left());
-        self.scroll.add(Note::Torn(c), said);
+        self.scroll.add(Note::Torn(c, piece.len()), said);
         self.owed -= 1;
         false
     }

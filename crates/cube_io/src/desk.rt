@@ -5,7 +5,7 @@ ghost use Rattle.cube_model.specs.declared.outcome.Outcome.{Outcome};
 ghost use Rattle.cube_model.specs.declared.outcome.Outcome.TheVariants as outcome;
 ghost use Rattle.cube_model.specs.declared.reply.Fixed.TheVariants as constant;
 ghost use Rattle.cube_model.specs.declared.reply.Reply.TheVariants as reply;
-ghost use Rattle.cube_io.specs.Desks.{Manner, IsConstant, Answered, ForeignStay};
+ghost use Rattle.cube_io.specs.Desks.{Manner, IsConstant, Answered, ForeignStay, GivesRooms, LeavesAll, IsOneOf};
 ghost use Rattle.cube_io.specs.States.{State, Gained};
 
 use crate::Store;
@@ -60,7 +60,15 @@ pub trait Desk<S: Store> {
             → Gained (λ state. within self.old (rooms self.old) log state ⊎ within self.old (rooms self.new) log state) ((S.state store.old).logs log) ((S.state store.new).logs log) }
         ensures within { IsTrue (S.state store.old).told → (log : ℕ) → within self.old (rooms self.old) log ((S.state store.old).logs log).state → within self.new (rooms self.new) log ((S.state store.new).logs log).state }
         ensures exact { outcomes self.new ≢ outcomes self.old ++ outcome.JournalFault ∷ [] → IsTrue (S.state store.old).told → (log : ℕ) → exact self.old (rooms self.old) log ((S.state store.old).logs log).state
-            → exact self.new (rooms self.new) log ((S.state store.new).logs log).state };
+            → exact self.new (rooms self.new) log ((S.state store.new).logs log).state }
+
+        // Beyond what a crash could leave before, it leaves a history without the request in hand or with it, and no other request.
+        ensures in_hand { IsTrue (S.state store.old).told → (log : ℕ) → within self.old (rooms self.old) log ((S.state store.old).logs log).state
+            → LeavesAll (GivesRooms (exact self.old) log) (IsOneOf (rooms self.old) ((manner self.old).next (rooms self.old) ask.now outcome.Given)) ((S.state store.old).logs log) ((S.state store.new).logs log) }
+
+        // Where the journal did not fail, a log stays, or whatever a crash leaves of it recovers just the history, also behind an earlier fault.
+        ensures renewed { outcomes self.new ≢ outcomes self.old ++ outcome.JournalFault ∷ [] → IsTrue (S.state store.old).told → (log : ℕ) → within self.old (rooms self.old) log ((S.state store.old).logs log).state
+            → ((S.state store.new).logs log ≡ (S.state store.old).logs log) ⊎ exact self.new (rooms self.new) log ((S.state store.new).logs log).state };
 
     /// Replies to an ask that found no memory before it reached the desk. It takes none.
     fn miss(&mut self) -> Reply

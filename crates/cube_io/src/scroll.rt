@@ -19,8 +19,8 @@ pub enum Note {
     End,
     /// Bytes were sent.
     Sent(u32),
-    /// Bytes went out of a send that failed.
-    Torn(u32),
+    /// Bytes went out of a send that failed, which had so many.
+    Torn(u32, usize),
     /// It was closed.
     Shut(u32),
 }

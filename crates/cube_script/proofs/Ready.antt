@@ -1,8 +1,9 @@
 -- One call more of a wire that plays a script: its log, and the room behind it.
-use Rattle.std.proofs.Common.{◌≡◌, ◌<◌, ◌≤◌, ℕ, zero, suc, ◌+◌, ◌-◌, ◌^◌, Bool, true, false, ◌&&◌, ◌||◌, List, [], ◌∷◌, ◌++◌, length, take, drop, Option, Some, None, Result, Err, inl, inr, ◌⊎◌, refl, sym, ◌∙◌, ap, subst, arith, add-one, append-nil, unwrap_or, if◌then◌else◌, sum_by, count_by}
-use Rattle.std.specs.Prelude.{slice_get, ◌↔◌}
+use Rattle.std.proofs.Common.{◌≡◌, ◌<◌, ◌≤◌, ℕ, zero, suc, ◌+◌, ◌-◌, ◌^◌, Bool, true, false, ◌&&◌, ◌||◌, List, [], ◌∷◌, ◌++◌, length, take, drop, Option, Some, None, Result, Err, inl, inr, ◌⊎◌, refl, sym, ◌∙◌, ap, subst, arith, add-one, append-nil, append_assoc, unwrap_or, if◌then◌else◌, sum_by, count_by}
+use Rattle.std.specs.Prelude.{slice_get, ◌↔◌, nat_le, nat_lt}
 use Rattle.std.proofs.Math.Bool.{or-false}
 use Rattle.std.proofs.Math.Seq.{take-suc, drop-cons}
+use Rattle.std.proofs.lemmas.Bool.{le-leb}
 use Rattle.std.proofs.lemmas.List.{take-append-drop, length-take-le}
 use Rattle.std.proofs.lemmas.List.Elements.{filter_map-append}
 use Rattle.std.proofs.lemmas.List.Folds.{list_any-append, list_all-append}
@@ -16,7 +17,7 @@ use Rattle.cube_io.specs.Wires.{Arrival as arrival}
 use Rattle.cube_io.specs.Wires.LogEntry.{Heard, Sent, Torn, Shut}
 use Rattle.cube_io.specs.declared.scroll.Note.TheVariants as note
 use Rattle.cube_io.proofs.Scrolled.{event_owes, sent_owes, torn_pays, shut_pays}
-use Rattle.cube_script.specs.Playing.{IsPlaying, started, is_torn, has_torn, is_sent, sent_size, is_settled}
+use Rattle.cube_script.specs.Playing.{Overran, passes_room_by, IsPlaying, started, is_torn, has_torn, is_sent, sent_size, is_settled}
 use Rattle.cube_script.specs.declared.script_wire.SendRoom.{SendRoom}
 use Rattle.cube_script.specs.declared.play.ScriptFault.{ScriptFault}
 use Rattle.cube_script.specs.declared.play.ScriptFault.TheVariants.{Line, NoMemory}
@@ -31,8 +32,8 @@ events_heard log e = filter_map-append event_in log (Heard e ∷ [])
 events_sent : (log : List LogEntry) (c : ℕ) (bytes : List ℕ) → events_in (log ++ Sent c bytes ∷ []) ≡ events_in log
 events_sent log c bytes = filter_map-append event_in log (Sent c bytes ∷ []) ∙ append-nil (events_in log)
 
-events_torn : (log : List LogEntry) (c : ℕ) (bytes : List ℕ) → events_in (log ++ Torn c bytes ∷ []) ≡ events_in log
-events_torn log c bytes = filter_map-append event_in log (Torn c bytes ∷ []) ∙ append-nil (events_in log)
+events_torn : (log : List LogEntry) (c : ℕ) (bytes : List ℕ) (size : ℕ) → events_in (log ++ Torn c bytes size ∷ []) ≡ events_in log
+events_torn log c bytes size = filter_map-append event_in log (Torn c bytes size ∷ []) ∙ append-nil (events_in log)
 
 events_shut : (log : List LogEntry) (c : ℕ) → events_in (log ++ Shut c ∷ []) ≡ events_in log
 events_shut log c = filter_map-append event_in log (Shut c ∷ []) ∙ append-nil (events_in log)
@@ -44,8 +45,8 @@ or_true : (b : Bool) → (b || true) ≡ true
 or_true true = refl
 or_true false = refl
 
-torn_now : (log : List LogEntry) (c : ℕ) (bytes : List ℕ) → has_torn (log ++ Torn c bytes ∷ []) ≡ true
-torn_now log c bytes = list_any-append is_torn log (Torn c bytes ∷ []) ∙ or_true (has_torn log)
+torn_now : (log : List LogEntry) (c : ℕ) (bytes : List ℕ) (size : ℕ) → has_torn (log ++ Torn c bytes size ∷ []) ≡ true
+torn_now log c bytes size = list_any-append is_torn log (Torn c bytes size ∷ []) ∙ or_true (has_torn log)
 
 settled_more : (log : List LogEntry) (e : LogEntry) → is_settled e ≡ true → list_all is_settled log ≡ true → list_all is_settled (log ++ e ∷ []) ≡ true
 settled_more log e well all = list_all-append is_settled log (e ∷ []) ∙ ap (λ (b : Bool). b && (is_settled e && true)) all ∙ ap (λ (b : Bool). b && true) well
@@ -55,6 +56,61 @@ sends_more log e = sum_by_push _ log e
 
 sizes_more : (log : List LogEntry) (e : LogEntry) → sum_by sent_size (log ++ e ∷ []) ≡ sum_by sent_size log + sent_size e
 sizes_more log e = sum_by_push sent_size log e
+
+no_way : true ≡ false → ⊥
+no_way e = cc
+
+-- ---- why a send failed
+
+-- where none did there is nothing to say
+none_overran : (b : Bool) (most : SendRoom) (log : List LogEntry) → b ≡ has_torn log → b ≡ false → has_torn log ≡ true → Overran most log
+none_overran b most log is none some = absurd (no_way (sym some ∙ sym is ∙ none))
+
+-- the first that would pass the room
+first_overran : (most : SendRoom) (log log' : List LogEntry) (c size : ℕ) → log' ≡ log ++ Torn c [] size ∷ [] → has_torn log ≡ false → passes_room_by most log size ≡ true → Overran most log'
+first_overran most log log' c size grows none passes = record { before = log; conn = c; size = size; behind = []; whole = grows; first = none; passes = passes; unsent = refl; unheard = refl }
+
+-- behind it an entry more that notes neither a send that went well nor an event
+still_overran : (most : SendRoom) (log log' : List LogEntry) (e : LogEntry) → log' ≡ log ++ e ∷ [] → is_sent e ≡ false → event_in e ≡ None → Overran most log → Overran most log'
+still_overran most log log' e grows unsent unheard o = record {
+  before = o.before;
+  conn = o.conn;
+  size = o.size;
+  behind = o.behind ++ e ∷ [];
+  whole = grows ∙ ap (λ (l : List LogEntry). l ++ e ∷ []) o.whole ∙ append_assoc o.before (Torn o.conn [] o.size ∷ o.behind) (e ∷ []);
+  first = o.first;
+  passes = o.passes;
+  unsent = rw (sends_more o.behind e, unsent, o.unsent) refl;
+  unheard = filter_map-append event_in o.behind (e ∷ []) ∙ rw (unheard, o.unheard) refl;
+}
+
+-- a send that failed: an earlier one did, or it would pass the room
+torn_overran : (b : Bool) (most : SendRoom) (log log' : List LogEntry) (c size : ℕ) → b ≡ has_torn log → (has_torn log ≡ true → Overran most log) → (b || passes_room_by most log size) ≡ true → log' ≡ log ++ Torn c [] size ∷ [] → Overran most log'
+torn_overran true most log log' c size is was fails grows = still_overran most log log' (Torn c [] size) grows refl refl (was (sym is))
+torn_overran false most log log' c size is was fails grows = first_overran most log log' c size grows (sym is) fails
+
+-- what the wire keeps tells that a send fails
+pub fails_behind : (b : Bool) (most : SendRoom) (log : List LogEntry) (len : ℕ) → b ≡ true → (b || passes_room_by most log len) ≡ true
+fails_behind b most log len broke = ap (λ (t : Bool). t || passes_room_by most log len) broke
+
+second_of : (a b c : Bool) → b ≡ true → (a || (b || c)) ≡ true
+second_of true b c is = refl
+second_of false b c is = ap (λ (t : Bool). t || c) is
+
+third_of : (a b c : Bool) → c ≡ true → (a || (b || c)) ≡ true
+third_of true b c is = refl
+third_of false true c is = refl
+third_of false false c is = is
+
+pub fails_sends : (script : List Arrival) (k : Kept) (len : ℕ) → IsReady script k → k.left.sends ≡ 0 → (k.overrun || passes_room_by k.most k.roll.log len) ≡ true
+fails_sends script k len r none =
+    let full : k.most.sends ≤ count_by is_sent k.roll.log = omega (arith, r.sends, none) in
+    second_of k.overrun (nat_le k.most.sends (count_by is_sent k.roll.log)) (nat_lt k.most.bytes (sum_by sent_size k.roll.log + len)) (le-leb k.most.sends (count_by is_sent k.roll.log) full)
+
+pub fails_bytes : (script : List Arrival) (k : Kept) (len : ℕ) → IsReady script k → k.left.bytes < len → (k.overrun || passes_room_by k.most k.roll.log len) ≡ true
+fails_bytes script k len r small =
+    let full : k.most.bytes + 1 ≤ sum_by sent_size k.roll.log + len = omega (arith, r.sent, small) in
+    third_of k.overrun (nat_le k.most.sends (count_by is_sent k.roll.log)) (nat_lt k.most.bytes (sum_by sent_size k.roll.log + len)) (le-leb (suc k.most.bytes) (sum_by sent_size k.roll.log + len) (omega (arith, full)))
 
 -- ---- the event that is played
 
@@ -92,10 +148,10 @@ next_room script k e r at =
     (playable_at script k.taken e r.playable at, omega (arith, n, r.entries), omega (arith, b, r.bytes), omega (arith, n, r.entries, r.small))
 
 pub ready_next : (script : List Arrival) (k : Kept) (e : Arrival) (roll' : Roll)
-    → IsReady script k → slice_get script k.taken ≡ Some e
+    → IsReady script k → k.overrun ≡ false → slice_get script k.taken ≡ Some e
     → roll'.log ≡ k.roll.log ++ Heard e ∷ [] → roll'.entries_left + 1 ≡ k.roll.entries_left → roll'.bytes_left + bytes_for e ≡ k.roll.bytes_left
     → IsReady script (record k { taken = k.taken + 1; roll = roll'; owed = k.owed + entries_owed e })
-ready_next script k e roll' r at log entries bytes =
+ready_next script k e roll' r well at log entries bytes =
     let n = sum_next entries_for script k.taken e at in
     let b = sum_next bytes_for script k.taken e at in
     let within = slice_get_within script k.taken e at in
@@ -117,16 +173,17 @@ ready_next script k e roll' r at log entries bytes =
       sent = rw (log, size) (omega (arith, r.sent));
       nothing = ap (list_all is_settled) log ∙ settled_more k.roll.log (Heard e) refl r.nothing;
       torn = r.torn ∙ sym stays;
+      cause = none_overran k.overrun k.most roll'.log (r.torn ∙ sym stays) well;
       sound = λ none. r.sound (sym stays ∙ none);
       broken = λ some. r.broken (sym stays ∙ some);
       steady = λ none dry more. r.steady (sym stays ∙ none) dry within;
     }
 
 pub ready_sent : (script : List Arrival) (k : Kept) (c : ℕ) (piece : List ℕ) (roll' : Roll)
-    → IsReady script k → 0 < k.left.sends → length piece ≤ k.left.bytes
+    → IsReady script k → k.overrun ≡ false → 0 < k.left.sends → length piece ≤ k.left.bytes
     → roll'.log ≡ k.roll.log ++ Sent c piece ∷ [] → roll'.entries_left + 1 ≡ k.roll.entries_left → roll'.bytes_left + length piece ≡ k.roll.bytes_left
     → IsReady script (record k { roll = roll'; left = record { sends = k.left.sends - 1; bytes = k.left.bytes - length piece } })
-ready_sent script k c piece roll' r some fits log entries bytes =
+ready_sent script k c piece roll' r well some fits log entries bytes =
     let stays = ap has_torn log ∙ torn_more k.roll.log (Sent c piece) refl in
     let owes = sent_owes c piece k.roll.log in
     let count = sends_more k.roll.log (Sent c piece) in
@@ -144,31 +201,29 @@ ready_sent script k c piece roll' r some fits log entries bytes =
       sent = rw (log, size) (omega (arith, r.sent, fits));
       nothing = ap (list_all is_settled) log ∙ settled_more k.roll.log (Sent c piece) refl r.nothing;
       torn = r.torn ∙ sym stays;
+      cause = none_overran k.overrun k.most roll'.log (r.torn ∙ sym stays) well;
       sound = λ none. r.sound (sym stays ∙ none);
       broken = λ broke. r.broken (sym stays ∙ broke);
       steady = λ none dry more. r.steady (sym stays ∙ none) dry more;
     }
 
-no_way : true ≡ false → ⊥
-no_way e = cc
-
 pub torn_room : (script : List Arrival) (k : Kept) (c : ℕ)
     → IsReady script k → IsSound c k.roll.log → (0 < k.owed) × (0 < k.roll.entries_left)
 torn_room script k c r sound =
-    let pays = torn_pays c [] k.roll.log sound in
+    let pays = torn_pays c [] 0 k.roll.log sound in
     (omega (arith, pays, r.enough), omega (arith, pays, r.enough, r.entries))
 
-pub ready_torn : (script : List Arrival) (k : Kept) (c sf' : ℕ) (roll' : Roll)
-    → IsReady script k → IsSound c k.roll.log → 0 < sf'
-    → roll'.log ≡ k.roll.log ++ Torn c [] ∷ [] → roll'.entries_left + 1 ≡ k.roll.entries_left → roll'.bytes_left + 0 ≡ k.roll.bytes_left
+pub ready_torn : (script : List Arrival) (k : Kept) (c len sf' : ℕ) (roll' : Roll)
+    → IsReady script k → IsSound c k.roll.log → (k.overrun || passes_room_by k.most k.roll.log len) ≡ true → 0 < sf'
+    → roll'.log ≡ k.roll.log ++ Torn c [] len ∷ [] → roll'.entries_left + 1 ≡ k.roll.entries_left → roll'.bytes_left + 0 ≡ k.roll.bytes_left
     → IsReady script (record k { roll = roll'; owed = k.owed - 1; overrun = true; send_faults = sf' })
-ready_torn script k c sf' roll' r sound rose log entries bytes =
-    let now = ap has_torn log ∙ torn_now k.roll.log c [] in
-    let pays = torn_pays c [] k.roll.log sound in
-    let count = sends_more k.roll.log (Torn c []) in
-    let size = sizes_more k.roll.log (Torn c []) in
+ready_torn script k c len sf' roll' r sound fails rose log entries bytes =
+    let now = ap has_torn log ∙ torn_now k.roll.log c [] len in
+    let pays = torn_pays c [] len k.roll.log sound in
+    let count = sends_more k.roll.log (Torn c [] len) in
+    let size = sizes_more k.roll.log (Torn c [] len) in
     record {
-      events = ap events_in log ∙ events_torn k.roll.log c [] ∙ r.events;
+      events = ap events_in log ∙ events_torn k.roll.log c [] len ∙ r.events;
       few = r.few;
       ends = r.ends;
       playable = r.playable;
@@ -178,8 +233,9 @@ ready_torn script k c sf' roll' r sound rose log entries bytes =
       bytes = omega (arith, r.bytes, bytes);
       sends = rw (log, count) (omega (arith, r.sends));
       sent = rw (log, size) (omega (arith, r.sent));
-      nothing = ap (list_all is_settled) log ∙ settled_more k.roll.log (Torn c []) refl r.nothing;
+      nothing = ap (list_all is_settled) log ∙ settled_more k.roll.log (Torn c [] len) refl r.nothing;
       torn = sym now;
+      cause = λ _. torn_overran k.overrun k.most k.roll.log roll'.log c len r.torn r.cause fails log;
       sound = λ none. absurd (no_way (sym now ∙ none));
       broken = λ broke. rose;
       steady = λ none dry more. absurd (no_way (sym now ∙ none));
@@ -213,6 +269,7 @@ ready_shut script k c roll' r opens log entries bytes =
       sent = rw (log, size) (omega (arith, r.sent));
       nothing = ap (list_all is_settled) log ∙ settled_more k.roll.log (Shut c) refl r.nothing;
       torn = r.torn ∙ sym stays;
+      cause = λ some. still_overran k.most k.roll.log roll'.log (Shut c) log refl refl (r.cause (sym stays ∙ some));
       sound = λ none. r.sound (sym stays ∙ none);
       broken = λ broke. r.broken (sym stays ∙ broke);
       steady = λ none dry more. r.steady (sym stays ∙ none) dry more;
@@ -235,6 +292,7 @@ ready_fails script k f' r never = record {
   sent = r.sent;
   nothing = r.nothing;
   torn = r.torn;
+  cause = r.cause;
   sound = r.sound;
   broken = r.broken;
   steady = λ none dry more. absurd (never (r.torn ∙ none) more);
@@ -256,6 +314,7 @@ ready_spills script k f' r = record {
   sent = r.sent;
   nothing = r.nothing;
   torn = r.torn;
+  cause = r.cause;
   sound = r.sound;
   broken = r.broken;
   steady = λ none dry more. absurd (no_way dry);
@@ -296,6 +355,7 @@ playing script k heard r =
     record {
       ends = r.ends;
       nothing = r.nothing;
+      cause = r.cause;
       events = (drop k.taken script, sym (take-append-drop k.taken script) ∙ ap (λ (l : List Arrival). l ++ drop k.taken script) (sym r.events));
       sends = omega (arith, r.sends);
       sent = omega (arith, r.sent);
@@ -321,6 +381,7 @@ ready_start script events roll most is each none entries bytes small = record {
   sends = rw none (omega arith);
   sent = rw none (omega arith);
   torn = sym (ap has_torn none);
+  cause = λ some. absurd (no_way (sym some ∙ ap has_torn none));
   sound = λ _. refl;
   broken = λ broke. absurd (no_way (sym broke ∙ ap has_torn none));
   steady = λ _ _ _. refl;

@@ -13,7 +13,7 @@ use Rattle.cube_script.specs.declared.play.ScriptFault.TheVariants.{Line}
 abbrev pub is_torn : LogEntry → Bool
 is_torn (Heard e) = false
 is_torn (Sent c bytes) = false
-is_torn (Torn c bytes) = true
+is_torn (Torn c bytes size) = true
 is_torn (Shut c) = false
 
 -- a send failed
@@ -24,21 +24,21 @@ has_torn log = list_any is_torn log
 abbrev pub is_sent : LogEntry → Bool
 is_sent (Heard e) = false
 is_sent (Sent c bytes) = true
-is_sent (Torn c bytes) = false
+is_sent (Torn c bytes size) = false
 is_sent (Shut c) = false
 
 -- how many bytes it has
 abbrev pub sent_size : LogEntry → ℕ
 sent_size (Heard e) = 0
 sent_size (Sent c bytes) = length bytes
-sent_size (Torn c bytes) = 0
+sent_size (Torn c bytes size) = 0
 sent_size (Shut c) = 0
 
 -- no byte went out by a send that failed
 abbrev pub is_settled : LogEntry → Bool
 is_settled (Heard e) = true
 is_settled (Sent c bytes) = true
-is_settled (Torn c bytes) = length bytes == 0
+is_settled (Torn c bytes size) = length bytes == 0
 is_settled (Shut c) = true
 
 -- A wire that plays a script: all that it plays, its log, the addresses that were heard, the room for sends that go well, whether an
@@ -73,9 +73,13 @@ started (Err n) most = Err (Line n)
 abbrev pub next_of : Playing → Option Arrival
 next_of w = if has_torn w.log then None else slice_get w.script (length (events_in w.log))
 
--- behind the log a send of these bytes would pass the room for sends
+-- behind the log a send of so many bytes would pass the room for sends
+abbrev pub passes_room_by : SendRoom → List LogEntry → ℕ → Bool
+passes_room_by most log size = nat_le most.sends (count_by is_sent log) || nat_lt most.bytes (sum_by sent_size log + size)
+
+-- a send of these bytes would
 abbrev pub passes_room : SendRoom → List LogEntry → List ℕ → Bool
-passes_room most log piece = nat_le most.sends (count_by is_sent log) || nat_lt most.bytes (sum_by sent_size log + length piece)
+passes_room most log piece = passes_room_by most log (length piece)
 
 -- a send of these bytes fails: an earlier one did, or it would pass the room for sends
 abbrev pub is_refused : Playing → List ℕ → Bool
@@ -92,15 +96,29 @@ max_address_bytes = 1024
 abbrev pub has_room_for : Playing → List ℕ → Bool
 has_room_for w address = nat_lt (length w.heard) max_addresses && nat_le (sum_by length w.heard + length address) max_address_bytes
 
+-- A send failed, and the first that did would have passed the room for sends behind what went out before it. Behind it no send goes
+-- well, and no event comes.
+pub record Overran (most : SendRoom) (log : List LogEntry) : Type 0 where
+  pub before : List LogEntry
+  pub conn : ℕ
+  pub size : ℕ
+  pub behind : List LogEntry
+  pub whole : log ≡ before ++ Torn conn [] size ∷ behind
+  pub first : has_torn before ≡ false
+  pub passes : passes_room_by most before size ≡ true
+  pub unsent : count_by is_sent behind ≡ 0
+  pub unheard : events_in behind ≡ []
+
 -- What holds of each such wire, whatever was called: its script ends with the end, and it has given the first events of it;
--- no send passed the room, and nothing went out of one that failed; one failed where the count of failed sends is not 0; and while
--- none failed no other call did, but for one with an address too many or behind the end.
+-- no send passed the room, one failed only where it would have, and nothing went out of one that failed; one failed where the count of
+-- failed sends is not 0; and while none failed no other call did, but for one with an address too many or behind the end.
 pub record IsPlaying (w : Playing) : Type 0 where
   pub ends : (events : List Arrival) × (w.script ≡ events ++ End ∷ [])
   pub events : (rest : List Arrival) × (w.script ≡ events_in w.log ++ rest)
   pub sends : count_by is_sent w.log ≤ w.most.sends
   pub sent : sum_by sent_size w.log ≤ w.most.bytes
   pub nothing : list_all is_settled w.log ≡ true
+  pub cause : has_torn w.log ≡ true → Overran w.most w.log
   pub sound : has_torn w.log ≡ false → w.send_faults ≡ 0
   pub broken : has_torn w.log ≡ true → 0 < w.send_faults
   pub steady : has_torn w.log ≡ false → w.spilled ≡ false → length (events_in w.log) < length w.script → w.faults ≡ 0

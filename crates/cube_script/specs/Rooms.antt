@@ -7,7 +7,7 @@ use Rattle.cube_io.specs.Wires.{Arrival, LogEntry, events_in}
 use Rattle.cube_io.specs.Wires.Arrival.{Opened, Came, Closed, End}
 use Rattle.cube_io.specs.Wires.LogEntry.{Heard, Sent, Torn, Shut}
 use Rattle.cube_script.specs.declared.script_wire.SendRoom.{SendRoom}
-use Rattle.cube_script.specs.Playing.{has_torn, is_sent, sent_size, is_settled, max_addresses, max_address_bytes}
+use Rattle.cube_script.specs.Playing.{Overran, has_torn, is_sent, sent_size, is_settled, max_addresses, max_address_bytes}
 
 -- a piece has a byte and fits the buffer
 abbrev pub IsPlayable : Arrival → Type 0
@@ -63,6 +63,7 @@ pub record IsReady (script : List Arrival) (kept : Kept) : Type 0 where
   pub sent : sum_by sent_size kept.roll.log + kept.left.bytes ≡ kept.most.bytes
   pub nothing : list_all is_settled kept.roll.log ≡ true
   pub torn : kept.overrun ≡ has_torn kept.roll.log
+  pub cause : has_torn kept.roll.log ≡ true → Overran kept.most kept.roll.log
   pub sound : has_torn kept.roll.log ≡ false → kept.send_faults ≡ 0
   pub broken : has_torn kept.roll.log ≡ true → 0 < kept.send_faults
   pub steady : has_torn kept.roll.log ≡ false → kept.spilled ≡ false → kept.taken < length script → kept.faults ≡ 0
@@ -74,7 +75,7 @@ address_in (Heard (Came c bytes)) = bytes
 address_in (Heard (Closed c)) = []
 address_in (Heard End) = []
 address_in (Sent c bytes) = []
-address_in (Torn c bytes) = []
+address_in (Torn c bytes size) = []
 address_in (Shut c) = []
 
 -- the room for addresses

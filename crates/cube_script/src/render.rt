@@ -71,7 +71,7 @@ fn put_entry<O: Sink>(out: &mut O, note: Note, bytes: &[u8]) -> Result<(), Faile
     match note {
         Note::Sent(c) => put_sent(out, c, bytes),
         Note::Shut(c) => put_shut(out, c),
-        Note::Opened(_) | Note::Came(_) | Note::Closed(_) | Note::End | Note::Torn(_) => Ok(()),
+        Note::Opened(_) | Note::Came(_) | Note::Closed(_) | Note::End | Note::Torn(..) => Ok(()),
     }
 }
 

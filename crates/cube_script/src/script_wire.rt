@@ -43,9 +43,9 @@ const ADDRESS_BYTES: usize = 1_024;
 /// A wire that plays a script: its events in order, and then once the end. It tells its log, and keeps all of it in room that is
 /// taken when it is made.
 ///
-/// A send that would pass the room for sends fails, and nothing of it goes out. Behind it every send and every `next` fails. A
-/// `next` behind the end fails too, and so does a `listen` at a ninth address, or at more than 1,024 bytes of addresses. There is
-/// always room for a close.
+/// A send that would pass the room for sends fails, and no other does that is the first to fail. Nothing of it goes out; the log says
+/// how long its piece was. Behind it every send and every `next` fails. A `next` behind the end fails too, and so does a `listen` at a
+/// ninth address, or at more than 1,024 bytes of addresses. There is always room for a close.
 #[derive(Drop)]
 pub struct ScriptWire {
     plays: Vec<Play>,
@@ -207,10 +207,10 @@ impl Wire for ScriptWire {
         ensures heard { self.new.heard ≡ self.old.heard }
         ensures refused { is_err result ≡ is_refused self.old piece.now }
         ensures ok { OnOk result (self.new ≡ record self.old { log = self.old.log ++ Sent c piece.now ∷ [] }) }
-        ensures err { OnErr result (self.new ≡ record self.old { log = self.old.log ++ Torn c [] ∷ []; send_faults = min (self.old.send_faults + 1) (2 ^ 64 - 1) }) }
+        ensures err { OnErr result (self.new ≡ record self.old { log = self.old.log ++ Torn c [] (length piece.now) ∷ []; send_faults = min (self.old.send_faults + 1) (2 ^ 64 - 1) }) }
     {
         if self.overrun || self.left.sends == 0 || self.left.bytes < piece.len() {
-            self.scroll.add(Note::Torn(c), b"");
+            self.scroll.add(Note::Torn(c, piece.len()), b"");
             self.owed -= 1;
             self.overrun = true;
             self.send_faults = self.send_faults.saturating_add(1);

@@ -1,5 +1,5 @@
 -- How what a crash may leave adds up over asks.
-use Rattle.std.proofs.Common.{◌≡◌, ◌≢◌, ◌⊎◌, ◌↔◌, inl, inr, ℕ, ◌+◌, IsTrue, List, [], ◌∷◌, ◌++◌, length, map, filter, refl, sym, ◌∙◌, ap, subst, arith, cond, append_assoc, append-nil, length-append}
+use Rattle.std.proofs.Common.{◌≡◌, ◌≢◌, ◌⊎◌, ◌↔◌, inl, inr, ⊎_elim, ℕ, ◌+◌, IsTrue, List, [], ◌∷◌, ◌++◌, length, map, filter, refl, sym, ◌∙◌, ap, subst, arith, cond, append_assoc, append-nil, length-append}
 use Rattle.std.proofs.lemmas.List.{append_cancel_left, map-append}
 use Rattle.std.proofs.lemmas.List.Elements.{filter-append}
 use Rattle.std.proofs.lemmas.List.Sums.{sum_by-append}
@@ -8,13 +8,14 @@ use Rattle.cube_model.specs.declared.outcome.Outcome.{Outcome}
 use Rattle.cube_model.specs.declared.outcome.Outcome.TheVariants.{Given, JournalFault, NoMemory}
 use Rattle.cube_model.specs.declared.reply.Reply.{Reply}
 use Rattle.cube_model.specs.Rooms.{Room}
-use Rattle.cube_io.specs.Desks.{Manner, Answered, ForeignStay, is_fault, faults_in}
+use Rattle.cube_io.specs.Desks.{Manner, Answered, ForeignStay, GivesRooms, LeavesAll, IsOneOf, is_fault, faults_in}
 use Rattle.cube_io.specs.Seen.{StoreState}
-use Rattle.cube_io.specs.States.{State, Gained}
+use Rattle.cube_io.specs.States.{State, Log, Gained, settled}
+use Rattle.cube_io.proofs.Hands.{leaves_all_map, leaves_all_none, leaves_all_then}
 use Rattle.cube_io.proofs.Trails.{gained_none, gained_then, gained_map}
 use Rattle.cube_server.specs.Logs.{Call}
 use Rattle.cube_server.specs.Seen.{DeskState}
-use Rattle.cube_server.specs.Crashes.{after, Reaches, OnTheWay, FailedFresh, found_memory, Called, Endures}
+use Rattle.cube_server.specs.Crashes.{after, Reaches, OnTheWay, FailedFresh, IsInHand, found_memory, Called, Endures}
 
 pub after_more : (m : Manner) (rooms : List Room) (xs ys : List Call) → after m rooms (xs ++ ys) ≡ after m (after m rooms xs) ys
 after_more m rooms [] ys = refl
@@ -58,6 +59,34 @@ called_then a b c same f g =
           (subst (λ (r : List Room). FailedFresh a.manner r g.calls) f.rooms_are (subst (λ (m : Manner). FailedFresh m b.rooms g.calls) same g.fresh));
     }
 
+-- ---- what is in the hand of asks
+
+in_hand_front : (m : Manner) (rooms here : List Room) (xs ys : List Call) → IsInHand m rooms xs here → IsInHand m rooms (xs ++ ys) here
+in_hand_front m rooms here [] [] h = h
+in_hand_front m rooms here [] (y ∷ ys) h = inl h
+in_hand_front m rooms here (x ∷ xs) ys (inl h) = inl h
+in_hand_front m rooms here (x ∷ xs) ys (inr (inl h)) = inr (inl h)
+in_hand_front m rooms here (x ∷ xs) ys (inr (inr h)) = inr (inr (in_hand_front m (m.next rooms x.ask x.outcome) here xs ys h))
+
+in_hand_behind : (m : Manner) (rooms here : List Room) (xs ys : List Call) → IsInHand m (after m rooms xs) ys here → IsInHand m rooms (xs ++ ys) here
+in_hand_behind m rooms here [] ys h = h
+in_hand_behind m rooms here (x ∷ xs) ys h = inr (inr (in_hand_behind m (m.next rooms x.ask x.outcome) here xs ys h))
+
+-- one ask
+in_hand_once : (m : Manner) (gives : List Room → List ℕ → Type 0) (rooms : List Room) (call : Call) (old new : Log) → LeavesAll gives (IsOneOf rooms (m.next rooms call.ask Given)) old new → LeavesAll gives (IsInHand m rooms (call ∷ [])) old new
+in_hand_once m gives rooms call old new e =
+    leaves_all_map gives gives (IsOneOf rooms (m.next rooms call.ask Given)) (IsInHand m rooms (call ∷ [])) old new
+    (λ x bytes one g. (x, ⊎_elim (λ same. inl same) (λ other. inr (inl other)) one, g)) e
+
+-- some asks, and then more
+in_hand_then : (m n : Manner) (gives tells : List Room → List ℕ → Type 0) (rooms mid : List Room) (xs ys : List Call) (old between new : Log) → n ≡ m → mid ≡ after m rooms xs
+    → ((r : List Room) (bytes : List ℕ) → tells r bytes → gives r bytes) → LeavesAll gives (IsInHand m rooms xs) old between → LeavesAll tells (IsInHand n mid ys) between new → LeavesAll gives (IsInHand m rooms (xs ++ ys)) old new
+in_hand_then m n gives tells rooms mid xs ys old between new same at f first second =
+    leaves_all_then gives (IsInHand m rooms (xs ++ ys)) old between new
+    (leaves_all_map gives gives (IsInHand m rooms xs) (IsInHand m rooms (xs ++ ys)) old between (λ x bytes h g. (x, in_hand_front m rooms x xs ys h, g)) first)
+    (leaves_all_map tells gives (IsInHand n mid ys) (IsInHand m rooms (xs ++ ys)) between new
+    (λ x bytes h g. (x, in_hand_behind m rooms x xs ys (subst (λ (r : List Room). IsInHand m r ys x) at (subst (λ (k : Manner). IsInHand k mid ys x) same h)), f x bytes g)) second)
+
 same_holds : (P : Type 0) → P ↔ P
 same_holds P = (λ p. p, λ p. p)
 
@@ -75,6 +104,7 @@ endures_none w x d s = record {
   passed = λ t k h. gained_none _ (s.logs k) (s.logs k) refl;
   stays_within = λ t k h. h;
   stays_exact = λ n t k h. h;
+  in_hand = λ t k h. leaves_all_none (GivesRooms x k) (IsInHand d.manner d.rooms []) (s.logs k) (s.logs k) refl;
   others = λ t k no. refl;
   more = omega arith;
   later = omega arith;
@@ -122,6 +152,9 @@ endures_then w w' w'' x x' x'' a b c s t u f g =
           let first : faults_in b.outcomes ≡ faults_in a.outcomes = omega (arith, same, fewer, few) in
           let second : faults_in c.outcomes ≡ faults_in b.outcomes = omega (arith, same, fewer, few) in
           g.stays_exact second (rw f.told h) k (f.stays_exact first h k e);
+      in_hand = λ h k e.
+          in_hand_then a.manner b.manner (GivesRooms x k) (GivesRooms x' k) a.rooms b.rooms f.asked.calls g.asked.calls (s.logs k) (t.logs k) (u.logs k) f.manner f.asked.rooms_are
+          (λ r bytes y. (f.exact_stays r k (settled bytes)).0 y) (f.in_hand h k e) (g.in_hand (rw f.told h) k (f.stays_within h k e));
       others = λ h k no. g.others (rw f.told h) k (λ r st y. no r st ((f.within_stays r k st).0 y)) ∙ f.others h k no;
       more = omega (arith, fewer, few);
       later = omega (arith, f.later, g.later);
@@ -161,6 +194,7 @@ pub record OneAnswer (ask : Ask) (reply : Reply) (w w' x x' : List Room → ℕ 
   pub passed : IsTrue s.told → (log : ℕ) → w a.rooms log (s.logs log).state → Gained (λ state. w a.rooms log state ⊎ w b.rooms log state) (s.logs log) (t.logs log)
   pub within : IsTrue s.told → (log : ℕ) → w a.rooms log (s.logs log).state → w' b.rooms log (t.logs log).state
   pub exact : b.outcomes ≢ a.outcomes ++ JournalFault ∷ [] → IsTrue s.told → (log : ℕ) → x a.rooms log (s.logs log).state → x' b.rooms log (t.logs log).state
+  pub in_hand : IsTrue s.told → (log : ℕ) → w a.rooms log (s.logs log).state → LeavesAll (GivesRooms x log) (IsOneOf a.rooms (a.manner.next a.rooms ask Given)) (s.logs log) (t.logs log)
   pub others : ForeignStay w s t
 
 one_more : (o : Outcome) (xs ys : List Outcome) (m n : ℕ) → ys ≡ xs ++ o ∷ [] → n + 1 ≡ m → n + length ys ≡ m + length xs
@@ -191,6 +225,9 @@ endures_answer ask reply w w' x x' a b s t one = by (is_or_not one.answered.outc
         side k st (inl y) = record { here = a.rooms; from = reaches_none a.manner a.rooms; to = way; there = y }
         side k st (inr y) = record { here = b.rooms; from = way; to = reaches_none a.manner b.rooms; there = y }
 
+    held : IsTrue s.told → (log : ℕ) → w a.rooms log (s.logs log).state → LeavesAll (GivesRooms x log) (IsInHand a.manner a.rooms (call ∷ [])) (s.logs log) (t.logs log)
+    held h k e = in_hand_once a.manner (GivesRooms x k) a.rooms call (s.logs k) (t.logs k) (one.in_hand h k e)
+
     by : ((out ≡ JournalFault) ⊎ (out ≢ JournalFault)) → Endures w w' x x' a b s t
     by (inl is) =
         let c : faults_in b.outcomes ≡ faults_in a.outcomes + 1 = count ∙ ap (λ (z : Outcome). faults_in a.outcomes + faults_in (z ∷ [])) is in
@@ -207,6 +244,7 @@ endures_answer ask reply w w' x x' a b s t one = by (is_or_not one.answered.outc
           passed = gone;
           stays_within = one.within;
           stays_exact = λ same. absurd (omega (arith, same, c));
+          in_hand = held;
           others = one.others;
           more = omega (arith, c);
           later = one.answered.later;
@@ -228,6 +266,7 @@ endures_answer ask reply w w' x x' a b s t one = by (is_or_not one.answered.outc
           passed = gone;
           stays_within = one.within;
           stays_exact = λ e. one.exact (not_fault out a.outcomes b.outcomes other one.answered.added);
+          in_hand = held;
           others = one.others;
           more = omega (arith, c);
           later = one.answered.later;
@@ -261,6 +300,7 @@ endures_miss w w' x x' a b s one ws xs =
       passed = λ h k e. gained_none _ (s.logs k) (s.logs k) refl;
       stays_within = λ h k e. rw one.rooms ((ws a.rooms k (s.logs k).state).1 e);
       stays_exact = λ n h k e. rw one.rooms ((xs a.rooms k (s.logs k).state).1 e);
+      in_hand = λ h k e. leaves_all_none (GivesRooms x k) (IsInHand a.manner a.rooms []) (s.logs k) (s.logs k) refl;
       others = λ h k no. refl;
       more = omega (arith, c);
       later = omega arith;

@@ -9,3 +9,4 @@ pub mod Meetings
 pub mod Standing
 pub mod Enduring
 pub mod Likeness
+pub mod Closings

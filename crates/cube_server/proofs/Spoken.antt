@@ -46,7 +46,7 @@ sound_open_by c a b (Heard (Came d bytes)) f = f
 sound_open_by c a b (Heard (Closed d)) f = where_either (d == c) a b false f
 sound_open_by c a b (Heard End) f = f
 sound_open_by c a b (Sent d bytes) f = f
-sound_open_by c a b (Torn d bytes) f = where_torn (d == c) a b f
+sound_open_by c a b (Torn d bytes size) f = where_torn (d == c) a b f
 sound_open_by c a b (Shut d) f = where_either (d == c) a b false f
 
 pub sound_open : (c : ℕ) (a b : Bool) (log : List LogEntry) → Implies a b → Implies (sound_after c a log) (open_after c b log)
@@ -54,8 +54,8 @@ sound_open c a b [] f = f
 sound_open c a b (e ∷ log) f = sound_open c (sound_by c a e) (open_by c b e) log (sound_open_by c a b e f)
 
 -- behind a send that failed the connection is open
-pub still_open : (c : ℕ) (said : List ℕ) (log log' : List LogEntry) → IsSound c log → log' ≡ log ++ Torn c said ∷ [] → IsOpen c log'
-still_open c said log log' o e = rw (e, open_more c false log (Torn c said ∷ [])) (sound_open c false false log (λ f. f) o)
+pub still_open : (c : ℕ) (said : List ℕ) (size : ℕ) (log log' : List LogEntry) → IsSound c log → log' ≡ log ++ Torn c said size ∷ [] → IsOpen c log'
+still_open c said size log log' o e = rw (e, open_more c false log (Torn c said size ∷ [])) (sound_open c false false log (λ f. f) o)
 
 pub all_spoken : (c : ℕ) (piece : List ℕ) (log log' : List LogEntry) → log' ≡ log ++ Sent c piece ∷ [] → Speaks c (spoken c piece) log log' true
 all_spoken c piece log log' e = rw e (record {
@@ -69,11 +69,11 @@ all_spoken c piece log log' e = rw e (record {
   runs = λ k left. refl;
 })
 
-pub some_spoken : (c : ℕ) (piece said unsaid : List ℕ) (log mid log' : List LogEntry) → piece ≡ said ++ unsaid → mid ≡ log ++ Torn c said ∷ [] → log' ≡ mid ++ Shut c ∷ [] → Speaks c (spoken c piece) log log' false
+pub some_spoken : (c : ℕ) (piece said unsaid : List ℕ) (log mid log' : List LogEntry) → piece ≡ said ++ unsaid → mid ≡ log ++ Torn c said (length piece) ∷ [] → log' ≡ mid ++ Shut c ∷ [] → Speaks c (spoken c piece) log log' false
 some_spoken c piece said unsaid log mid log' split torn shut =
-    let whole : log' ≡ log ++ Torn c said ∷ Shut c ∷ [] = shut ∙ ap (λ (l : List LogEntry). l ++ Shut c ∷ []) torn ∙ append_assoc log (Torn c said ∷ []) (Shut c ∷ []) in
+    let whole : log' ≡ log ++ Torn c said (length piece) ∷ Shut c ∷ [] = shut ∙ ap (λ (l : List LogEntry). l ++ Shut c ∷ []) torn ∙ append_assoc log (Torn c said (length piece) ∷ []) (Shut c ∷ []) in
     let front : take (length said) piece ≡ said = ap (take (length said)) split ∙ take-append_seam said unsaid in
-    let more = Torn c said ∷ Shut c ∷ [] in
+    let more = Torn c said (length piece) ∷ Shut c ∷ [] in
     rw whole (record {
       talks = record {
         quiet = events_more log more ∙ append-nil (events_in log);
@@ -82,7 +82,7 @@ some_spoken c piece said unsaid log mid log' split torn shut =
       };
       sends = Some (length said) ∷ [];
       shown = sends_more log more;
-      runs = λ k left. rw (front, append_assoc log (Torn c said ∷ []) (Shut c ∷ [])) refl;
+      runs = λ k left. rw (front, append_assoc log (Torn c said (length piece) ∷ []) (Shut c ∷ [])) refl;
     })
 
 -- a step that does nothing

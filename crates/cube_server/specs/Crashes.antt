@@ -1,10 +1,10 @@
 -- What a crash may leave of the logs of a store, while a desk is asked.
-use Rattle.std.specs.Prelude.{◌≡◌, ◌≢◌, ◌↔◌, ⊤, ℕ, ◌+◌, ◌-◌, ◌≤◌, Bool, true, false, IsTrue, List, [], ◌∷◌, ◌++◌, length, map, filter}
+use Rattle.std.specs.Prelude.{◌≡◌, ◌≢◌, ◌⊎◌, ◌↔◌, ⊤, ℕ, ◌+◌, ◌-◌, ◌≤◌, Bool, true, false, IsTrue, List, [], ◌∷◌, ◌++◌, length, map, filter}
 use Rattle.cube_model.specs.declared.outcome.Outcome.{Outcome}
 use Rattle.cube_model.specs.declared.outcome.Outcome.TheVariants.{Given, JournalFault, NoMemory}
 use Rattle.cube_model.specs.Rooms.{Room}
 use Rattle.cube_io.specs.Causes.{RoseBy}
-use Rattle.cube_io.specs.Desks.{Manner, ForeignStay, faults_in}
+use Rattle.cube_io.specs.Desks.{Manner, ForeignStay, GivesRooms, LeavesAll, faults_in}
 use Rattle.cube_io.specs.Seen.{StoreState}
 use Rattle.cube_io.specs.States.{State, Gained}
 use Rattle.cube_server.specs.Logs.{Call}
@@ -31,6 +31,11 @@ abbrev pub FailedFresh : Manner → List Room → List Call → Type 0
 FailedFresh m rooms [] = ⊤
 FailedFresh m rooms (c ∷ calls) = (c.outcome ≡ JournalFault → m.next rooms c.ask Given ≢ rooms) × FailedFresh m (m.next rooms c.ask c.outcome) calls
 
+-- The rooms are those behind some of the asks, from the first on, or these with the request of the ask in hand, which comes next.
+abbrev pub IsInHand : Manner → List Room → List Call → List Room → Type 0
+IsInHand m rooms [] here = here ≡ rooms
+IsInHand m rooms (c ∷ calls) here = (here ≡ rooms) ⊎ ((here ≡ m.next rooms c.ask Given) ⊎ IsInHand m (m.next rooms c.ask c.outcome) calls here)
+
 -- an ask found memory
 abbrev pub found_memory : Outcome → Bool
 found_memory Given = true
@@ -49,9 +54,10 @@ pub record Called (old new : DeskState) : Type 0 where
 
 -- What asks do to a desk and to a store. The desk's manner stays, and each ask takes room for one and leaves one outcome. The store
 -- tells what it told and was asked for no name. Where `within` held of the rooms at entry, it holds at each state that a log gains of the
--- rooms that some of the asks leave, and at exit of the last rooms. Where `exact` held and the journal failed in no ask, it holds at
--- exit. The count of the store's faults rose by one or more for each ask in which the journal failed, and stayed where it failed in none.
--- Logs that keep no room's history stayed.
+-- rooms that some of the asks leave, and at exit of the last rooms. Beyond what a crash could leave before, it leaves the history of such
+-- rooms, or that with the request of the ask in hand. Where `exact` held and the journal failed in no ask, it holds at exit. The count
+-- of the store's faults rose by one or more for each ask in which the journal failed, and stayed where it failed in none. Logs that keep
+-- no room's history stayed.
 pub record Endures (within within' exact exact' : List Room → ℕ → State → Type 0) (old new : DeskState) (store store' : StoreState) : Type 0 where
   pub manner : new.manner ≡ old.manner
   pub counted : new.room + length new.outcomes ≡ old.room + length old.outcomes
@@ -66,6 +72,8 @@ pub record Endures (within within' exact exact' : List Room → ℕ → State �
   pub stays_within : IsTrue store.told → (log : ℕ) → within old.rooms log (store.logs log).state → within' new.rooms log (store'.logs log).state
   pub stays_exact : faults_in new.outcomes ≡ faults_in old.outcomes → IsTrue store.told → (log : ℕ) → exact old.rooms log (store.logs log).state
       → exact' new.rooms log (store'.logs log).state
+  pub in_hand : IsTrue store.told → (log : ℕ) → within old.rooms log (store.logs log).state
+      → LeavesAll (GivesRooms exact log) (IsInHand old.manner old.rooms asked.calls) (store.logs log) (store'.logs log)
   pub others : ForeignStay within store store'
   pub more : faults_in old.outcomes ≤ faults_in new.outcomes
   pub later : store.faults ≤ store'.faults

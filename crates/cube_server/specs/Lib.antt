@@ -5,4 +5,5 @@ pub mod Ears
 pub mod Pools
 pub mod Crashes
 pub mod Alike
+pub mod Closings
 pub mod Steps

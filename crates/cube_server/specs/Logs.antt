@@ -63,11 +63,11 @@ noted e k = record k { log = k.log ++ e ∷ [] }
 
 -- ---- sends
 
--- one send: a failed one closes its connection
+-- one send: a failed one closes its connection, and says how long the piece was
 abbrev pub spoken_by : List (Option ℕ) → ℕ → List ℕ → Course → Turn
 spoken_by [] c bytes k = record { course = noted (Sent c bytes) k; live = true }
 spoken_by (None ∷ sends) c bytes k = record { course = noted (Sent c bytes) (record k { sends = sends }); live = true }
-spoken_by (Some n ∷ sends) c bytes k = record { course = noted (Shut c) (noted (Torn c (take n bytes)) (record k { sends = sends })); live = false }
+spoken_by (Some n ∷ sends) c bytes k = record { course = noted (Shut c) (noted (Torn c (take n bytes) (length bytes)) (record k { sends = sends })); live = false }
 
 abbrev pub spoken : ℕ → List ℕ → Turn → Turn
 spoken c bytes t = if t.live then spoken_by t.course.sends c bytes t.course else t

@@ -42,7 +42,7 @@ text_of question.Shape = []
 abbrev pub is_out : LogEntry → Option LogEntry
 is_out (Heard e) = None
 is_out (Sent c bytes) = Some (Sent c bytes)
-is_out (Torn c bytes) = Some (Torn c bytes)
+is_out (Torn c bytes size) = Some (Torn c bytes size)
 is_out (Shut c) = Some (Shut c)
 
 -- what goes out and is closed, over no room

@@ -33,7 +33,7 @@ IsPhrased m = (rooms : List Room) (ask : Ask) (o : Outcome) → IsTrue (has_phra
 abbrev pub send_of : LogEntry → Option (Option ℕ)
 send_of (Heard e) = None
 send_of (Sent c bytes) = Some None
-send_of (Torn c bytes) = Some (Some (length bytes))
+send_of (Torn c bytes size) = Some (Some (length bytes))
 send_of (Shut c) = None
 
 abbrev pub sends_in : List LogEntry → List (Option ℕ)

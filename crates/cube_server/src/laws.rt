@@ -5,6 +5,7 @@ ghost use Rattle.cube_model.specs.declared.reply.Fixed.TheVariants as fixed;
 ghost use Rattle.cube_io.specs.Wires.Arrival.{Opened, Came, End};
 ghost use Rattle.cube_io.specs.Wires.LogEntry.{Sent, Torn, Shut};
 ghost use Rattle.cube_server.specs.Alike.{LogsAreAlike};
+ghost use Rattle.cube_server.specs.Closings.{FailsLast};
 ghost use Rattle.cube_server.specs.Rows.{played, texts, get, ok_head, ample, mixed_events, refused_events, anew_events, refused_with};
 
 /// What goes out, and what is asked.
@@ -16,7 +17,7 @@ pub fn worked_logs()
         ≡ codes "b" ∷ codes "a" ∷ codes "c" ∷ [] }
     // The send of a body fails after no byte: the connection is closed, and its later pieces are dropped.
     ensures torn { played (Opened 1 ∷ Came 1 (get (codes "a")) ∷ Came 1 (get (codes "b")) ∷ End ∷ []) (ample (Given ∷ []) (None ∷ Some 0 ∷ []) [])
-        ≡ Sent 1 (ok_head 49) ∷ Torn 1 [] ∷ Shut 1 ∷ [] }
+        ≡ Sent 1 (ok_head 49) ∷ Torn 1 [] 1 ∷ Shut 1 ∷ [] }
     // The stated number of asks is used up.
     ensures spent { played (Opened 1 ∷ Came 1 (get (codes "a") ++ get (codes "b")) ∷ End ∷ []) (record { asks = 1; events = 99; outcomes = Given ∷ Given ∷ []; sends = []; starved = [] })
         ≡ Sent 1 (ok_head 49) ∷ Sent 1 (codes "a") ∷ [] }
@@ -31,4 +32,9 @@ pub fn worked_logs()
 /// Where each reply is the same over other rooms, the log is the same, and so are the asks.
 pub fn logs_are_alike()
     ensures { LogsAreAlike }
+{}
+
+/// Behind a send that failed its connection is closed, and nothing more goes out before an event comes.
+pub fn failed_sends_are_closed()
+    ensures { FailsLast }
 {}

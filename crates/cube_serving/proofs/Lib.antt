@@ -4,6 +4,7 @@ pub mod Turning
 pub mod Adding
 pub mod Started
 pub mod Sealing
+pub mod Held
 pub mod Phrases
 pub mod Wired
 pub mod Played

@@ -16,19 +16,21 @@ use Rattle.cube_io.specs.Content.{AppendsPrefix}
 use Rattle.cube_io.specs.Seen.{SinkState, Seen}
 use Rattle.cube_io.specs.Wires.{Arrival, LogEntry, events_in, render}
 use Rattle.cube_io.specs.Wires.Arrival.{Opened, Came, Closed, End}
+use Rattle.cube_io.specs.Wires.LogEntry.{Torn}
 use Rattle.cube_io.specs.Files.{max_file}
 use Rattle.cube_opening.specs.Opening.{fault_text, faulted, unless_long}
 use Rattle.cube_opening.specs.declared.report.Report.{Report}
-use Rattle.cube_script.specs.Playing.{Playing, IsPlaying, starting, started, has_torn}
+use Rattle.cube_script.specs.Playing.{Playing, IsPlaying, Overran, starting, started, has_torn}
 use Rattle.cube_script.specs.Scripts.{connection_of, bytes_of, came_of, event_of, words, lines, with_event, events_of, script_of}
 use Rattle.cube_script.specs.declared.script_wire.SendRoom.{SendRoom}
 use Rattle.cube_script.specs.declared.play.ScriptFault.TheVariants.{Line, NoMemory}
 use Rattle.cube_server.specs.Seen.{DeskState}
-use Rattle.cube_server.specs.Steps.{has_end, is_end}
+use Rattle.cube_server.specs.Steps.{Serves, has_end, is_end, luck_of, sends_in, stated_at}
 use Rattle.cube_server.specs.declared.serving.ServeFault.{ServeFault}
 use Rattle.cube_server.specs.declared.serving.ServeFault.TheVariants.{WireFailed, Spent}
+use Rattle.cube_server.proofs.Closings.{fails_last, closed_last}
 use Rattle.cube_serving.specs.Serving.{Ends}
-use Rattle.cube_serving.specs.Replaying.{script_said, played_status, played_text, Writes}
+use Rattle.cube_serving.specs.Replaying.{EndsOverrun, script_said, played_status, played_text, Writes}
 
 -- ---- what a script says
 
@@ -183,6 +185,20 @@ unfailed w events end playing is quiet failed none sound e =
     let less = whole_ends events w.log begun.0 (sym is ∙ begun.1) (subst (λ x. OnErr x (has_end w.log ≡ false)) e none) in
     let zero = playing.steady sound quiet (subst (λ (es : List Arrival). length (events_in w.log) < length es) (sym is) less) in
     omega (arith, failed e, zero)
+
+-- why a send failed: where no event came behind it, it is the last but for the close
+pub overran : (w : Playing) (old new : DeskState) (events : ℕ) (room : SendRoom) → IsPlaying w → w.most ≡ room → Serves old new events w.log → has_torn w.log ≡ true → EndsOverrun room w.log
+overran w old new events room playing is served some =
+    let o : Overran room w.log = subst (λ (most : SendRoom). Overran most w.log) is (playing.cause some) in
+    let (more, shut, waits) = fails_last old.manner old.rooms (events_in w.log) (luck_of (stated_at old events) served.outcomes (sends_in w.log) served.starved) o.before o.behind o.conn [] o.size (sym served.told ∙ o.whole) in
+    record {
+      before = o.before;
+      conn = o.conn;
+      size = o.size;
+      whole = o.whole ∙ ap (λ (l : List LogEntry). o.before ++ Torn o.conn [] o.size ∷ l) (closed_last o.conn o.behind more shut waits o.unheard);
+      only = o.first;
+      passes = o.passes;
+    }
 
 -- ---- what is written
 

@@ -1,5 +1,5 @@
 -- An ask over books: one of them answers it, or none has the name.
-use Rattle.std.proofs.Common.{◌≡◌, ◌≢◌, ◌⊎◌, inl, ℕ, true, false, cond, List, [], ◌∷◌, ◌++◌, get_or, refl, sym, ap, ap₂, subst, ◌∙◌, eqb, eqb-true, eq-eqb, Some, None, IsTrue, arith}
+use Rattle.std.proofs.Common.{◌≡◌, ◌≢◌, ◌⊎◌, inl, inr, ⊎_elim, ℕ, true, false, cond, List, [], ◌∷◌, ◌++◌, get_or, refl, sym, ap, ap₂, subst, ◌∙◌, eqb, eqb-true, eq-eqb, Some, None, IsTrue, arith}
 use Rattle.std.specs.List.{position}
 use Rattle.std.specs.Prelude.{slice_set}
 use Rattle.std.proofs.lemmas.Bool.{false≢true}
@@ -18,13 +18,16 @@ use Rattle.cube_model.specs.Rooms.{Room, aim, room_of, reply_by_room, next_room,
 use Rattle.cube_model.specs.Runs.{reply_by, next_by}
 use Rattle.cube_model.proofs.Members.{tested}
 use Rattle.cube_io.specs.Seen.{StoreState}
-use Rattle.cube_io.specs.States.{State, Log, Gained}
+use Rattle.cube_io.specs.States.{State, Log, Gained, settled}
 use Rattle.cube_io.specs.Told.{Works, OthersStay}
+use Rattle.cube_io.specs.Desks.{GivesRooms, LeavesAll, IsOneOf}
+use Rattle.cube_io.proofs.Hands.{leaves_all_map, leaves_all_none}
 use Rattle.cube_io.proofs.Trails.{gained_none, gained_map}
-use Rattle.cube_engine.specs.Books.{Book, book_reply, book_history, StaysExact}
-use Rattle.cube_engine.specs.Kept.{IsKept, IsExact, IsWithin}
+use Rattle.cube_engine.specs.Books.{Book, book_reply, book_history, StaysExact, KeepsInHand, IsRenewed}
+use Rattle.cube_engine.specs.Kept.{IsKept, GivesHistory, IsExact, IsWithin}
 use Rattle.cube_engine.specs.Prepared.{SettleCause}
 use Rattle.cube_engine.specs.Steps.{by_words, call, manner}
+use Rattle.cube_serving.proofs.Held.{settled_gives}
 use Rattle.cube_serving.specs.NamedBooks.{room, rooms_of, dims_of, is_named, IsKeptIn, AreInOrder, place, places_of, HoldsAt, IsTurn}
 use Rattle.cube_serving.specs.declared.named.NamedBook.{NamedBook}
 use Rattle.cube_serving.proofs.Lists.{head_alike, tail_alike}
@@ -52,6 +55,12 @@ module _ (g : NamedBook) (back : List NamedBook) where
   seam : (front : List NamedBook) → rooms_of (front ++ g ∷ back) ≡ rooms_of front ++ room g ∷ rooms_of back
   seam [] = refl
   seam (x ∷ front) = ap (λ rs. room x ∷ rs) (seam front)
+
+  -- bytes that give it a history back give that of its room back
+  own_gives : (h : List Entry) (bytes : List ℕ) → GivesHistory g.book.core g.book.policy h bytes → (front : List NamedBook)
+      → HoldsAt IsExact (places_of (front ++ g ∷ back)) (rooms_of front ++ as_room g h ∷ rooms_of back) g.book.journal.log (settled bytes)
+  own_gives h bytes r [] = inl (refl, settled_gives g.book.core g.book.policy h bytes r)
+  own_gives h bytes r (x ∷ front) = inr (own_gives h bytes r front)
 
   own_history : (front : List NamedBook) (r q : Room) → rooms_of front ++ r ∷ rooms_of back ≡ rooms_of front ++ q ∷ rooms_of back → r.history ≡ q.history
   own_history [] r q e = ap (λ (z : Room). z.history) (head_alike e)
@@ -87,6 +96,8 @@ pub record IsAnswer (b c : Book) (q : Question) (reply : Reply) (o : Outcome) (s
   pub exact : o ≢ JournalFault → StaysExact b c.history st st'
   pub within : IsTrue st.told → IsWithin b.core b.policy c.history (st'.logs b.journal.log).state
   pub crash : IsTrue st.told → Gained (IsWithin b.core b.policy b.history) (st.logs b.journal.log) (st'.logs b.journal.log)
+  pub in_hand : IsTrue st.told → KeepsInHand b (book_history Given b q) (st.logs b.journal.log) (st'.logs b.journal.log)
+  pub renewed : o ≢ JournalFault → IsTrue st.told → IsRenewed b c.history (st.logs b.journal.log) (st'.logs b.journal.log)
 
 -- at this state a crash leaves nothing
 abbrev nowhere : State
@@ -103,6 +114,10 @@ module _ (front back : List NamedBook) (g h : NamedBook) (a : Ask) (reply : Repl
 
   abbrev new : List NamedBook
   new = front ++ h ∷ back
+
+  -- the rooms behind the ask, where it gets its answer
+  abbrev with_ask : List Room
+  with_ask = (manner (dims_of old)).next (rooms_of old) a Given
 
   alike : g.book.core.dims ≡ dims_of old
   alike = each_here (λ x. x.book.core.dims ≡ dims_of old) g front back order.alike
@@ -127,6 +142,24 @@ module _ (front back : List NamedBook) (g h : NamedBook) (a : Ask) (reply : Repl
   entering e =
       ap (λ (s : Dims). next_by (by_words s) Given a.question (shown g.book.core g.book.policy) g.book.history) alike
       ∙ own_history g back front (as_room g (then (dims_of old) a g back here Given)) (room g) (sym (moves (dims_of old) a g back here Given behind front before) ∙ e ∙ seam g back front)
+
+  -- bytes that give the book a history back give the rooms back that have it
+  in_room : (x : List Entry) (bytes : List ℕ) → GivesHistory g.book.core g.book.policy x bytes → IsOneOf g.book.history (book_history Given g.book a.question) x
+      → (rs : List Room) × IsOneOf (rooms_of old) with_ask rs × GivesRooms (HoldsAt IsExact (places_of old)) g.book.journal.log rs bytes
+  in_room x bytes gives (inl e) = (
+    rooms_of old,
+    inl refl,
+    subst (λ rs. HoldsAt IsExact (places_of old) rs g.book.journal.log (settled bytes)) (sym (seam g back front))
+        (own_gives g back g.book.history bytes (subst (λ (y : List Entry). GivesHistory g.book.core g.book.policy y bytes) e gives) front),
+  )
+  in_room x bytes gives (inr e) = (
+    with_ask,
+    inr refl,
+    subst (λ rs. HoldsAt IsExact (places_of old) rs g.book.journal.log (settled bytes)) (sym (moves (dims_of old) a g back here Given behind front before))
+        (own_gives g back (then (dims_of old) a g back here Given) bytes
+        (subst (λ (s : Dims). GivesHistory g.book.core g.book.policy (next_by (by_words s) Given a.question (shown g.book.core g.book.policy) g.book.history) bytes) alike
+        (subst (λ (y : List Entry). GivesHistory g.book.core g.book.policy y bytes) e gives)) front),
+  )
 
   new_room : room h ≡ as_room g h.book.history
   new_room =
@@ -187,6 +220,18 @@ module _ (front back : List NamedBook) (g h : NamedBook) (a : Ask) (reply : Repl
         (subst (λ (n : ℕ). HoldsAt IsExact (places_of old) (rooms_of old) n (st.logs n).state) e holds))))))
         (λ n. other_holds IsExact g h front back log (st'.logs log).state n f.log
         (subst (λ (l : Log). HoldsAt IsExact (places_of old) (rooms_of old) log l.state) (sym (f.others told log n)) holds));
+    in_hand = λ told log holds. decide log g.book.journal.log
+        (λ e. subst (λ (n : ℕ). LeavesAll (GivesRooms (HoldsAt IsExact (places_of old)) n) (IsOneOf (rooms_of old) with_ask) (st.logs n) (st'.logs n)) (sym e)
+        (leaves_all_map (GivesHistory g.book.core g.book.policy) (GivesRooms (HoldsAt IsExact (places_of old)) g.book.journal.log) (IsOneOf g.book.history (book_history Given g.book a.question)) (IsOneOf (rooms_of old) with_ask)
+        (st.logs g.book.journal.log) (st'.logs g.book.journal.log) (λ x bytes one gives. in_room x bytes gives one) (f.in_hand told)))
+        (λ n. leaves_all_none (GivesRooms (HoldsAt IsExact (places_of old)) log) (IsOneOf (rooms_of old) with_ask) (st.logs log) (st'.logs log) (f.others told log n));
+    renewed = λ fine told log holds. decide log g.book.journal.log
+        (λ e. ⊎_elim
+        (λ same. inl (subst (λ (n : ℕ). st'.logs n ≡ st.logs n) (sym e) same))
+        (λ exact. inr (subst (λ (n : ℕ). HoldsAt IsExact (places_of new) (rooms_of new) n (st'.logs n).state) (f.log ∙ sym e)
+        (own_holds IsExact h front back (st'.logs h.book.journal.log).state (to_new IsExact exact))))
+        (f.renewed fine told))
+        (λ n. inl (f.others told log n));
   }
 
 -- the same of a list with the book at a place
@@ -229,4 +274,6 @@ missed_turn gs a reply o st order none attached fine replied kept =
       passed = λ told log holds. gained_none (λ s. HoldsAt IsWithin (places_of gs) (rooms_of gs) log s ⊎ HoldsAt IsWithin (places_of gs) (rooms_of gs) log s) (st.logs log) (st.logs log) refl;
       within = λ told log holds. holds;
       exact = λ e told log holds. holds;
+      in_hand = λ told log holds. leaves_all_none (GivesRooms (HoldsAt IsExact (places_of gs)) log) (IsOneOf (rooms_of gs) ((manner (dims_of gs)).next (rooms_of gs) a Given)) (st.logs log) (st.logs log) refl;
+      renewed = λ e told log holds. inl refl;
     }

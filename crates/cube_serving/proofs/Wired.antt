@@ -21,7 +21,7 @@ use Rattle.cube_io.specs.States.{Gained}
 use Rattle.cube_io.specs.Wires.{LogEntry, Arrival, events_in}
 use Rattle.cube_io.specs.Wires.Arrival.{End}
 use Rattle.cube_io.specs.Causes.{RoseBy}
-use Rattle.cube_io.specs.Desks.{Manner, faults_in}
+use Rattle.cube_io.specs.Desks.{Manner, GivesRooms, faults_in}
 use Rattle.cube_io.proofs.Trails.{gained_then, gained_map}
 use Rattle.cube_journal.specs.Keeping.{IsInRecovery}
 use Rattle.cube_engine.specs.Engines.{Engine, rooms_of}
@@ -30,7 +30,7 @@ use Rattle.cube_engine.specs.Steps.{manner}
 use Rattle.cube_engine.specs.Worlds.{first_history}
 use Rattle.cube_engine.proofs.Worlds.{Reads, texts_read, room_open, other_sum, behind_ask, next_alone, ask_grows, ask_stays}
 use Rattle.cube_server.specs.Alike.{SameReplies}
-use Rattle.cube_server.specs.Crashes.{after, Reaches, OnTheWay, Called, Endures}
+use Rattle.cube_server.specs.Crashes.{after, Reaches, OnTheWay, IsInHand, Called, Endures}
 use Rattle.cube_server.specs.Logs.{Call, Luck, calls_of, end_of}
 use Rattle.cube_server.specs.Seen.{DeskState}
 use Rattle.cube_server.specs.Steps.{Serves, IsCounted, has_end, sends_in, luck_of, stated_at}
@@ -39,8 +39,9 @@ use Rattle.cube_server.specs.declared.serving.ServeFault.TheVariants.{WireFailed
 use Rattle.cube_server.proofs.Likeness.{logs_are_alike}
 use Rattle.cube_talk.specs.Talk.{max_input}
 use Rattle.cube_opening.specs.declared.cube_files.CubeFiles.{CubeFiles}
-use Rattle.cube_serving.specs.Serving.{Asking, asking, desk_before, desk_behind, Tells, Ends, Wired, Served}
-use Rattle.cube_serving.specs.Starting.{IsBetween, IsOpen, Survived}
+use Rattle.cube_serving.specs.Serving.{Asking, asking, desk_before, desk_behind, Tells, Ends, Wired, IsInTurn, Served}
+use Rattle.cube_serving.specs.Starting.{IsBetween, IsOpen, Survived, HeldIn}
+use Rattle.cube_serving.proofs.Held.{settled_leaves, held}
 use Rattle.cube_serving.proofs.Started.{exact_of, within_of, begun}
 
 -- ---- behind some asks
@@ -147,6 +148,11 @@ called core policy a outcomes behind unasked at same x =
       fresh = x.fresh;
     }
 
+pub called_calls : (core : Core) (policy : Policy) (a : Asking) (outcomes : List Outcome) (behind : DeskState) (unasked : outcomes ≡ []) (at : a.last ≡ first_history behind.rooms) (same : behind.outcomes ≡ a.outcomes)
+    (x : Called (record { manner = manner core.dims; rooms = alone (world core policy) a.first; room = a.stated; outcomes = outcomes }) behind) → (called core policy a outcomes behind unasked at same x).calls ≡ x.calls
+unfolding called
+called_calls core policy a outcomes behind unasked at same x = refl
+
 -- ---- how a serving ended
 
 pub ends : (end : Result (Unit {0}) ServeFault) (told : Bool) (old new : DeskState) (log : List LogEntry) → (IsTrue told → OnOk end ((es : List Arrival) × (events_in log ≡ es ++ End ∷ []) × (length es < max_input)))
@@ -206,6 +212,23 @@ kept {S} e last mid store zeroth unasked are exact opened v =
       exact = λ none. ((v.exact_stays (rooms_of last) 0 new.state).0 (v.stays_exact (none ∙ sym (ap faults_in unasked)) are 0 (sym zeroth, exact))).1;
     }
 
+-- ---- what is in hand meanwhile
+
+starts : (m : Manner) (rooms : List Room) (calls : List Call) → IsInHand m rooms calls rooms
+starts m rooms [] = refl
+starts m rooms (c ∷ calls) = inl refl
+
+pub held_calls : {S : Type 0} (e last : Engine) (mid : StoreState) (store : Seen StoreState S) → e.journal.log ≡ 0 → IsTrue mid.told → IsExact e.core e.policy e.history (mid.logs 0).state
+    → Gained (IsInRecovery (history_of e.core e.policy) (store.before.logs 0).state) (store.before.logs 0) (mid.logs 0) → (v : Lives e last mid store.after) → HeldIn 0 e.core e.policy (IsInTurn e.core e.policy e.history v.asked.calls) store
+held_calls {S} e last mid store zeroth are exact opened v =
+    let m = manner e.core.dims in
+    let rooms = alone (world e.core e.policy) e.history in
+    let around : within_of e (rooms_of e) 0 (mid.logs 0).state = (sym zeroth, λ b image. inl (exact b image)) in
+    held 0 e.core e.policy e.history (IsInTurn e.core e.policy e.history v.asked.calls) (GivesRooms (exact_of e) 0) (IsInHand m rooms v.asked.calls) mid store
+    (rooms, starts m rooms v.asked.calls, refl)
+    (λ r bytes i g. (first_history r, (r, i, refl), g.1 bytes (settled_leaves bytes)))
+    exact opened (v.in_hand are 0 around)
+
 -- ---- the whole
 
 -- an engine that was opened with a history leaves what its log kept
@@ -214,18 +237,29 @@ Keeps core policy e last mid store =
     IsTrue store.before.told → IsExact core policy e.history (mid.logs 0).state
     → (IsTrue store.before.told → Gained (IsInRecovery (history_of core policy) (store.before.logs 0).state) (store.before.logs 0) (mid.logs 0)) → Survived core policy e.history last.history last.outcomes store
 
+-- and what is in the hand of these asks meanwhile
+abbrev pub Holds : {S : Type 0} → Core → Policy → List Entry → List Call → StoreState → Seen StoreState S → Type 0
+Holds core policy first calls mid store =
+    IsTrue store.before.told → IsExact core policy first (mid.logs 0).state
+    → (IsTrue store.before.told → Gained (IsInRecovery (history_of core policy) (store.before.logs 0).state) (store.before.logs 0) (mid.logs 0)) → HeldIn 0 core policy (IsInTurn core policy first calls) store
+
 -- what is known of an engine that was opened and then served a wire, in one record
 pub served : {S : Type 0} (cube : CubeFiles) (files : FolderState) (mid : StoreState) (store : Seen StoreState S) (end : Result (Unit {0}) ServeFault) (told heard_told : Bool) (log : List LogEntry) (core : Core) (policy : Policy) (facts : List ℕ) (e last : Engine) (stated : ℕ)
     → IsOpen cube files store core policy facts e.history → e ≡ begun core policy e.history e.journal stated
     → (IsTrue store.before.told → IsExact core policy e.history (mid.logs 0).state) → (IsTrue store.before.told → Gained (IsInRecovery (history_of core policy) (store.before.logs 0).state) (store.before.logs 0) (mid.logs 0))
-    → heard_told ≡ told → Wired e.core e.policy (asking e last) end heard_told log → Keeps e.core e.policy e last mid store
+    → heard_told ≡ told → (w : Wired e.core e.policy (asking e last) end heard_told log) → Holds e.core e.policy e.history w.asked.calls mid store → Keeps e.core e.policy e last mid store
     → mid.faults ≡ store.before.faults → RoseBy (faults_in last.outcomes) mid.faults store.after.faults → Served cube files store (asking e last) end told log
-served {S} cube files mid store end told heard_told log core policy facts e last stated is_open is exact crash same_heard wired keeps steady failed = record {
+served {S} cube files mid store end told heard_told log core policy facts e last stated is_open is exact crash same_heard wired holds keeps steady failed = record {
   core = core;
   policy = policy;
   facts = facts;
   opened = is_open;
-  wired = subst (λ (b : Bool). Wired core policy (asking e last) end b log) same_heard (subst (λ (x : Engine). Wired x.core x.policy (asking e last) end heard_told log) is wired);
+  wired = both.0;
+  held = λ are. both.1 are (exact are) crash;
   survived = λ are. subst (λ (x : Engine). Keeps x.core x.policy e last mid store) is keeps are (exact are) crash;
   failed = subst (λ (n : ℕ). RoseBy (faults_in last.outcomes) n store.after.faults) steady failed;
 }
+  where
+    both : (w : Wired core policy (asking e last) end told log) × Holds core policy e.history w.asked.calls mid store
+    both = subst (λ (b : Bool). (w : Wired core policy (asking e last) end b log) × Holds core policy e.history w.asked.calls mid store) same_heard
+        (subst (λ (x : Engine). (w : Wired x.core x.policy (asking e last) end heard_told log) × Holds x.core x.policy e.history w.asked.calls mid store) is (wired, holds))

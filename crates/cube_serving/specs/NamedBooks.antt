@@ -11,7 +11,7 @@ use Rattle.cube_model.specs.Cores.{Core, world}
 use Rattle.cube_model.specs.Cubes.{Each}
 use Rattle.cube_model.specs.Dims.{Dims}
 use Rattle.cube_model.specs.Rooms.{Room, AreApart}
-use Rattle.cube_io.specs.Desks.{ForeignStay}
+use Rattle.cube_io.specs.Desks.{ForeignStay, GivesRooms, LeavesAll, IsOneOf}
 use Rattle.cube_io.specs.Seen.{StoreState}
 use Rattle.cube_io.specs.States.{State, Log, Gained}
 use Rattle.cube_io.specs.Told.{Works}
@@ -97,6 +97,10 @@ pub record IsTurn (old new : List NamedBook) (ask : Ask) (reply : Reply) (o : Ou
       → Gained (λ s. HoldsAt IsWithin (places_of old) (rooms_of old) log s ⊎ HoldsAt IsWithin (places_of old) (rooms_of new) log s) (store.logs log) (store'.logs log)
   pub within : IsTrue store.told → (log : ℕ) → HoldsAt IsWithin (places_of old) (rooms_of old) log (store.logs log).state → HoldsAt IsWithin (places_of new) (rooms_of new) log (store'.logs log).state
   pub exact : o ≢ JournalFault → IsTrue store.told → (log : ℕ) → HoldsAt IsExact (places_of old) (rooms_of old) log (store.logs log).state → HoldsAt IsExact (places_of new) (rooms_of new) log (store'.logs log).state
+  pub in_hand : IsTrue store.told → (log : ℕ) → HoldsAt IsWithin (places_of old) (rooms_of old) log (store.logs log).state
+      → LeavesAll (GivesRooms (HoldsAt IsExact (places_of old)) log) (IsOneOf (rooms_of old) ((manner (dims_of old)).next (rooms_of old) ask Given)) (store.logs log) (store'.logs log)
+  pub renewed : o ≢ JournalFault → IsTrue store.told → (log : ℕ) → HoldsAt IsWithin (places_of old) (rooms_of old) log (store.logs log).state
+      → (store'.logs log ≡ store.logs log) ⊎ HoldsAt IsExact (places_of new) (rooms_of new) log (store'.logs log).state
 
 -- The groups took the turn, and counted it.
 pub record IsCounted (old new : Groups) (ask : Ask) (reply : Reply) (store store' : StoreState) : Type 0 where

@@ -18,7 +18,7 @@ use Rattle.cube_script.specs.Playing.{Playing, IsPlaying, has_torn}
 use Rattle.cube_server.specs.declared.serving.ServeFault.{ServeFault}
 use Rattle.cube_server.specs.declared.serving.ServeFault.TheVariants.{WireFailed}
 use Rattle.cube_serving.specs.Grouping.{EndsClosedGroups, HaveJournals}
-use Rattle.cube_serving.specs.Replaying.{Writes, room_for_sends, script_said, wire_of}
+use Rattle.cube_serving.specs.Replaying.{EndsOverrun, Writes, room_for_sends, script_said, wire_of}
 use Rattle.cube_serving.specs.ServedGroups.{GroupsAsking, ServedGroups, UnservedGroups}
 
 -- the files make a core and groups, and the run ended at the script
@@ -43,6 +43,7 @@ pub record ReplayedGroups {F S O : Type 0} (cube : RuledFiles) (script_name : Li
   pub playing : IsPlaying wire
   pub served : ServedGroups cube (script_name ∷ []) files store asking end true wire.log
   pub whole : (u : Unit {0}) → end ≡ Ok u → events_in wire.log ≡ script ++ End ∷ []
+  pub cause : has_torn wire.log ≡ true → EndsOverrun room_for_sends wire.log
   pub unfailed : has_torn wire.log ≡ false → end ≢ Err WireFailed
   pub writes : Writes end wire.log out r
 

@@ -9,11 +9,12 @@ use Rattle.cube_io.specs.Content.{AppendsPrefix}
 use Rattle.cube_io.specs.Seen.{FolderState, SinkState, StoreState, Seen, Unused}
 use Rattle.cube_io.specs.Wires.{Arrival, LogEntry, events_in, render}
 use Rattle.cube_io.specs.Wires.Arrival.{End}
+use Rattle.cube_io.specs.Wires.LogEntry.{Torn, Shut}
 use Rattle.cube_opening.specs.Opening.{fault_text, faulted, unless_long, FileSays, EndsAtLast, GotBehind, HasAll, HasFile, names_with}
 use Rattle.cube_opening.specs.Reports.{IsReport, IsDone}
 use Rattle.cube_opening.specs.declared.cube_files.CubeFiles.{CubeFiles}
 use Rattle.cube_opening.specs.declared.report.Report.{Report}
-use Rattle.cube_script.specs.Playing.{Playing, IsPlaying, starting, has_torn}
+use Rattle.cube_script.specs.Playing.{Playing, IsPlaying, starting, has_torn, passes_room_by}
 use Rattle.cube_script.specs.Scripts.{script_of}
 use Rattle.cube_script.specs.declared.script_wire.SendRoom.{SendRoom}
 use Rattle.cube_script.specs.declared.script_wire.TheConstants.{MAX_SENDS, MAX_SENT_BYTES}
@@ -38,6 +39,16 @@ wire_of script = starting script room_for_sends
 
 -- ---- how a play ended
 
+-- The log ends with a send of so many bytes that would have passed the room for sends, behind all that was sent before it: nothing of it
+-- went out, and its connection was closed. It is the only one that failed.
+pub record EndsOverrun (most : SendRoom) (log : List LogEntry) : Type 0 where
+  pub before : List LogEntry
+  pub conn : ℕ
+  pub size : ℕ
+  pub whole : log ≡ before ++ Torn conn [] size ∷ Shut conn ∷ []
+  pub only : has_torn before ≡ false
+  pub passes : passes_room_by most before size ≡ true
+
 -- a send that would have passed the room for sends ends a play before all else
 abbrev pub played_status : Bool → Result (Unit {0}) ServeFault → ℕ
 played_status overrun end = if overrun then 10 else served_status end
@@ -56,8 +67,8 @@ Writes end log out r =
 -- ---- the whole
 
 -- The events of the script came over a wire that was served as `Served` says, and what was written is the text of its log. The wire
--- played the script: it gave the first events of it, all of them where the end came, no send passed the room, nothing went out of a send
--- that failed; and the wire failed only behind such a send.
+-- played the script: it gave the first events of it, all of them where the end came, no send passed the room, and nothing went out of a
+-- send that failed. A send failed only where it would have passed the room, and it was the last; and the wire failed only behind it.
 pub record Replayed {S O : Type 0} (cube : CubeFiles) (script_name : List ℕ) (stated : ℕ) (files : FolderState) (store : Seen StoreState S) (out : Seen SinkState O) (r : Report) : Type 0 where
   pub script : List Arrival
   pub wire : Playing
@@ -70,6 +81,7 @@ pub record Replayed {S O : Type 0} (cube : CubeFiles) (script_name : List ℕ) (
   pub playing : IsPlaying wire
   pub served : Served cube files store asking end true wire.log
   pub whole : (u : Unit {0}) → end ≡ Ok u → events_in wire.log ≡ script ++ End ∷ []
+  pub cause : has_torn wire.log ≡ true → EndsOverrun room_for_sends wire.log
   pub unfailed : has_torn wire.log ≡ false → end ≢ Err WireFailed
   pub writes : Writes end wire.log out r
 

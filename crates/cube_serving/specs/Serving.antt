@@ -6,7 +6,7 @@ use Rattle.cube_model.specs.declared.entry.Entry.{Entry}
 use Rattle.cube_model.specs.declared.outcome.Outcome.{Outcome}
 use Rattle.cube_model.specs.declared.policy.Policy.{Policy}
 use Rattle.cube_model.specs.Cores.{Core, world}
-use Rattle.cube_model.specs.Rooms.{alone}
+use Rattle.cube_model.specs.Rooms.{Room, alone}
 use Rattle.cube_io.specs.Causes.{Rose, RoseBy}
 use Rattle.cube_io.specs.Desks.{faults_in}
 use Rattle.cube_io.specs.Seen.{FolderState, StoreState, WireState, Seen, Unused, seen}
@@ -16,17 +16,18 @@ use Rattle.cube_engine.specs.Engines.{Engine}
 use Rattle.cube_engine.specs.Headline.{Hides}
 use Rattle.cube_engine.specs.Kept.{IsExact}
 use Rattle.cube_engine.specs.Steps.{manner}
+use Rattle.cube_engine.specs.Worlds.{first_history}
 use Rattle.cube_opening.specs.Opening.{HasAll, GotBehind, names_of}
 use Rattle.cube_opening.specs.Reports.{IsReport, IsDone}
 use Rattle.cube_opening.specs.declared.cube_files.CubeFiles.{CubeFiles}
 use Rattle.cube_opening.specs.declared.report.Report.{Report}
-use Rattle.cube_server.specs.Crashes.{Called}
-use Rattle.cube_server.specs.Logs.{log_of}
+use Rattle.cube_server.specs.Crashes.{Called, IsInHand}
+use Rattle.cube_server.specs.Logs.{Call, log_of}
 use Rattle.cube_server.specs.Seen.{DeskState}
 use Rattle.cube_server.specs.Steps.{Serves, IsCounted, has_end, sends_in, luck_of, stated_at}
 use Rattle.cube_server.specs.declared.serving.ServeFault.{ServeFault}
 use Rattle.cube_server.specs.declared.serving.ServeFault.TheVariants.{WireFailed, Spent}
-use Rattle.cube_serving.specs.Starting.{EndsClosed, HasJournal, IsOpen, Recovers, Survived}
+use Rattle.cube_serving.specs.Starting.{EndsClosed, HasJournal, IsOpen, Recovers, Survived, HeldIn}
 use Rattle.cube_talk.specs.Talk.{max_input}
 
 -- ---- what the log of the wire tells
@@ -82,10 +83,26 @@ pub record Wired (core : Core) (policy : Policy) (a : Asking) (end : Result (Uni
   pub asked : Called (desk_before core policy a) (desk_behind core policy a)
   pub tells : IsTrue told → Tells core policy a log
 
+-- ---- what is in hand meanwhile
+
+-- the history is the one behind some of the asks, from the first on, or that with the request of the ask that comes next
+abbrev pub IsInTurn : Core → Policy → List Entry → List Call → List Entry → Type 0
+IsInTurn core policy first calls h = (here : List Room) × IsInHand (manner core.dims) (alone (world core policy) first) calls here × (h ≡ first_history here)
+
+-- Asks over an opened log, seen from before the opening: where the log was exact behind that, a crash leaves what is in hand.
+abbrev pub HoldsFrom : {S : Type 0} → (S → StoreState) → Core → Policy → List Entry → List Call → S → S → Type 0
+HoldsFrom {S} tells core policy first calls old new = IsTrue (tells old).told → IsExact core policy first ((tells old).logs 0).state
+    → (opened : S) → Recovers core policy (seen tells opened old) → (tells opened).told ≡ (tells old).told → HeldIn 0 core policy (IsInTurn core policy first calls) (seen tells opened new)
+
+-- A cube served a wire, and what its asks hold of the log.
+pub record WiredOver {S : Type 0} (tells : S → StoreState) (core : Core) (policy : Policy) (a : Asking) (end : Result (Unit {0}) ServeFault) (told : Bool) (log : List LogEntry) (old new : S) : Type 0 where
+  pub wired : Wired core policy a end told log
+  pub held : HoldsFrom tells core policy a.first wired.asked.calls old new
+
 -- ---- the whole
 
--- A wire was served by an open cube, and the journal kept what was answered. For each ask in which it failed the store's count of faults
--- rose.
+-- A wire was served by an open cube, and the journal kept what was answered: beyond that a crash leaves the request of the ask in hand,
+-- and no other. For each ask in which it failed the store's count of faults rose.
 pub record Served {S : Type 0} (cube : CubeFiles) (files : FolderState) (store : Seen StoreState S) (a : Asking) (end : Result (Unit {0}) ServeFault) (told : Bool) (log : List LogEntry) : Type 0 where
   pub core : Core
   pub policy : Policy
@@ -93,6 +110,7 @@ pub record Served {S : Type 0} (cube : CubeFiles) (files : FolderState) (store :
   pub opened : IsOpen cube files store core policy facts a.first
   pub wired : Wired core policy a end told log
   pub survived : IsTrue store.before.told → Survived core policy a.first a.last a.outcomes store
+  pub held : IsTrue store.before.told → HeldIn 0 core policy (IsInTurn core policy a.first wired.asked.calls) store
   pub failed : RoseBy (faults_in a.outcomes) store.before.faults store.after.faults
 
 -- A cube was opened, and nothing was served: of the journal every crash leaves what recovers its history.

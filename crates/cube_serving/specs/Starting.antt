@@ -9,10 +9,10 @@ use Rattle.cube_model.specs.Verdicts.{IsAdmissible}
 use Rattle.cube_io.specs.Causes.{Rose}
 use Rattle.cube_io.specs.Desks.{faults_in}
 use Rattle.cube_io.specs.Seen.{FolderState, StoreState, Seen, Unused}
-use Rattle.cube_io.specs.States.{State, Gained}
+use Rattle.cube_io.specs.States.{State, IsImage, Gained}
 use Rattle.cube_io.specs.declared.store.TheConstants.{SEAL_LOG}
 use Rattle.cube_journal.specs.Keeping.{IsInRecovery}
-use Rattle.cube_engine.specs.Kept.{history_of, IsExact, IsWithin}
+use Rattle.cube_engine.specs.Kept.{history_of, GivesHistory, IsExact, IsWithin}
 use Rattle.cube_engine.specs.Opening.{IsStartFault}
 use Rattle.cube_engine.specs.declared.fault.EngineFault.{EngineFault}
 use Rattle.cube_engine.specs.declared.fault.EngineFault.TheVariants.{Failed, TooLong, Damaged, OtherCube, Inadmissible, NoMemory}
@@ -161,3 +161,13 @@ pub record SurvivedIn {S : Type 0} (log : ℕ) (core : Core) (policy : Policy) (
 
 abbrev pub Survived : {S : Type 0} → Core → Policy → List Entry → List Entry → List Outcome → Seen StoreState S → Type 0
 Survived core policy first last os store = SurvivedIn 0 core policy first last os store
+
+-- whatever a crash leaves of the log at this state gives just one of these histories back
+abbrev pub GivesOne : Core → Policy → (List Entry → Type 0) → State → Type 0
+GivesOne core policy these s = (bytes : List ℕ) → IsImage s bytes → (h : List Entry) × these h × GivesHistory core policy h bytes
+
+-- The log of a cube that was opened and then asked. At each moment it is as when it was opened, or every crash leaves what recovers the
+-- same, or what gives one of these histories back; and so it is at the end.
+pub record HeldIn {S : Type 0} (log : ℕ) (core : Core) (policy : Policy) (these : List Entry → Type 0) (store : Seen StoreState S) : Type 0 where
+  pub passed : Gained (λ s. IsInRecovery (history_of core policy) (store.before.logs log).state s ⊎ GivesOne core policy these s) (store.before.logs log) (store.after.logs log)
+  pub last : GivesOne core policy these (store.after.logs log).state

@@ -8,7 +8,7 @@ ghost use Rattle.cube_engine.specs.Kept.{IsKept};
 ghost use Rattle.cube_opening.specs.Opening.{IsSteady};
 ghost use Rattle.cube_server.specs.Pools.{IsFree};
 ghost use Rattle.cube_server.specs.declared.serving.ServeFault.TheVariants as fault;
-ghost use Rattle.cube_serving.specs.Serving.{asking, Wired, ServeEnds, ServeCompletes, SurvivesFrom, Hears, served_status, served_text};
+ghost use Rattle.cube_serving.specs.Serving.{asking, WiredOver, ServeEnds, ServeCompletes, SurvivesFrom, Hears, served_status, served_text};
 ghost use Rattle.cube_serving.specs.Starting.{AsksStore, OnlyJournal};
 
 use crate::starting::open_engine;
@@ -37,7 +37,7 @@ pub(crate) fn serve_engine<S: Store, W: Wire>(
     requires room { 1 ≤ engine.old.left }
     requires pool { IsFree pool.old }
     requires quiet { IsTrue (W.state wire.old).told → (W.state wire.old).log ≡ [] }
-    ensures wired { Wired engine.old.core engine.old.policy (asking engine.old engine.new) result (W.state wire.old).told (W.state wire.new).log }
+    ensures wired { WiredOver S.state engine.old.core engine.old.policy (asking engine.old engine.new) result (W.state wire.old).told (W.state wire.new).log store.old store.new }
     ensures survived { SurvivesFrom S.state engine.old.core engine.old.policy (asking engine.old engine.new) store.old store.new }
     ensures others { OthersStay 0 (S.state store.old) (S.state store.new) }
     ensures asks { RoseBy (faults_in engine.new.outcomes) (S.state store.old).faults (S.state store.new).faults }

@@ -2,9 +2,10 @@
 use Rattle.std.proofs.Common.{◌≡◌, ◌≢◌, ◌⊎◌, ◌≤◌, ◌<◌, ℕ, ◌+◌, IsTrue, false, List, [], ◌∷◌, ◌++◌, drop, length, refl, sym, ap, subst, ◌∙◌, append-nil, arith, inl, inr}
 use Rattle.std.proofs.lemmas.Bool.Decides.{nat_tests}
 use Rattle.cube_io.specs.Causes.{RoseBy}
-use Rattle.cube_io.specs.Desks.{IsConstant, Answered, ForeignStay, faults_in}
+use Rattle.cube_io.specs.Desks.{IsConstant, Answered, ForeignStay, GivesRooms, LeavesAll, IsOneOf, faults_in}
 use Rattle.cube_io.specs.Seen.{StoreState}
 use Rattle.cube_io.specs.States.{State, Log, Gained}
+use Rattle.cube_io.proofs.Hands.{leaves_all_none, leaves_all_map}
 use Rattle.cube_io.proofs.Trails.{gained_none, gained_map}
 use Rattle.cube_model.specs.declared.outcome.Outcome.{Outcome}
 use Rattle.cube_model.specs.declared.outcome.Outcome.TheVariants.{Given, JournalFault, NoMemory}
@@ -13,8 +14,8 @@ use Rattle.cube_model.specs.declared.reply.Reply.{Reply}
 use Rattle.cube_model.specs.declared.reply.Reply.TheVariants.{Fixed}
 use Rattle.cube_model.specs.Rooms.{Room}
 use Rattle.cube_talk.specs.AskLaws.{asks_one, rooms_one, said_one, within_one}
-use Rattle.cube_talk.specs.Asks.{ask_of, is_too_long, too_large, Answers}
-use Rattle.cube_talk.specs.Crashes.{IsSame, IsPassed, Survives, AnswersDurably}
+use Rattle.cube_talk.specs.Asks.{ask_of, is_too_long, too_large, AnswersAsks}
+use Rattle.cube_talk.specs.Crashes.{IsInHand, IsSame, IsPassed, Survives, AnswersDurably}
 use Rattle.cube_talk.specs.Moments.{Moment}
 use Rattle.cube_talk.specs.Replies.{reply_text}
 use Rattle.cube_talk.proofs.AskTalk.{too_long_said, too_long_adds}
@@ -29,6 +30,7 @@ too_long_survives x ls = record {
   passed = λ t log w. gained_none (IsPassed x.manner x.rooms ls [] x.within log) (x.store.logs log) (x.store.logs log) refl;
   ends_within = λ t log w. w;
   ends_exact = λ t none log e. e;
+  in_hand = λ t log w. leaves_all_none (GivesRooms x.exact log) (IsInHand x.manner x.rooms ls []) (x.store.logs log) (x.store.logs log) refl;
   others = λ t log no. refl;
 }
 
@@ -57,7 +59,7 @@ risen_by JournalFault before now later rose = rose refl
 risen_by NoMemory before now later rose = omega (arith, later)
 
 answered_one : (x y : Moment) (line : List ℕ) (reply : Reply) → length line ≤ 65536 → y.manner ≡ x.manner → 1 ≤ x.room → y.room + 1 ≡ x.room
-    → (a : Answered x.manner (ask_of line) x.rooms y.rooms x.outcomes y.outcomes x.store.faults y.store.faults reply) → Answers x y (line ∷ []) (reply_text reply)
+    → (a : Answered x.manner (ask_of line) x.rooms y.rooms x.outcomes y.outcomes x.store.faults y.store.faults reply) → AnswersAsks x y (line ∷ []) (reply_text reply)
 answered_one x y line reply short same some left a =
     let f = short_line line short in
     record {
@@ -83,9 +85,10 @@ pub one_serves : (x y : Moment) (line : List ℕ) (reply : Reply)
     → (IsTrue x.store.told → (log : ℕ) → x.within x.rooms log (x.store.logs log).state → y.within y.rooms log (y.store.logs log).state)
     → (y.outcomes ≢ x.outcomes ++ JournalFault ∷ [] → IsTrue x.store.told → (log : ℕ) → x.exact x.rooms log (x.store.logs log).state → y.exact y.rooms log (y.store.logs log).state)
     → ForeignStay x.within x.store y.store
+    → (IsTrue x.store.told → (log : ℕ) → x.within x.rooms log (x.store.logs log).state → LeavesAll (GivesRooms x.exact log) (IsOneOf x.rooms (x.manner.next x.rooms (ask_of line) Given)) (x.store.logs log) (y.store.logs log))
     → AnswersDurably x y (line ∷ []) (reply_text reply)
 unfolding answered_one
-one_serves x y line reply short same some left a tells named exactly wholly passed ends only others =
+one_serves x y line reply short same some left a tells named exactly wholly passed ends only others hand =
     let answers = answered_one x y line reply short same some left a in (
       answers,
       record {
@@ -96,10 +99,16 @@ one_serves x y line reply short same some left a tells named exactly wholly pass
         passed = λ t log w. gained_map (λ s. x.within x.rooms log s ⊎ x.within y.rooms log s) (IsPassed x.manner x.rooms (line ∷ []) (a.outcome ∷ []) x.within log) (x.store.logs log) (y.store.logs log) (λ s p. by_side log s p) (passed t log w);
         ends_within = ends;
         ends_exact = λ t none log e. only (λ bad. no_fault a.outcome none (last_is x.outcomes a.outcome JournalFault (sym a.added ∙ bad))) t log e;
+        in_hand = λ t log w. leaves_all_map (GivesRooms x.exact log) (GivesRooms x.exact log) (IsOneOf x.rooms (x.manner.next x.rooms (ask_of line) Given)) (IsInHand x.manner x.rooms (line ∷ []) (a.outcome ∷ [])) (x.store.logs log) (y.store.logs log)
+            (λ r bytes one g. (r, in_turn r one, g)) (hand t log w);
         others = others;
       },
     )
   where
+    in_turn : (r : List Room) → IsOneOf x.rooms (x.manner.next x.rooms (ask_of line) Given) r → IsInHand x.manner x.rooms (line ∷ []) (a.outcome ∷ []) r
+    in_turn r (inl e) = inl (record { first = []; more = line ∷ []; split = refl; are = e })
+    in_turn r (inr e) = inr (record { first = []; line = line; more = []; split = refl; short = short_line line short; are = e })
+
     by_side : (log : ℕ) (s : State) → x.within x.rooms log s ⊎ x.within y.rooms log s → IsPassed x.manner x.rooms (line ∷ []) (a.outcome ∷ []) x.within log s
     by_side log s (inl p) = (x.rooms, record { first = []; more = line ∷ []; split = refl; are = refl }, p)
     by_side log s (inr p) = (y.rooms, record { first = line ∷ []; more = []; split = refl; are = a.moved ∙ sym (rooms_one x.manner x.rooms line [] a.outcome [] (short_line line short)) }, p)
@@ -134,3 +143,4 @@ missed_serves x y line reply idle short same some left always is added stays exa
     (λ t log w. subst (λ (l : Log). y.within y.rooms log l.state) (sym (logs log)) ((wholly y.rooms log (x.store.logs log).state).1 (subst (λ (rs : List Room). x.within rs log (x.store.logs log).state) (sym stays) w)))
     (λ none t log e. subst (λ (l : Log). y.exact y.rooms log l.state) (sym (logs log)) ((exactly y.rooms log (x.store.logs log).state).1 (subst (λ (rs : List Room). x.exact rs log (x.store.logs log).state) (sym stays) e)))
     (λ t log no. logs log)
+    (λ t log w. leaves_all_none (GivesRooms x.exact log) (IsOneOf x.rooms (x.manner.next x.rooms (ask_of line) Given)) (x.store.logs log) (y.store.logs log) (logs log))

@@ -6,7 +6,7 @@ use Rattle.std.proofs.lemmas.Bool.Decides.{nat_tests}
 use Rattle.cube_model.specs.declared.outcome.Outcome.{Outcome}
 use Rattle.cube_io.proofs.Told.{appends_same}
 use Rattle.cube_talk.specs.AskLaws.{asks_long, said_long, rooms_long, asks_append, said_append, up_to_over, within_one}
-use Rattle.cube_talk.specs.Asks.{is_too_long, too_large, asks_in, up_to_asks, said, rooms_behind, talk, Answers, Says}
+use Rattle.cube_talk.specs.Asks.{is_too_long, too_large, asks_in, up_to_asks, said, rooms_behind, talk, AnswersAsks, Says}
 use Rattle.cube_talk.specs.Lines.{ended_lines}
 use Rattle.cube_talk.specs.Moments.{Moment}
 use Rattle.cube_talk.specs.Talk.{Puts, Goes}
@@ -24,7 +24,7 @@ none_left : (ls : List (List ℕ)) → up_to_asks 0 ls ≡ []
 none_left ls = refl
 
 -- a line that is too long is no ask
-pub too_long_said : (x : Moment) (line : List ℕ) → 65536 < length line → 1 ≤ x.room → Answers x x (line ∷ []) too_large
+pub too_long_said : (x : Moment) (line : List ℕ) → 65536 < length line → 1 ≤ x.room → AnswersAsks x x (line ∷ []) too_large
 too_long_said x line h some =
     let l : is_too_long line ≡ true = grind (arith, nat_tests) in
     record {
@@ -47,17 +47,17 @@ unfolding too_long_said
 too_long_adds x line h some = refl
 
 -- all outcomes are of these lines
-pub added_are : (x y : Moment) (first : List (List ℕ)) (text : List ℕ) → x.outcomes ≡ [] → (a : Answers x y first text) → y.outcomes ≡ a.added
+pub added_are : (x y : Moment) (first : List (List ℕ)) (text : List ℕ) → x.outcomes ≡ [] → (a : AnswersAsks x y first text) → y.outcomes ≡ a.added
 added_are x y first text fresh a = a.outcomes_are ∙ ap (λ (o : List Outcome). o ++ a.added) fresh
 
 -- all the lines were answered
-said_all : (x y : Moment) (first ls : List (List ℕ)) (text : List ℕ) → x.outcomes ≡ [] → first ≡ ls → Answers x y first text → text ≡ talk x.manner x.rooms ls y.outcomes x.room
+said_all : (x y : Moment) (first ls : List (List ℕ)) (text : List ℕ) → x.outcomes ≡ [] → first ≡ ls → AnswersAsks x y first text → text ≡ talk x.manner x.rooms ls y.outcomes x.room
 said_all x y first ls text fresh is a =
     a.text_is ∙ ap (λ (l : List (List ℕ)). said x.manner x.rooms l a.added) (sym a.within ∙ ap (up_to_asks x.room) is)
     ∙ ap (λ (o : List Outcome). said x.manner x.rooms (up_to_asks x.room ls) o) (sym (added_are x y first text fresh a))
 
 -- the first of the lines were answered
-said_first : (x y : Moment) (first more ls : List (List ℕ)) (text : List ℕ) → x.outcomes ≡ [] → ls ≡ first ++ more → (a : Answers x y first text)
+said_first : (x y : Moment) (first more ls : List (List ℕ)) (text : List ℕ) → x.outcomes ≡ [] → ls ≡ first ++ more → (a : AnswersAsks x y first text)
     → talk x.manner x.rooms ls y.outcomes x.room ≡ text ++ said x.manner (rooms_behind x.manner x.rooms first a.added) (up_to_asks y.room more) []
 said_first x y first more ls text fresh is a =
     ap (λ (l : List (List ℕ)). said x.manner x.rooms (up_to_asks x.room l) y.outcomes) is
@@ -66,12 +66,12 @@ said_first x y first more ls text fresh is a =
     ∙ said_append x.manner first (up_to_asks y.room more) [] x.rooms a.added a.matched
     ∙ ap (λ (l : List ℕ). l ++ said x.manner (rooms_behind x.manner x.rooms first a.added) (up_to_asks y.room more) []) (sym a.text_is)
 
-many : (x y : Moment) (first : List (List ℕ)) (text : List ℕ) → x.outcomes ≡ [] → Answers x y first text → length y.outcomes ≡ asks_in first
+many : (x y : Moment) (first : List (List ℕ)) (text : List ℕ) → x.outcomes ≡ [] → AnswersAsks x y first text → length y.outcomes ≡ asks_in first
 many x y first text fresh a = ap length (added_are x y first text fresh a) ∙ a.matched
 
 -- what was written of the talk, by how it ended
 pub said_of : (ending : Ending) (x y : Moment) (text spoken : List ℕ) (first more : List (List ℕ)) (w w' : Option (List ℕ)) → ending ≢ NoMemory → x.outcomes ≡ []
-    → lines text ≡ first ++ more → Answers x y first spoken → Puts ending w w' spoken → Goes ending text first more (y.room == 0) → Says ending x.manner x.rooms x.room y.outcomes text w w'
+    → lines text ≡ first ++ more → AnswersAsks x y first spoken → Puts ending w w' spoken → Goes ending text first more (y.room == 0) → Says ending x.manner x.rooms x.room y.outcomes text w w'
 said_of Ended x y text spoken first more w w' n fresh split a put (none, going, short) =
     let all : first ≡ lines text = sym (split ∙ rw none (append-nil first)) in
     let count = many x y first spoken fresh a in

@@ -56,7 +56,7 @@ says_then heard.NoMemory a b p q r w x y s t = spoke_then a b p q r w x y s t
 says_then heard.OutputFailed a b p q r w x y s t = spoke_broken a b p q w x y s t
 
 -- the lines before what is behind
-pub record Answered {A B : Type 0} (says : A → B → List (List ℕ) → A → B → List ℕ → Type 0) (h : Heard) (a a' : A) (b b' : B) (open_part piece behind waiting waiting' : List ℕ) (w w' : Option (List ℕ)) : Type 0 where
+pub record AnsweredPiece {A B : Type 0} (says : A → B → List (List ℕ) → A → B → List ℕ → Type 0) (h : Heard) (a a' : A) (b b' : B) (open_part piece behind waiting waiting' : List ℕ) (w w' : Option (List ℕ)) : Type 0 where
   pub first : List (List ℕ)
   pub split : parts (open_part ++ piece) ≡ first ++ parts behind
   pub text : List ℕ
@@ -66,7 +66,7 @@ pub record Answered {A B : Type 0} (says : A → B → List (List ℕ) → A →
 pub one_more : {A B : Type 0} (sp : Speech A B) (h : Heard) (a a' a'' : A) (b b' b'' : B) (open_part piece rest line behind carry kept waiting waiting' waiting'' : List ℕ) (w w' w'' : Option (List ℕ))
     → Progress sp.says a a' b b' open_part piece rest carry waiting waiting' w w' → rest ≡ line ++ 10 ∷ behind → All (λ b. is_feed b ≡ false) line → kept ≡ carry ++ take (65538 - length carry) line
     → HeardLine sp.says (PieceSays h waiting' waiting'' w' w'') a' a'' b' b'' (strip_carriage_return kept)
-    → Answered sp.says h a a'' b b'' open_part piece behind waiting waiting'' w w''
+    → AnsweredPiece sp.says h a a'' b b'' open_part piece behind waiting waiting'' w w''
 one_more sp h a a' a'' b b' b'' open_part piece rest line behind carry kept waiting waiting' waiting'' w w' w'' p is fed more l =
     let whole : kept ≡ up_to 65538 (p.now ++ line) = more ∙ ap (λ (c : List ℕ). c ++ take (65538 - length c) line) p.kept.kept ∙ up_to_more 65538 p.now line in
     let one = answered_kept sp a' a'' b' b'' (p.now ++ line) l.text (subst (λ (k : List ℕ). sp.says a' b' (strip_carriage_return k ∷ []) a'' b'' l.text) whole l.answered) in
@@ -79,7 +79,7 @@ one_more sp h a a' a'' b b' b'' open_part piece rest line behind carry kept wait
       went = says_then h p.text l.text waiting waiting' waiting'' w w' w'' p.spoke l.went;
     }
 
-pub go_on : {A B : Type 0} (sp : Speech A B) (a a' : A) (b b' : B) (open_part piece behind carry waiting waiting' : List ℕ) (w w' : Option (List ℕ)) → Answered sp.says heard.All a a' b b' open_part piece behind waiting waiting' w w' → carry ≡ []
+pub go_on : {A B : Type 0} (sp : Speech A B) (a a' : A) (b b' : B) (open_part piece behind carry waiting waiting' : List ℕ) (w w' : Option (List ℕ)) → AnsweredPiece sp.says heard.All a a' b b' open_part piece behind waiting waiting' w w' → carry ≡ []
     → Progress sp.says a a' b b' open_part piece behind carry waiting waiting' w w'
 go_on sp a a' b b' open_part piece behind carry waiting waiting' w w' n none = record {
   first = n.first;
@@ -91,7 +91,7 @@ go_on sp a a' b b' open_part piece behind carry waiting waiting' w w' n none = r
   spoke = n.went;
 }
 
-pub answered_some : {A B : Type 0} (sp : Speech A B) (h : Heard) (a a' : A) (b b' : B) (open_part piece behind waiting waiting' : List ℕ) (w w' : Option (List ℕ)) → Answered sp.says h a a' b b' open_part piece behind waiting waiting' w w'
+pub answered_some : {A B : Type 0} (sp : Speech A B) (h : Heard) (a a' : A) (b b' : B) (open_part piece behind waiting waiting' : List ℕ) (w w' : Option (List ℕ)) → AnsweredPiece sp.says h a a' b b' open_part piece behind waiting waiting' w w'
     → HeardSome sp.says (PieceSays h waiting waiting' w w') a a' b b' open_part piece
 answered_some sp h a a' b b' open_part piece behind waiting waiting' w w' n = record {
   first = n.first;

@@ -7,7 +7,7 @@ use Rattle.cube_facts.specs.Flat.{Flat}
 use Rattle.cube_io.specs.Seen.{SourceState, SinkState, Seen}
 use Rattle.cube_io.proofs.Told.{appends_same}
 use Rattle.cube_talk.specs.Lines.{ended_lines}
-use Rattle.cube_talk.specs.Sums.{Answers, answers, talk, max_lines, is_done, SumsSay, Talked}
+use Rattle.cube_talk.specs.Sums.{AnswersSums, answers, talk, max_lines, is_done, SumsSay, Talked}
 use Rattle.cube_talk.specs.SumLaws.{answers_append}
 use Rattle.cube_talk.specs.Talk.{up_to, Puts, Goes, Conversed}
 use Rattle.cube_talk.specs.declared.sums.Sums.{Sums}
@@ -43,7 +43,7 @@ open_yet y e = grind (arith, nat_tests)
 
 -- what was written of the first lines, by how the talk ended
 said_of : (ending : Ending) (flat : Flat) (x y : Sums) (text said : List ℕ) (first more : List (List ℕ)) (w w' : Option (List ℕ)) → x.lines ≡ 0 → x.flat ≡ flat → lines text ≡ first ++ more
-    → Answers x y first said → Puts ending w w' said → Goes ending text first more (is_done y) → SumsSay flat ending text y.lines w w'
+    → AnswersSums x y first said → Puts ending w w' said → Goes ending text first more (is_done y) → SumsSay flat ending text y.lines w w'
 said_of Ended flat x y text said first more w w' zero_lines is split a put (none, open_, short) =
     let all : lines text ≡ first = split ∙ rw none (append-nil first) in
     let few = open_yet y open_ in
@@ -73,7 +73,7 @@ said_of Spent flat x y text said first more w w' zero_lines is split a put (inr 
 
 -- a talk by sums is the talk over the rows
 pub talked : {S I O : Type 0} (end : TalkEnd) (flat : Flat) (x y : Sums) (s t : S) (input : Seen SourceState I) (out : Seen SinkState O) → x.lines ≡ 0 → x.flat ≡ flat
-    → Conversed (λ (x : Sums) (s : S) (ls : List (List ℕ)) (y : Sums) (t : S) (text : List ℕ). Answers x y ls text × (t ≡ s)) x y s t (is_done y) end input out
+    → Conversed (λ (x : Sums) (s : S) (ls : List (List ℕ)) (y : Sums) (t : S) (text : List ℕ). AnswersSums x y ls text × (t ≡ s)) x y s t (is_done y) end input out
     → Talked flat end y.lines input out
 talked end flat x y s t input out zero_lines is c = record {
   text = c.text;

@@ -9,7 +9,7 @@ use Rattle.cube_io.specs.Causes.{RoseBy}
 use Rattle.cube_io.specs.Desks.{Manner, is_fault, faults_in}
 use Rattle.cube_talk.specs.Moments.{Moment}
 use Rattle.cube_talk.specs.Replies.{reply_text}
-use Rattle.cube_talk.specs.Asks.{is_too_long, too_large, ask_of, asks_in, up_to_asks, said, rooms_behind, FailedFresh, Answers}
+use Rattle.cube_talk.specs.Asks.{is_too_long, too_large, ask_of, asks_in, up_to_asks, said, rooms_behind, FailedFresh, AnswersAsks}
 
 pub by_test : {P : Type 0} (b : Bool) → (b ≡ true → P) → (b ≡ false → P) → P
 by_test true f g = f refl
@@ -163,7 +163,7 @@ rises_on n k a b c first last later = omega (arith, first, last, later)
 
 -- ---- the laws
 
-pub none : (x : Moment) → Answers x x [] []
+pub none : (x : Moment) → AnswersAsks x x [] []
 none x = record {
   manner = refl;
   added = [];
@@ -179,7 +179,7 @@ none x = record {
   fresh = tt;
 }
 
-pub onward : (x y z : Moment) (first more : List (List ℕ)) (text behind : List ℕ) → Answers x y first text → Answers y z more behind → Answers x z (first ++ more) (text ++ behind)
+pub onward : (x y z : Moment) (first more : List (List ℕ)) (text behind : List ℕ) → AnswersAsks x y first text → AnswersAsks y z more behind → AnswersAsks x z (first ++ more) (text ++ behind)
 onward x y z first more text behind h k =
     let over : rooms_behind y.manner y.rooms more k.added ≡ rooms_behind x.manner (rooms_behind x.manner x.rooms first h.added) more k.added =
     ap (λ (m : Manner). rooms_behind m y.rooms more k.added) h.manner ∙ ap (λ (r : List Room). rooms_behind x.manner r more k.added) h.rooms_are in
@@ -208,7 +208,7 @@ pub none_adds : (x : Moment) → (none x).added ≡ []
 unfolding none
 none_adds x = refl
 
-pub onward_adds : (x y z : Moment) (first more : List (List ℕ)) (text behind : List ℕ) (h : Answers x y first text) (k : Answers y z more behind) → (onward x y z first more text behind h k).added ≡ h.added ++ k.added
+pub onward_adds : (x y z : Moment) (first more : List (List ℕ)) (text behind : List ℕ) (h : AnswersAsks x y first text) (k : AnswersAsks y z more behind) → (onward x y z first more text behind h k).added ≡ h.added ++ k.added
 unfolding onward
 onward_adds x y z first more text behind h k = refl
 
@@ -223,7 +223,7 @@ has_room : (room : ℕ) (line : List ℕ) → up_to_asks room (line ∷ []) ≡ 
 has_room zero line e = cc
 has_room (suc n) line e = omega arith
 
-pub alike : (x y : Moment) (line other text : List ℕ) → 65536 < length line → 65536 < length other → Answers x y (line ∷ []) text → Answers x y (other ∷ []) text
+pub alike : (x y : Moment) (line other text : List ℕ) → 65536 < length line → 65536 < length other → AnswersAsks x y (line ∷ []) text → AnswersAsks x y (other ∷ []) text
 alike x y line other text h k a =
     let l = too_long line h in
     let o = too_long other k in
@@ -242,6 +242,6 @@ alike x y line other text h k a =
       fresh = fresh_long x.manner x.rooms other [] a.added o tt;
     }
 
-pub alike_adds : (x y : Moment) (line other text : List ℕ) (h : 65536 < length line) (k : 65536 < length other) (a : Answers x y (line ∷ []) text) → (alike x y line other text h k a).added ≡ a.added
+pub alike_adds : (x y : Moment) (line other text : List ℕ) (h : 65536 < length line) (k : 65536 < length other) (a : AnswersAsks x y (line ∷ []) text) → (alike x y line other text h k a).added ≡ a.added
 unfolding alike
 alike_adds x y line other text h k a = refl

@@ -93,7 +93,7 @@ FailedFresh m rooms (line ∷ rest) (o ∷ os) =
 -- These lines were answered by this text, each ask with one outcome; all of them came while there was room. The count of the store's
 -- faults rose by one or more for each ask in which the journal failed, and stayed where it failed in none; it failed only for asks that
 -- would have added to a history.
-pub record Answers (before after : Moment) (ls : List (List ℕ)) (text : List ℕ) : Type 0 where
+pub record AnswersAsks (before after : Moment) (ls : List (List ℕ)) (text : List ℕ) : Type 0 where
   pub manner : after.manner ≡ before.manner
   pub added : List Outcome
   pub outcomes_are : after.outcomes ≡ before.outcomes ++ added

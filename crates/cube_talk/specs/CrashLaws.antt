@@ -1,13 +1,15 @@
 -- What a crash may leave while lines are answered one after another.
-use Rattle.std.proofs.Common.{◌≡◌, ◌<◌, ◌≤◌, ℕ, Bool, IsTrue, true, false, List, [], ◌∷◌, ◌++◌, length, refl, sym, ap, ◌∙◌, subst, append_assoc, arith}
+use Rattle.std.proofs.Common.{◌≡◌, inl, inr, ⊎_elim, ◌<◌, ◌≤◌, ℕ, Bool, IsTrue, true, false, List, [], ◌∷◌, ◌++◌, length, refl, sym, ap, ◌∙◌, subst, append_assoc, arith}
 use Rattle.cube_model.specs.declared.outcome.Outcome.{Outcome}
+use Rattle.cube_model.specs.declared.outcome.Outcome.TheVariants.{Given}
 use Rattle.cube_model.specs.Rooms.{Room}
-use Rattle.cube_io.specs.Desks.{Manner, faults_in}
-use Rattle.cube_io.specs.States.{State}
+use Rattle.cube_io.specs.Desks.{Manner, GivesRooms, faults_in}
+use Rattle.cube_io.specs.States.{State, settled}
+use Rattle.cube_io.proofs.Hands.{leaves_all_none, leaves_all_then, leaves_all_map}
 use Rattle.cube_io.proofs.Trails.{gained_none, gained_then, gained_map}
 use Rattle.cube_talk.specs.AskLaws.{by_test, asks_long, asks_one, asks_append, rooms_long, rooms_one, rooms_append, faults_append, too_long, none, none_adds, onward, onward_adds, alike, alike_adds}
-use Rattle.cube_talk.specs.Asks.{is_too_long, ask_of, asks_in, rooms_behind, Answers}
-use Rattle.cube_talk.specs.Crashes.{IsOnTheWay, IsSame, IsPassed, Survives, AnswersDurably}
+use Rattle.cube_talk.specs.Asks.{is_too_long, ask_of, asks_in, rooms_behind, AnswersAsks}
+use Rattle.cube_talk.specs.Crashes.{IsOnTheWay, IsWithNext, IsInHand, IsSame, IsPassed, Survives, AnswersDurably}
 use Rattle.cube_talk.specs.Moments.{Moment}
 
 -- ---- relations on the states of logs
@@ -66,6 +68,61 @@ way_second m m' rooms rooms' here first more os ps same there e w = record {
       ∙ sym (rooms_append m first w.first ps rooms os e);
 }
 
+-- ---- the ask in hand
+
+next_first : (m : Manner) (rooms here : List Room) (first more : List (List ℕ)) (os ps : List Outcome) → length os ≡ asks_in first → IsWithNext m rooms first os here → IsWithNext m rooms (first ++ more) (os ++ ps) here
+next_first m rooms here first more os ps e w =
+    let few : asks_in w.first ≤ length os = let a = asks_append w.first (w.line ∷ w.more) in let b = ap asks_in w.split in omega (arith, e, a, b) in
+    record {
+      first = w.first;
+      line = w.line;
+      more = w.more ++ more;
+      split = ap (λ (l : List (List ℕ)). l ++ more) w.split ∙ append_assoc w.first (w.line ∷ w.more) more;
+      short = w.short;
+      are = w.are ∙ ap (λ (r : List Room). m.next r (ask_of w.line) Given) (sym (takes_first m w.first ps rooms os few));
+    }
+
+next_second : (m m' : Manner) (rooms rooms' here : List Room) (first more : List (List ℕ)) (os ps : List Outcome) → m' ≡ m → rooms' ≡ rooms_behind m rooms first os → length os ≡ asks_in first
+    → IsWithNext m' rooms' more ps here → IsWithNext m rooms (first ++ more) (os ++ ps) here
+next_second m m' rooms rooms' here first more os ps same there e w = record {
+  first = first ++ w.first;
+  line = w.line;
+  more = w.more;
+  split = ap (λ (l : List (List ℕ)). first ++ l) w.split ∙ sym (append_assoc first w.first (w.line ∷ w.more));
+  short = w.short;
+  are = w.are
+      ∙ ap (λ (n : Manner). n.next (rooms_behind n rooms' w.first ps) (ask_of w.line) Given) same
+      ∙ ap (λ (r : List Room). m.next (rooms_behind m r w.first ps) (ask_of w.line) Given) there
+      ∙ ap (λ (r : List Room). m.next r (ask_of w.line) Given) (sym (rooms_append m first w.first ps rooms os e));
+}
+
+-- a line that is too long is no ask
+next_alike : (m : Manner) (rooms here : List Room) (line : List ℕ) (os : List Outcome) → is_too_long line ≡ true → IsWithNext m rooms (line ∷ []) os here → ⊥
+next_alike m rooms here line os l w = by_first w.first w.split
+  where
+    by_first : (first : List (List ℕ)) → line ∷ [] ≡ first ++ w.line ∷ w.more → ⊥
+    by_first [] e = let same : line ≡ w.line = head_of e in let t : is_too_long w.line ≡ true = subst (λ (x : List ℕ). is_too_long x ≡ true) same l in let f = w.short in cc
+      where
+        head_of : line ∷ [] ≡ w.line ∷ w.more → line ≡ w.line
+        head_of q = cc
+    by_first (x ∷ first) e = longer first (tail_of e)
+      where
+        tail_of : line ∷ [] ≡ x ∷ (first ++ w.line ∷ w.more) → [] ≡ first ++ w.line ∷ w.more
+        tail_of q = cc
+
+        longer : (ys : List (List ℕ)) → [] ≡ ys ++ w.line ∷ w.more → ⊥
+        longer [] q = cc
+        longer (y ∷ ys) q = cc
+
+hand_first : (m : Manner) (rooms here : List Room) (first more : List (List ℕ)) (os ps : List Outcome) → length os ≡ asks_in first → IsInHand m rooms first os here → IsInHand m rooms (first ++ more) (os ++ ps) here
+hand_first m rooms here first more os ps e (inl w) = inl (way_first m rooms here first more os ps e w)
+hand_first m rooms here first more os ps e (inr w) = inr (next_first m rooms here first more os ps e w)
+
+hand_second : (m m' : Manner) (rooms rooms' here : List Room) (first more : List (List ℕ)) (os ps : List Outcome) → m' ≡ m → rooms' ≡ rooms_behind m rooms first os → length os ≡ asks_in first
+    → IsInHand m' rooms' more ps here → IsInHand m rooms (first ++ more) (os ++ ps) here
+hand_second m m' rooms rooms' here first more os ps same there e (inl w) = inl (way_second m m' rooms rooms' here first more os ps same there e w)
+hand_second m m' rooms rooms' here first more os ps same there e (inr w) = inr (next_second m m' rooms rooms' here first more os ps same there e w)
+
 -- a line that is too long is passed as another one
 way_alike : (m : Manner) (rooms here : List Room) (line other : List ℕ) (os : List Outcome) → is_too_long line ≡ true → is_too_long other ≡ true → IsOnTheWay m rooms (line ∷ []) os here → IsOnTheWay m rooms (other ∷ []) os here
 way_alike m rooms here line other os l o w = by_first w.first w.split w.are
@@ -101,10 +158,11 @@ survives_none x = record {
   passed = λ t log w. gained_none (IsPassed x.manner x.rooms [] [] x.within log) (x.store.logs log) (x.store.logs log) refl;
   ends_within = λ t log w. w;
   ends_exact = λ t none log e. e;
+  in_hand = λ t log w. leaves_all_none (GivesRooms x.exact log) (IsInHand x.manner x.rooms [] []) (x.store.logs log) (x.store.logs log) refl;
   others = λ t log no. refl;
 }
 
-survives_onward : (x y z : Moment) (first more : List (List ℕ)) {text : List ℕ} (ps : List Outcome) (a : Answers x y first text) → Survives x y first a.added → Survives y z more ps → Survives x z (first ++ more) (a.added ++ ps)
+survives_onward : (x y z : Moment) (first more : List (List ℕ)) {text : List ℕ} (ps : List Outcome) (a : AnswersAsks x y first text) → Survives x y first a.added → Survives y z more ps → Survives x z (first ++ more) (a.added ++ ps)
 survives_onward x y z first more ps a h k =
     let tells : IsTrue x.store.told → IsTrue y.store.told = λ t. subst (λ (b : Bool). IsTrue b) (sym h.told_stays) t in
     let all = λ (log : ℕ). IsPassed x.manner x.rooms (first ++ more) (a.added ++ ps) x.within log in
@@ -120,6 +178,14 @@ survives_onward x y z first more ps a h k =
           (λ s p. (p.0, way_second x.manner y.manner x.rooms y.rooms p.0 first more a.added ps a.manner a.rooms_are a.matched p.1, (h.within_stays p.0 log s).0 p.2)) (k.passed (tells t) log (h.ends_within t log w)));
       ends_within = λ t log w. k.ends_within (tells t) log (h.ends_within t log w);
       ends_exact = λ t none log e. k.ends_exact (tells t) (none_behind a.added ps none) log (h.ends_exact t (none_before a.added ps none) log e);
+      in_hand = λ t log w.
+          let both = IsInHand x.manner x.rooms (first ++ more) (a.added ++ ps) in
+          leaves_all_then (GivesRooms x.exact log) both (x.store.logs log) (y.store.logs log) (z.store.logs log)
+          (leaves_all_map (GivesRooms x.exact log) (GivesRooms x.exact log) (IsInHand x.manner x.rooms first a.added) both (x.store.logs log) (y.store.logs log)
+          (λ r bytes i g. (r, hand_first x.manner x.rooms r first more a.added ps a.matched i, g)) (h.in_hand t log w))
+          (leaves_all_map (GivesRooms y.exact log) (GivesRooms x.exact log) (IsInHand y.manner y.rooms more ps) both (y.store.logs log) (z.store.logs log)
+          (λ r bytes i g. (r, hand_second x.manner y.manner x.rooms y.rooms r first more a.added ps a.manner a.rooms_are a.matched i, (h.exact_stays r log (settled bytes)).0 g))
+          (k.in_hand (tells t) log (h.ends_within t log w)));
       others = λ t log no. k.others (tells t) log (λ r s p. no r s ((h.within_stays r log s).0 p)) ∙ h.others t log no;
     }
 
@@ -133,6 +199,8 @@ survives_alike x y line other os h k v = record {
       (λ s p. (p.0, way_alike x.manner x.rooms p.0 line other os (too_long line h) (too_long other k) p.1, p.2)) (v.passed t log w);
   ends_within = v.ends_within;
   ends_exact = v.ends_exact;
+  in_hand = λ t log w. leaves_all_map (GivesRooms x.exact log) (GivesRooms x.exact log) (IsInHand x.manner x.rooms (line ∷ []) os) (IsInHand x.manner x.rooms (other ∷ []) os) (x.store.logs log) (y.store.logs log)
+      (λ r bytes i g. (r, inl (⊎_elim (λ p. way_alike x.manner x.rooms r line other os (too_long line h) (too_long other k) p) (λ n. absurd (next_alike x.manner x.rooms r line os (too_long line h) n)) i), g)) (v.in_hand t log w);
   others = v.others;
 }
 

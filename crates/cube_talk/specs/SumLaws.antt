@@ -3,16 +3,16 @@ use Rattle.std.proofs.Common.{◌≡◌, ◌<◌, ℕ, List, [], ◌∷◌, ◌+
 use Rattle.std.proofs.lemmas.Bool.Decides.{nat_tests}
 use Rattle.std.proofs.lemmas.List.Concat.{flat_map-append}
 use Rattle.cube_facts.specs.Flat.{Flat}
-use Rattle.cube_talk.specs.Sums.{Answers, answer, answers}
+use Rattle.cube_talk.specs.Sums.{AnswersSums, answer, answers}
 use Rattle.cube_talk.specs.declared.sums.Sums.{Sums}
 
-pub none : (x : Sums) → Answers x x [] []
+pub none : (x : Sums) → AnswersSums x x [] []
 none x = record { flat = refl; counted = omega arith; few = λ h. h; text_is = refl }
 
 pub answers_append : (flat : Flat) (xs ys : List (List ℕ)) → answers flat (xs ++ ys) ≡ answers flat xs ++ answers flat ys
 answers_append flat xs ys = flat_map-append (answer flat) xs ys
 
-pub onward : (x y z : Sums) (first more : List (List ℕ)) (text behind : List ℕ) → Answers x y first text → Answers y z more behind → Answers x z (first ++ more) (text ++ behind)
+pub onward : (x y z : Sums) (first more : List (List ℕ)) (text behind : List ℕ) → AnswersSums x y first text → AnswersSums y z more behind → AnswersSums x z (first ++ more) (text ++ behind)
 onward x y z first more text behind h k = record {
   flat = k.flat ∙ h.flat;
   counted = rw length-append (omega (arith, h.counted, k.counted));
@@ -24,7 +24,7 @@ too_long : (flat : Flat) (line : List ℕ) → 65536 < length line → answers f
 too_long flat line h =
     let t : nat_lt 65536 (length line) ≡ true = grind (arith, nat_tests) in rw t refl
 
-pub alike : (x y : Sums) (line other text : List ℕ) → 65536 < length line → 65536 < length other → Answers x y (line ∷ []) text → Answers x y (other ∷ []) text
+pub alike : (x y : Sums) (line other text : List ℕ) → 65536 < length line → 65536 < length other → AnswersSums x y (line ∷ []) text → AnswersSums x y (other ∷ []) text
 alike x y line other text long longer h = record {
   flat = h.flat;
   counted = h.counted;

@@ -45,7 +45,7 @@ abbrev pub is_done : Sums → Bool
 is_done x = nat_le max_lines x.lines
 
 -- these lines were answered by this text
-pub record Answers (x y : Sums) (ls : List (List ℕ)) (text : List ℕ) : Type 0 where
+pub record AnswersSums (x y : Sums) (ls : List (List ℕ)) (text : List ℕ) : Type 0 where
   pub flat : y.flat ≡ x.flat
   pub counted : y.lines ≡ x.lines + length ls
   pub few : x.lines ≤ max_lines → y.lines ≤ max_lines

@@ -24,7 +24,7 @@ pub enum Said {
 }
 
 // Writes the status and the length of a reply.
-fn write_head(buf: &mut [u8; LINE], status: u16, len: usize) -> usize
+fn write_prefix(buf: &mut [u8; LINE], status: u16, len: usize) -> usize
     ensures written { take result buf.new ≡ head_text status len }
     ensures short { result ≤ 64 }
 {
@@ -93,7 +93,7 @@ impl Replies {
     {
         let body = body_of(reply);
         let mut head = [0u8; LINE];
-        let end = write_head(&mut head, status_of(reply), body.len());
+        let end = write_prefix(&mut head, status_of(reply), body.len());
         self.put(out, &head[..end])?;
         self.put(out, body)?;
         Ok(())

@@ -2,7 +2,7 @@
 ghost use Rattle.std.specs.Prelude.{◌≡◌, [], ⊤, true, refl, IfOk};
 ghost use Rattle.std.proofs.Common.{◌∙◌};
 ghost use Rattle.cube_io.specs.Seen.{seen};
-ghost use Rattle.cube_talk.specs.Sums.{Answers, answer, shown, is_done, Talked};
+ghost use Rattle.cube_talk.specs.Sums.{AnswersSums, answer, shown, is_done, Talked};
 ghost use Rattle.cube_talk.specs.Talk.{RoseWhere};
 ghost use Rattle.cube_talk.specs.SumLaws.{none, onward, alike};
 
@@ -51,7 +51,7 @@ pub struct Sums {
 }
 
 impl<S: Store> Responder<S> for Sums {
-    ghost says = { λ x s ls y t text. Answers x y ls text × (t ≡ s) };
+    ghost says = { λ x s ls y t text. AnswersSums x y ls text × (t ≡ s) };
 
     ghost stands = { λ x s. ⊤ };
 

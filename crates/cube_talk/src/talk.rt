@@ -142,7 +142,7 @@ fn answer_piece<S: Store, R: Responder<S>, O: Sink>(
 
 // Writes what waits behind lines that were answered so far. Says how the talk ends, if it does.
 #[tactic(auto, using(crate::proofs::Spoken::spoke_flushed, crate::proofs::Spoken::spoke_half))]
-fn settle<O: Sink>(heard: Heard, replies: &mut Replies, out: &mut O) -> Option<Ending>
+fn flush_heard<O: Sink>(heard: Heard, replies: &mut Replies, out: &mut O) -> Option<Ending>
     ensures puts { (start : Option (List ℕ)) (text : List ℕ) → PieceSays heard [] replies.old start (O.state out.old).written text → PutsBy result start (O.state out.new).written text }
     ensures follows { Follows heard result }
     ensures empty { result ≡ None → replies.new ≡ [] }
@@ -165,7 +165,7 @@ fn settle<O: Sink>(heard: Heard, replies: &mut Replies, out: &mut O) -> Option<E
 }
 
 // Answers the lines that end in a piece, and writes the answers together. Says how the talk ends, if it does.
-fn hear_piece<S: Store, R: Responder<S>, O: Sink>(
+fn take_piece<S: Store, R: Responder<S>, O: Sink>(
     alloc: Global,
     responder: &mut R,
     store: &mut S,
@@ -187,7 +187,7 @@ fn hear_piece<S: Store, R: Responder<S>, O: Sink>(
     ensures stands { R.stands responder.new store.new }
 {
     let heard = answer_piece(alloc, responder, store, piece, carry, replies, out);
-    settle(heard, replies, out)
+    flush_heard(heard, replies, out)
 }
 
 /// How a talk ended, and how many bytes of the input were taken.
@@ -240,7 +240,7 @@ fn finish<S: Store, R: Responder<S>, O: Sink>(
         return Ending::Ended;
     }
     let heard = answer_line(alloc, responder, store, carry.as_slice(), replies, out);
-    match settle(heard, replies, out) {
+    match flush_heard(heard, replies, out) {
         Some(ending) => ending,
         None => Ending::Ended,
     }
@@ -285,7 +285,7 @@ pub fn converse<S: Store, R: Responder<S>, I: Source, O: Sink>(
         };
         bytes += count as u64;
         let piece = &buf[..count];
-        match hear_piece(
+        match take_piece(
             alloc,
             responder,
             store,

@@ -26,5 +26,5 @@ opened_open c log = open_more c false log (Heard (Opened c)) ∙ opens c (open_a
 pub sent_open : (c : ℕ) (bytes : List ℕ) (log : List LogEntry) → IsOpen c (log ++ Heard (Opened c) ∷ [] ++ Sent c bytes ∷ [])
 sent_open c bytes log = open_more c false (log ++ Heard (Opened c) ∷ []) (Sent c bytes) ∙ opened_open c log
 
-pub torn_open : (c : ℕ) (bytes : List ℕ) (log : List LogEntry) → IsOpen c (log ++ Heard (Opened c) ∷ [] ++ Torn c bytes ∷ [])
-torn_open c bytes log = open_more c false (log ++ Heard (Opened c) ∷ []) (Torn c bytes) ∙ opened_open c log
+pub torn_open : (c : ℕ) (bytes : List ℕ) (size : ℕ) (log : List LogEntry) → IsOpen c (log ++ Heard (Opened c) ∷ [] ++ Torn c bytes size ∷ [])
+torn_open c bytes size log = open_more c false (log ++ Heard (Opened c) ∷ []) (Torn c bytes size) ∙ opened_open c log

@@ -11,7 +11,7 @@ use Rattle.cube_serving.proofs.Started.{opened, still_open}
 use Rattle.cube_serving.proofs.Sealing.{seal_is_other}
 use Rattle.cube_opening.proofs.Accepted.{all_accepted}
 use Rattle.cube_opening.proofs.Ended.{not_nine}
-use Rattle.cube_app.proofs.Lives.{moment_of, survived}
+use Rattle.cube_app.proofs.Lives.{moment_of, survived, held_lines}
 use Rattle.cube_app.proofs.Worlds.{hides}
 use Rattle.cube_app.proofs.run.ask.Goals as goal
 
@@ -54,6 +54,7 @@ returns-clause-answers g c =
         last_is = refl;
         hides = hides core policy h talk input out c.dims-rules.ensures.rules c.in-Ok.ensures.rules at_start.admissible served.talked;
         survived = λ told. survived core policy h j c.args.stated last end mid store y.log (subst IsTrue (sym y.opens.told) told) (y.exact told) (y.crash told) served;
+        held = λ told. held_lines core policy h j c.args.stated last end mid store y.log (subst IsTrue (sym y.opens.told) told) (y.exact told) (y.crash told) served;
         failed = subst (λ n. RoseBy (faults_in last.outcomes) n (g.S.Store.state new).faults) y.steady served.risen;
         fresh = served.fresh;
       },

@@ -22,6 +22,7 @@ returns-in-Asked-clause-endures g c = let a = c.answer.ensures in
       passed = a.passed;
       within = a.within;
       exact = a.exact;
+      in_hand = a.in_hand;
       others = a.others;
     })
 

@@ -10,7 +10,7 @@ use Rattle.cube_opening.proofs.Ended as ended
 use Rattle.cube_script.specs.Playing.{Playing, has_torn}
 use Rattle.cube_serving.specs.Replaying.{script_said, wire_of, room_for_sends}
 use Rattle.cube_serving.proofs.OpenGroups.{only_sixteen, seal_left, served, unserved}
-use Rattle.cube_serving.proofs.Played.{whole, unfailed, writes, finished, no_wire_failed, ends_none, ends_whole, rose_from, same_room}
+use Rattle.cube_serving.proofs.Played.{whole, overran, unfailed, writes, finished, no_wire_failed, ends_none, ends_whole, rose_from, same_room}
 use Rattle.cube_serving.proofs.Unruled as unruled
 use Rattle.cube_serving.proofs.Unstarted as unstarted
 use Rattle.cube_serving.proofs.commands.replay_grouped.Goals as goal
@@ -123,6 +123,7 @@ returns-clause-answers g c =
     let plan = z.plays.plan in
     let playing = c.taken-taken.ensures.playing in
     let plays : wire.script ≡ (wire_of script.0).script = ap (λ (p : Plan). p.events) plan ∙ ap (λ (v : Playing). v.script) script.1 in
+    let most = same_room wire.most room_for_sends (ap (λ (p : Plan). p.sends) plan ∙ ap (λ (v : Playing). v.most.sends) script.1) (ap (λ (p : Plan). p.bytes) plan ∙ ap (λ (v : Playing). v.most.bytes) script.1) in
     let files = seen g.F.Folder.state c.args.files.now c.open_script.new.files in
     let behind : GotBehind (ruled_names cube f.ok.0 ++ c.args.script_name.now ∷ []) files = record { asked = asked_then (ruled_names cube f.ok.0) (c.args.script_name.now ∷ []) g.F.Folder.state c.args.files.now c.open_ruled.new.files c.open_script.new.files f.ok.2.asked s.asks; steady = s.reads.steady ∙ f.ok.2.steady } in
     inr (inr (inr (record {
@@ -133,13 +134,14 @@ returns-clause-answers g c =
       outcomes_are = c.report_play.ensures.outcomes ∙ c.finish.ensures ∙ sym w.outcomes;
       end = end;
       said = subst (λ (fs : Option (List (List ℕ × List ℕ))). IfSome fs (λ known. FileSays script_said c.args.script_name.now known (Ok script.0))) f.reads.files script.3;
-      plays = (plays, same_room wire.most room_for_sends (ap (λ (p : Plan). p.sends) plan ∙ ap (λ (v : Playing). v.most.sends) script.1) (ap (λ (p : Plan). p.bytes) plan ∙ ap (λ (v : Playing). v.most.bytes) script.1));
+      plays = (plays, most);
       playing = playing;
       served = served cube (c.args.script_name.now ∷ []) files f.ok.0 ruled.core ruled.facts ruled.groups tells old mid e.books f.ok.1 f.digest behind y.ok y.over y.rules y.agreed y.sealed y.seals new e last end
           true true wire.log refl refl (seal_left ruled.core tells old mid new ruled.groups e.books f.rules.few y.ok y.told z.others) y.told y.steady y.passed w z.asks;
       whole = λ u is. (
           let some = ends_whole end u _ _ wire.log w.wired.ended is in
           whole script.0 some.0 wire.log (playing.events).0 (sym plays ∙ (playing.events).1) script.2 some.1);
+      cause = overran wire _ _ _ room_for_sends playing most (w.wired.tells refl).served;
       unfailed = unfailed wire script.0 end playing plays (ap (λ (p : Plan). p.refused) plan ∙ ap (λ (v : Playing). v.spilled) script.1)
           (λ failed. rose_from begun.faults wire.faults (ap (λ (v : Playing). v.faults) script.1) (z.failed failed)) (ends_none end _ _ wire.log w.wired.ended);
       writes = writes c.write_log-written.result end wire.log c.finish.result out c.report_play.result c.report_play.ensures.outcomes c.write_log-written.ensures.ok c.write_log-written.ensures.err c.report_play.ensures.put c.report_play.ensures.unput;

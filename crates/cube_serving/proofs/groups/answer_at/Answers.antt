@@ -24,6 +24,8 @@ returns-clause-turn g c =
       exact = said.exact;
       within = said.within;
       crash = said.crash;
+      in_hand = said.in_hand;
+      renewed = said.renewed;
     } in
     turned c.args.books.now.items old new c.args.place c.args.ask.now c.answer.result.0 c.answer.result.1 before now c.requires.order c.requires.place c.index_mut.ensures.value refl answer c.requires.kept
 
@@ -48,5 +50,7 @@ returns-clause-untouched g c = λ same.
       exact = said.exact;
       within = said.within;
       crash = said.crash;
+      in_hand = said.in_hand;
+      renewed = said.renewed;
     } in
     said.untouched (leaving c.args.books.now.items old new c.args.place c.args.ask.now c.answer.result.0 c.answer.result.1 before now c.requires.order c.requires.place c.index_mut.ensures.value refl answer same)

@@ -10,7 +10,7 @@ use Rattle.cube_opening.proofs.Behind.{asked_then, ends_behind}
 use Rattle.cube_script.specs.Playing.{Playing, has_torn}
 use Rattle.cube_serving.specs.Serving.{asking}
 use Rattle.cube_serving.specs.Replaying.{script_said, wire_of, room_for_sends}
-use Rattle.cube_serving.proofs.Played.{whole, unfailed, writes, finished, no_wire_failed, ends_none, ends_whole, rose_from, same_room}
+use Rattle.cube_serving.proofs.Played.{whole, overran, unfailed, writes, finished, no_wire_failed, ends_none, ends_whole, rose_from, same_room}
 use Rattle.cube_serving.proofs.Started.{opened, still_open}
 use Rattle.cube_opening.proofs.Ended as unopened
 use Rattle.cube_serving.proofs.Wired.{served}
@@ -33,7 +33,7 @@ returns-clause-complete g c = λ all has kept some files store out.
     let end = c.serve_engine-end.result in
     let plan = c.serve_engine-end.ensures.plays.plan in
     let none = unfailed wire script.0 end c.taken-taken.ensures.playing (ap (λ (p : Plan). p.events) plan ∙ ap (λ (w : Playing). w.script) script.1) (ap (λ (p : Plan). p.refused) plan ∙ ap (λ (w : Playing). w.spilled) script.1)
-    (λ failed. rose_from begun.faults wire.faults (ap (λ (w : Playing). w.faults) script.1) (c.serve_engine-end.ensures.failed failed)) (ends_none end _ _ wire.log c.serve_engine-end.ensures.wired.ended) in
+    (λ failed. rose_from begun.faults wire.faults (ap (λ (w : Playing). w.faults) script.1) (c.serve_engine-end.ensures.failed failed)) (ends_none end _ _ wire.log c.serve_engine-end.ensures.wired.wired.ended) in
     finished c.write_log-written.result (has_torn wire.log) end c.report_play.result _ _ c.report_play.ensures.put c.write_log-written.ensures.cause.failed out some none
 
 pub returns-clause-wire : goal.returns-clause-wire
@@ -44,7 +44,7 @@ returns-clause-wire g c =
     let end = c.serve_engine-end.result in
     let plan = c.serve_engine-end.ensures.plays.plan in
     let none = unfailed wire script.0 end c.taken-taken.ensures.playing (ap (λ (p : Plan). p.events) plan ∙ ap (λ (w : Playing). w.script) script.1) (ap (λ (p : Plan). p.refused) plan ∙ ap (λ (w : Playing). w.spilled) script.1)
-    (λ failed. rose_from begun.faults wire.faults (ap (λ (w : Playing). w.faults) script.1) (c.serve_engine-end.ensures.failed failed)) (ends_none end _ _ wire.log c.serve_engine-end.ensures.wired.ended) in
+    (λ failed. rose_from begun.faults wire.faults (ap (λ (w : Playing). w.faults) script.1) (c.serve_engine-end.ensures.failed failed)) (ends_none end _ _ wire.log c.serve_engine-end.ensures.wired.wired.ended) in
     no_wire_failed c.write_log-written.result (has_torn wire.log) end c.report_play.result _ _ c.report_play.ensures.put c.report_play.ensures.unput none
 
 pub returns-in-Err-open_script-clause-answers : goal.returns-in-Err-open_script-clause-answers
@@ -126,6 +126,7 @@ returns-clause-answers g c =
     let plan = x.plays.plan in
     let playing = c.taken-taken.ensures.playing in
     let plays : wire.script ≡ (wire_of script.0).script = ap (λ (p : Plan). p.events) plan ∙ ap (λ (w : Playing). w.script) script.1 in
+    let most = same_room wire.most room_for_sends (ap (λ (p : Plan). p.sends) plan ∙ ap (λ (w : Playing). w.most.sends) script.1) (ap (λ (p : Plan). p.bytes) plan ∙ ap (λ (w : Playing). w.most.bytes) script.1) in
     let at_start = opened c.args.cube.now (g.F.Folder.state c.args.files.now) tells c.args.store.now mid guarded.core guarded.policy guarded.facts e c.args.stated files.ok.1 files.digest y.engine y.rules y.history y.agreed y.sealed y.seals in
     inr (inr (inr (
       record {
@@ -136,16 +137,17 @@ returns-clause-answers g c =
         outcomes_are = c.report_play.ensures.outcomes ∙ c.finish.ensures;
         end = end;
         said = subst (λ (fs : Option (List (List ℕ × List ℕ))). IfSome fs (λ known. FileSays script_said c.args.script_name.now known (Ok script.0))) files.reads.files script.3;
-        plays = (plays, same_room wire.most room_for_sends (ap (λ (p : Plan). p.sends) plan ∙ ap (λ (w : Playing). w.most.sends) script.1) (ap (λ (p : Plan). p.bytes) plan ∙ ap (λ (w : Playing). w.most.bytes) script.1));
+        plays = (plays, most);
         playing = playing;
         served = served c.args.cube.now (g.F.Folder.state c.args.files.now) (tells mid) (seen tells c.args.store.now new) end true true wire.log guarded.core guarded.policy guarded.facts e last c.args.stated
             (still_open c.args.cube.now (g.F.Folder.state c.args.files.now) tells c.args.store.now mid new guarded.core guarded.policy guarded.facts e.history (λ told. x.others (subst IsTrue (sym y.opens.told) told) SEAL_LOG (λ zero. cc)) at_start)
-            y.engine y.exact y.crash refl x.wired (λ told exact crash. x.survived (subst IsTrue (sym y.opens.told) told) exact c.args.store.now crash (sym y.opens.told)) y.steady x.asks;
+            y.engine y.exact y.crash refl x.wired.wired (λ told exact crash. x.wired.held (subst IsTrue (sym y.opens.told) told) exact c.args.store.now crash (sym y.opens.told)) (λ told exact crash. x.survived (subst IsTrue (sym y.opens.told) told) exact c.args.store.now crash (sym y.opens.told)) y.steady x.asks;
         whole = λ u is. (
-            let some = ends_whole end u _ _ wire.log x.wired.ended is in
+            let some = ends_whole end u _ _ wire.log x.wired.wired.ended is in
             whole script.0 some.0 wire.log (playing.events).0 (sym plays ∙ (playing.events).1) script.2 some.1);
+        cause = overran wire _ _ _ room_for_sends playing most (x.wired.wired.tells refl).served;
         unfailed = unfailed wire script.0 end playing plays (ap (λ (p : Plan). p.refused) plan ∙ ap (λ (w : Playing). w.spilled) script.1)
-            (λ failed. rose_from begun.faults wire.faults (ap (λ (w : Playing). w.faults) script.1) (x.failed failed)) (ends_none end _ _ wire.log x.wired.ended);
+            (λ failed. rose_from begun.faults wire.faults (ap (λ (w : Playing). w.faults) script.1) (x.failed failed)) (ends_none end _ _ wire.log x.wired.wired.ended);
         writes = writes c.write_log-written.result end wire.log c.finish.result out c.report_play.result c.report_play.ensures.outcomes c.write_log-written.ensures.ok c.write_log-written.ensures.err c.report_play.ensures.put c.report_play.ensures.unput;
       },
       record { asked = asked_then (names_of c.args.cube.now) (c.args.script_name.now ∷ []) g.F.Folder.state c.args.files.now c.open_guarded.new.files c.open_script.new.files files.behind.asked z.asks; steady = z.reads.steady ∙ files.behind.steady },

@@ -32,7 +32,7 @@ returns-clause-answers g c =
         end = end;
         served = served c.args.cube.now (g.F.Folder.state c.args.files.now) (tells mid) (seen tells c.args.store.now new) end (g.W.Wire.state c.args.wire.now).told (g.W.Wire.state c.listen.new.self).told (g.W.Wire.state c.serve_engine-end.new.wire).log guarded.core guarded.policy guarded.facts e last c.args.stated
             (still_open c.args.cube.now (g.F.Folder.state c.args.files.now) tells c.args.store.now mid new guarded.core guarded.policy guarded.facts e.history (λ told. x.others (subst IsTrue (sym y.opens.told) told) SEAL_LOG (λ zero. cc)) at_start)
-            y.engine y.exact y.crash c.in-Ok-listen.ensures.told x.wired (λ told exact crash. x.survived (subst IsTrue (sym y.opens.told) told) exact c.args.store.now crash (sym y.opens.told)) y.steady x.asks;
+            y.engine y.exact y.crash c.in-Ok-listen.ensures.told x.wired.wired (λ told exact crash. x.wired.held (subst IsTrue (sym y.opens.told) told) exact c.args.store.now crash (sym y.opens.told)) (λ told exact crash. x.survived (subst IsTrue (sym y.opens.told) told) exact c.args.store.now crash (sym y.opens.told)) y.steady x.asks;
         status = c.report_serving.ensures.status;
         text = c.report_serving.ensures.text;
       },

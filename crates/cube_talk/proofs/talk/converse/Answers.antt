@@ -48,13 +48,13 @@ reads-preserved g c =
     let s = c.reads.invariant.talks in
     let long = sym (length-take-le c.in-Ok.count c.read_piece.new.buf (c.in-Ok.ensures.bound).0) in
     record {
-      talks = stands_more (speech g) c.args.responder.now c.reads.responder c.hear_piece.new.responder c.args.store.now c.reads.store c.hear_piece.new.store (g.I.Source.state c.args.input.now).left (g.I.Source.state c.reads.input).left
-          (g.I.Source.state c.read_piece.new.input).left (g.O.Sink.state c.args.out.now).written (g.O.Sink.state c.reads.out).written (g.O.Sink.state c.hear_piece.new.out).written c.reads.carry c.hear_piece.new.carry
-          (take c.in-Ok.count c.read_piece.new.buf) c.reads.bytes c.in-Ok.count s c.in-Ok.ensures.bytes long (c.hear_piece.ensures.all c.in-None.is _ s.kept);
+      talks = stands_more (speech g) c.args.responder.now c.reads.responder c.take_piece.new.responder c.args.store.now c.reads.store c.take_piece.new.store (g.I.Source.state c.args.input.now).left (g.I.Source.state c.reads.input).left
+          (g.I.Source.state c.read_piece.new.input).left (g.O.Sink.state c.args.out.now).written (g.O.Sink.state c.reads.out).written (g.O.Sink.state c.take_piece.new.out).written c.reads.carry c.take_piece.new.carry
+          (take c.in-Ok.count c.read_piece.new.buf) c.reads.bytes c.in-Ok.count s c.in-Ok.ensures.bytes long (c.take_piece.ensures.all c.in-None.is _ s.kept);
       few_bytes = omega (arith, (c.in-Ok.ensures.bound).1, c.reads-test.true);
-      stands = c.hear_piece.ensures.stands;
-      going = (c.hear_piece.ensures.going c.in-None.is).0;
-      empty = (c.hear_piece.ensures.going c.in-None.is).1;
+      stands = c.take_piece.ensures.stands;
+      going = (c.take_piece.ensures.going c.in-None.is).0;
+      empty = (c.take_piece.ensures.going c.in-None.is).1;
       input_steady = c.in-Ok.ensures.cause.steady ∙ c.reads.invariant.input_steady;
       output_steady = c.in-None.ensures.faults.steady (λ e. cc) ∙ c.reads.invariant.output_steady;
     }
@@ -63,8 +63,8 @@ pub returns-in-Some-clause-conversed : goal.returns-in-Some-clause-conversed
 returns-in-Some-clause-conversed g c =
     let s = c.reads.invariant.talks in
     let long = sym (length-take-le c.in-Ok.count c.read_piece.new.buf (c.in-Ok.ensures.bound).0) in
-    piece_ends (speech g) c.in-Some.ending (g.R.Responder.done c.hear_piece.new.responder) g.R.Responder.lacks c.args.responder.now c.reads.responder c.hear_piece.new.responder c.args.store.now c.reads.store c.hear_piece.new.store
-    (seen g.I.Source.state c.args.input.now c.read_piece.new.input) (seen g.O.Sink.state c.args.out.now c.hear_piece.new.out) (g.I.Source.state c.reads.input).left (g.O.Sink.state c.reads.out).written c.reads.carry
+    piece_ends (speech g) c.in-Some.ending (g.R.Responder.done c.take_piece.new.responder) g.R.Responder.lacks c.args.responder.now c.reads.responder c.take_piece.new.responder c.args.store.now c.reads.store c.take_piece.new.store
+    (seen g.I.Source.state c.args.input.now c.read_piece.new.input) (seen g.O.Sink.state c.args.out.now c.take_piece.new.out) (g.I.Source.state c.reads.input).left (g.O.Sink.state c.reads.out).written c.reads.carry
     (take c.in-Ok.count c.read_piece.new.buf) c.reads.bytes c.in-Ok.count s c.in-Ok.ensures.bytes long (c.in-Some.ensures.some _ s.kept) c.in-Some.ensures.stops
 
 pub returns-clause-conversed : goal.returns-clause-conversed

@@ -8,7 +8,7 @@ pub returns-in-Some-clause-said : goal.returns-in-Some-clause-said
 returns-in-Some-clause-said g c = λ some n.
     let said = rw (c.requires.empty, c.as_slice-2.ensures) at c.answer_line-heard.ensures.said in
     line_settled g.R.Responder.says c.answer_line-heard.result c.in-Some.ending c.args.responder.now c.answer_line-heard.new.responder c.args.store.now c.answer_line-heard.new.store c.args.carry.now
-    c.answer_line-heard.new.replies (g.O.Sink.state c.args.out.now).written (g.O.Sink.state c.answer_line-heard.new.out).written (g.O.Sink.state c.settle.new.out).written c.in-Some.ensures.follows n
+    c.answer_line-heard.new.replies (g.O.Sink.state c.args.out.now).written (g.O.Sink.state c.answer_line-heard.new.out).written (g.O.Sink.state c.flush_heard.new.out).written c.in-Some.ensures.follows n
     (λ m e. c.in-Some.ensures.quiet ((c.answer_line-heard.ensures.memory m).2 ∙ c.requires.empty) (λ o. cc) (ap Some e)) said c.in-Some.ensures.puts
 
 pub returns-in-Some-clause-memory : goal.returns-in-Some-clause-memory

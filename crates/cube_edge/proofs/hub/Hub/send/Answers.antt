@@ -3,7 +3,7 @@ use Rattle.cube_edge.proofs.Tying.{send_takes, send_then, no_send_takes, same_ke
 use Rattle.cube_edge.proofs.hub.Hub.send.Goals as goal
 
 pub returns-in_default-clause-takes : goal.returns-in_default-clause-takes
-returns-in_default-clause-takes g c = no_send_takes c.args.c (g.S.Sockets.state c.args.self.now.sockets) (g.S.Sockets.state c.begin.new.self.sockets) c.args.self.now.links.items c.begin.new.self.links.items c.begin.ensures.keeps
+returns-in_default-clause-takes g c = no_send_takes c.args.c (length c.args.piece.now) (g.S.Sockets.state c.args.self.now.sockets) (g.S.Sockets.state c.begin.new.self.sockets) c.args.self.now.links.items c.begin.new.self.links.items c.begin.ensures.keeps
 
 pub returns-then-not-is_open-clause-takes : goal.returns-then-not-is_open-clause-takes
 returns-then-not-is_open-clause-takes g c =
@@ -11,7 +11,7 @@ returns-then-not-is_open-clause-takes g c =
     let few : c.args.c < length hub.links.items = search rules in
     let is : c.in-Some.link.now ≡ get_or hub.links.items c.args.c c.in-Some.link.now = search rules in
     let stays = same_keeps c.args.c (g.S.Sockets.state hub.sockets) hub.links.items c.in-Some.link.now few is in
-    no_send_takes c.args.c (g.S.Sockets.state c.args.self.now.sockets) (g.S.Sockets.state hub.sockets) c.args.self.now.links.items (slice_set hub.links.items c.args.c c.in-Some.link.now)
+    no_send_takes c.args.c (length c.args.piece.now) (g.S.Sockets.state c.args.self.now.sockets) (g.S.Sockets.state hub.sockets) c.args.self.now.links.items (slice_set hub.links.items c.args.c c.in-Some.link.now)
     (keeps_then (g.S.Sockets.state c.args.self.now.sockets) (g.S.Sockets.state hub.sockets) (g.S.Sockets.state hub.sockets) c.args.self.now.links.items hub.links.items (slice_set hub.links.items c.args.c c.in-Some.link.now) c.begin.ensures.told c.begin.ensures.keeps stays)
 
 pub returns-clause-takes : goal.returns-clause-takes

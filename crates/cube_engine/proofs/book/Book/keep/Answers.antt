@@ -1,12 +1,15 @@
-use Rattle.std.proofs.Common.{◌≡◌, ◌+◌, List, [], ◌∷◌, ◌++◌, length, Some, IsTrue, ap, sym, ◌∙◌, subst, arith}
+use Rattle.std.proofs.Common.{◌≡◌, ◌+◌, List, [], ◌∷◌, ◌++◌, length, Option, Some, inl, inr, IsTrue, ap, sym, ◌∙◌, subst, arith}
 use Rattle.cube_model.specs.declared.entry.Entry.{Entry}
 use Rattle.cube_model.specs.declared.entry.Entry.TheVariants.{Asked}
+use Rattle.cube_model.specs.declared.request.Request.{Request}
 use Rattle.cube_model.specs.Entries.{requests}
 use Rattle.cube_admit.proofs.Standing.{requests-push}
+use Rattle.cube_io.specs.Desks.{LeavesAll, IsOneOf}
 use Rattle.cube_io.specs.States.{Gained}
-use Rattle.cube_engine.specs.Books.{Book, Holding, IsWaiting}
-use Rattle.cube_engine.specs.Kept.{IsKept, IsExact, IsWithin}
-use Rattle.cube_engine.proofs.Logs.{has_entered, keep_crash, keep_done, keep_exact, keep_failed}
+use Rattle.cube_rollup.specs.Rollups.{entry_of}
+use Rattle.cube_engine.specs.Books.{Book, Holding, IsWaiting, entry_waiting}
+use Rattle.cube_engine.specs.Kept.{IsKept, GivesHistory, IsExact, IsWithin}
+use Rattle.cube_engine.proofs.Logs.{has_entered, keep_crash, keep_done, keep_exact, keep_failed, keep_in_hand}
 use Rattle.cube_engine.proofs.book.Book.keep.Goals as goal
 
 pub invariant_of-self : goal.invariant_of-self
@@ -65,3 +68,21 @@ returns-in-Err-clause-crash g c =
     let holds = subst (λ (b : Book). IsWaiting b c.args.line.now) (sym c.self.view_is) c.requires.waits in
     subst (λ (b : Book). IsTrue (g.S.Store.state c.args.store.now).told → Gained (IsWithin b.core b.policy b.history) ((g.S.Store.state c.args.store.now).logs b.journal.log) ((g.S.Store.state c.keep.new.store).logs b.journal.log)) c.self.view_is
     (λ told. keep_crash x.holding.core x.holding.policy x.holding.history x.journal ((g.S.Store.state c.args.store.now).logs x.journal.log) ((g.S.Store.state c.keep.new.store).logs x.journal.log) holds.request c.args.line.now c.core-rules.ensures.rules.dims (kept told) holds.may holds.is_line (c.keep.ensures.states told))
+
+pub returns-in-Ok-clause-in_hand : goal.returns-in-Ok-clause-in_hand
+returns-in-Ok-clause-in_hand g c =
+    let x = c.self.inside in
+    let kept = subst (λ (b : Book). IsTrue (g.S.Store.state c.args.store.now).told → IsKept b.core b.policy b.history b.journal ((g.S.Store.state c.args.store.now).logs b.journal.log).state) (sym c.self.view_is) c.requires.kept in
+    let holds = subst (λ (b : Book). IsWaiting b c.args.line.now) (sym c.self.view_is) c.requires.waits in
+    subst (λ (b : Book). IsTrue (g.S.Store.state c.args.store.now).told → LeavesAll (GivesHistory b.core b.policy) (IsOneOf b.history (b.history ++ entry_waiting b)) ((g.S.Store.state c.args.store.now).logs b.journal.log) ((g.S.Store.state c.keep.new.store).logs b.journal.log)) c.self.view_is
+    (λ told. subst (λ (o : Option Request). LeavesAll (GivesHistory x.holding.core x.holding.policy) (IsOneOf x.holding.history (x.holding.history ++ entry_of o)) ((g.S.Store.state c.args.store.now).logs x.journal.log) ((g.S.Store.state c.keep.new.store).logs x.journal.log)) (sym holds.waits)
+    (keep_in_hand x.holding.core x.holding.policy x.holding.history x.journal ((g.S.Store.state c.args.store.now).logs x.journal.log) ((g.S.Store.state c.keep.new.store).logs x.journal.log) holds.request c.args.line.now c.core-rules.ensures.rules.dims (kept told) holds.may holds.is_line (c.keep.ensures.states told) (inr (c.in-Ok.ensures.ok told))))
+
+pub returns-in-Err-clause-in_hand : goal.returns-in-Err-clause-in_hand
+returns-in-Err-clause-in_hand g c =
+    let x = c.self.inside in
+    let kept = subst (λ (b : Book). IsTrue (g.S.Store.state c.args.store.now).told → IsKept b.core b.policy b.history b.journal ((g.S.Store.state c.args.store.now).logs b.journal.log).state) (sym c.self.view_is) c.requires.kept in
+    let holds = subst (λ (b : Book). IsWaiting b c.args.line.now) (sym c.self.view_is) c.requires.waits in
+    subst (λ (b : Book). IsTrue (g.S.Store.state c.args.store.now).told → LeavesAll (GivesHistory b.core b.policy) (IsOneOf b.history (b.history ++ entry_waiting b)) ((g.S.Store.state c.args.store.now).logs b.journal.log) ((g.S.Store.state c.keep.new.store).logs b.journal.log)) c.self.view_is
+    (λ told. subst (λ (o : Option Request). LeavesAll (GivesHistory x.holding.core x.holding.policy) (IsOneOf x.holding.history (x.holding.history ++ entry_of o)) ((g.S.Store.state c.args.store.now).logs x.journal.log) ((g.S.Store.state c.keep.new.store).logs x.journal.log)) (sym holds.waits)
+    (keep_in_hand x.holding.core x.holding.policy x.holding.history x.journal ((g.S.Store.state c.args.store.now).logs x.journal.log) ((g.S.Store.state c.keep.new.store).logs x.journal.log) holds.request c.args.line.now c.core-rules.ensures.rules.dims (kept told) holds.may holds.is_line (c.keep.ensures.states told) (inl (c.in-Err.ensures.err told))))

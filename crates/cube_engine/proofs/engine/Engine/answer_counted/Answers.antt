@@ -1,9 +1,11 @@
-use Rattle.std.proofs.Common.{◌≡◌, ap, ◌∙◌, subst}
+use Rattle.std.proofs.Common.{◌≡◌, ◌≢◌, ap, ◌∙◌, subst, IsTrue, [], ◌∷◌, ◌++◌}
+use Rattle.cube_model.specs.declared.outcome.Outcome.{Outcome}
+use Rattle.cube_model.specs.declared.outcome.Outcome.TheVariants.{JournalFault}
 use Rattle.cube_model.specs.Cores.{Core}
 use Rattle.cube_model.specs.Dims.{IsDims}
 use Rattle.cube_io.specs.Desks.{Answered}
-use Rattle.cube_engine.specs.Books.{Book}
-use Rattle.cube_engine.specs.Engines.{Engine, rooms_of}
+use Rattle.cube_engine.specs.Books.{Book, IsRenewed}
+use Rattle.cube_engine.specs.Engines.{Engine, book_of, rooms_of}
 use Rattle.cube_engine.specs.Kept.{IsWithin}
 use Rattle.cube_engine.specs.Steps.{manner}
 use Rattle.cube_engine.specs.Worlds.{Opens}
@@ -15,7 +17,7 @@ use Rattle.cube_engine.proofs.engine.Engine.answer_counted.Goals as goal
 pub returns-clause-answered : goal.returns-clause-answered
 returns-clause-answered g c =
     let x = c.self.inside in
-    let s = c.settle-reply in
+    let s = c.conclude-reply in
     let new : Engine = record { core = s.new.book.core; policy = s.new.book.policy; history = s.new.book.history; journal = s.new.book.journal; outcomes = c.record.new.self.outcomes; left = c.record.new.self.left } in
     let ask = c.args.ask.now in
     let before = (g.S.Store.state c.args.store.now).faults in
@@ -26,7 +28,7 @@ returns-clause-answered g c =
 pub returns-clause-two_worlds : goal.returns-clause-two_worlds
 returns-clause-two_worlds g c =
     let x = c.self.inside in
-    let s = c.settle-reply in
+    let s = c.conclude-reply in
     let old : Engine = record { core = x.book.core; policy = x.book.policy; history = x.book.history; journal = x.book.journal; outcomes = x.turns.outcomes; left = x.turns.left } in
     let new : Engine = record { core = s.new.book.core; policy = s.new.book.policy; history = s.new.book.history; journal = s.new.book.journal; outcomes = c.record.new.self.outcomes; left = c.record.new.self.left } in
     let ask = c.args.ask.now in
@@ -42,10 +44,22 @@ returns-clause-two_worlds g c =
 
 pub returns-clause-within : goal.returns-clause-within
 returns-clause-within g c = λ told.
-    let s = c.settle-reply in
+    let s = c.conclude-reply in
     let b = c.prepare-prepared.new.book in
     let logs = (g.S.Store.state s.new.store).logs in
     let dims = subst (λ (k : Core). IsDims k.dims) s.ensures.core c.core-rules.ensures.rules.core.dims in
     let within = kept_within b.core b.policy s.new.book.history s.new.book.journal (logs b.journal.log).state dims (s.ensures.kept told) in
     subst (λ (e : Engine). IsWithin e.core e.policy s.new.book.history (logs e.journal.log).state) c.self.view_is
     (subst (λ (a : Book). IsWithin a.core a.policy s.new.book.history (logs a.journal.log).state) c.prepare-prepared.ensures.same within)
+
+pub returns-clause-renewed : goal.returns-clause-renewed
+returns-clause-renewed g c =
+    let x = c.self.inside in
+    let s = c.conclude-reply in
+    let before = g.S.Store.state c.args.store.now in
+    let now = g.S.Store.state s.new.store in
+    subst
+    (λ (e : Engine). c.record.new.self.outcomes ≢ e.outcomes ++ JournalFault ∷ [] → IsTrue before.told → IsRenewed (book_of e) s.new.book.history (before.logs e.journal.log) (now.logs e.journal.log))
+    c.self.view_is
+    (λ fine told. subst (λ (a : Book). IsRenewed a s.new.book.history (before.logs a.journal.log) (now.logs a.journal.log)) c.prepare-prepared.ensures.same
+    (s.ensures.renewed (λ failed. fine (c.record.ensures.outcomes ∙ ap (λ (o : Outcome). x.turns.outcomes ++ o ∷ []) failed)) told))

@@ -18,7 +18,7 @@ overflow_add-self c = omega (arith, c.entries_owed.ensures, (next_room _ _ (play
 pub invariant_of-self : goal.invariant_of-self
 invariant_of-self c =
     let e = c.play_event-event.ensures in
-    rw c.entries_owed.ensures (ready_next _ _ (played c.in-Some.play.now) c.play_event-event.new.scroll c.self.invariant.0 (rw c.deref.ensures.value at c.in-Some.ensures.some.1) e.log e.entries e.bytes, c.self.invariant.1)
+    rw c.entries_owed.ensures (ready_next _ _ (played c.in-Some.play.now) c.play_event-event.new.scroll c.self.invariant.0 c.in-Some.ensures.some.0 (rw c.deref.ensures.value at c.in-Some.ensures.some.1) e.log e.entries e.bytes, c.self.invariant.1)
 
 pub returns-in-Some-clause-plays : goal.returns-in-Some-clause-plays
 returns-in-Some-clause-plays c =

@@ -6,7 +6,7 @@ use Rattle.cube_talk.proofs.replies.Replies.put_reply.Goals as goal
 
 pub returns-in_err-put-clause-err : goal.returns-in_err-put-clause-err
 returns-in_err-put-clause-err g c =
-    let head = c.write_head-end.ensures.written in
+    let head = c.write_prefix-end.ensures.written in
     let body = c.body_of-body.ensures in
     let status = c.status_of.ensures in
     let x : AppendsPrefix (g.O.Sink.state c.args.out.now).written (g.O.Sink.state c.put.new.out).written (c.args.self.now ++ reply_text c.args.reply.now) =
@@ -15,7 +15,7 @@ returns-in_err-put-clause-err g c =
 
 pub returns-in_err-put-2-clause-err : goal.returns-in_err-put-2-clause-err
 returns-in_err-put-2-clause-err g c =
-    let head = c.write_head-end.ensures.written in
+    let head = c.write_prefix-end.ensures.written in
     let body = c.body_of-body.ensures in
     let status = c.status_of.ensures in
     let x : AppendsPrefix (g.O.Sink.state c.args.out.now).written (g.O.Sink.state c.put-2.new.out).written (c.args.self.now ++ reply_text c.args.reply.now) =
@@ -24,7 +24,7 @@ returns-in_err-put-2-clause-err g c =
 
 pub returns-clause-ok : goal.returns-clause-ok
 returns-clause-ok g c =
-    let head = c.write_head-end.ensures.written in
+    let head = c.write_prefix-end.ensures.written in
     let body = c.body_of-body.ensures in
     let status = c.status_of.ensures in
     spoke_then (head_text _ _) _ c.args.self.now c.put.new.self _ _ _ _ (rw (head, status, body) at c.in_ok-put.ensures.ok) (rw body at c.in_ok-put-2.ensures.ok)
