@@ -14,28 +14,44 @@ class Draws:
         return (self.number >> 32) % end
 
 
+# the dimension file is laid out as TOML tables are printed
 HEAD = """[[dimension]]
+levels = [
+    "branch",
+    "region",
+]
 name = "branch"
-levels = ["branch", "region"]
-paths = [
-"""
-MONTHS = "".join(f'  ["m{month}", "q{(month + 2) // 3}"],\n' for month in range(1, 13))
-OTHERS = f"""]
+paths = ["""
+
+
+def path(*members):
+    """A path of two members among others."""
+    return "\n    [\n" + "".join(f'    "{member}",\n' for member in members) + "],"
+
+
+MONTHS = "".join(path(f"m{month}", f"q{(month + 2) // 3}") for month in range(1, 13))
+GRADES = "".join(f'    ["g{grade}"],\n' for grade in range(6))
+OTHERS = f"""
+]
 
 [[dimension]]
+levels = [
+    "month",
+    "quarter",
+]
 name = "month"
-levels = ["month", "quarter"]
-paths = [
-{MONTHS}]
+paths = [{MONTHS}
+]
 
 [[dimension]]
-name = "grade"
 levels = ["grade"]
-paths = [["g0"], ["g1"], ["g2"], ["g3"], ["g4"], ["g5"]]
+name = "grade"
+paths = [
+{GRADES}]
 
 [[measure]]
-name = "pay"
 decimals = 2
+name = "pay"
 
 [[measure]]
 name = "hours"
@@ -94,7 +110,7 @@ def query(draws, size):
 def make(number, size):
     """The files of the cube, and the queries, each with a line feed."""
     draws = Draws(number)
-    paths = "".join(f'  ["b{branch}", "r{branch % (5 * size)}"],\n' for branch in range(40 * size))
+    paths = "".join(path(f"b{branch}", f"r{branch % (5 * size)}") for branch in range(40 * size))
     facts = "branch,month,grade,pay,hours,bonus\n" + "".join(fact(draws, size, place) for place in range(20_000 * size))
     queries = "".join(f"{query(draws, size)}\n" for _ in range(200 * size))
     return {"dims": HEAD + paths + OTHERS, "facts": facts, "policy": POLICY}, queries
@@ -142,7 +158,7 @@ range hours branch.branch=b54..b76, month.month=m11..m11, grade.grade=g0..g3
 """,
     ),
 )
-BEGIN_DIMS = '[[dimension]]\nname = "branch"\nlevels = ["branch", "region"]\npaths = [\n  ["b0", "r0"],\n  ["b1", "r1"],\n'
+BEGIN_DIMS = '[[dimension]]\nlevels = [\n    "branch",\n    "region",\n]\nname = "branch"\npaths = [\n    [\n    "b0",\n    "r0",\n],\n'
 BEGIN_POLICY = '[[measure]]\nname = "pay"\nmethod = "lattice"\n'
 # the numbers and sizes of the cubes that `demo` sums up
 DEMOS = ((1, 1), (7, 2), (0, 1), (2, 1), (2**64 - 1, 1))

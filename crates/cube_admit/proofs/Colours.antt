@@ -15,7 +15,7 @@ use Rattle.cube_model.proofs.Leasts.{finds_least}
 use Rattle.cube_colour.specs.Colourings.{Colouring, IsColouring}
 use Rattle.cube_colour.specs.Outcomes.{IsAdded, IsStopped}
 use Rattle.cube_admit.specs.Linking.{all_follow, IsFit, IsStop, Does, linked_as, ColouringJudged, HeldJudged}
-use Rattle.cube_admit.specs.Room.{CanEnd}
+use Rattle.cube_admit.specs.Needs.{CanEnd}
 use Rattle.cube_admit.specs.declared.held.Held.{Held}
 use Rattle.cube_admit.specs.declared.held.Held.TheVariants as held
 use Rattle.cube_admit.specs.declared.held.Next.TheVariants as next
@@ -95,7 +95,7 @@ fit_full old new back ls mark many fit places guarded kept full =
     same = ap (λ (n : ℕ). record { places = n; guarded = back.guarded; kept = back.kept }) (places ∙ ap (λ (c : Colouring). c.places) fit.added) ∙ ap (λ (gs : List ℕ). record { places = old.places; guarded = gs; kept = back.kept }) (guarded ∙ ap (λ (c : Colouring). c.guarded) fit.added) ∙ ap (λ (ks : List Link). record { places = old.places; guarded = old.guarded; kept = ks }) (kept ∙ fit.front)
 
 pub fit_fresh : (old new : Colouring) (ls : List Link) (mark many : ℕ) → IsFit old new ls mark → many < 16384 → ColouringJudged old new many ls (Answer true, Some mark)
-fit_fresh old new ls mark many fit room = (sym (rw (fit.news, few, fit.free) refl), (fit.added, refl, fit.before, fit.within))
+fit_fresh old new ls mark many fit capacity = (sym (rw (fit.news, few, fit.free) refl), (fit.added, refl, fit.before, fit.within))
   where
     few : leb 16384 many ≡ false
     few = grind (arith, nat_tests)
@@ -104,7 +104,7 @@ pub stop_full : (old new : Colouring) (ls : List Link) (index place many : ℕ) 
 stop_full old new ls index place many stop full = (sym (rw (stop.news, le-leb 16384 many full) refl), (stop.stays, λ e. cc))
 
 pub stop_fixes : (old new : Colouring) (ls : List Link) (index place many : ℕ) (link : Link) → IsStop old new ls index place → many < 16384 → link ≡ get_or ls (index - 1) link → ColouringJudged old new many ls (fixes index link place, None)
-stop_fixes old new ls index place many link stop room at =
+stop_fixes old new ls index place many link stop capacity at =
     let from = stop.from in
     let below = stop.below in
     let there : index - 1 < length ls = omega (arith, from, below) in
@@ -115,7 +115,7 @@ stop_fixes old new ls index place many link stop room at =
     few : leb 16384 many ≡ false
     few = grind (arith, nat_tests)
 
--- a fresh answer comes only where there is room
+-- a fresh answer comes only where there is space
 pub fresh_room : (c : Colouring) (many : ℕ) (ls : List Link) → Answer true ≡ linked_as c many ls → many < 16384
 fresh_room c many ls e = go (all_follow c ls) (leb 16384 many) refl e
   where

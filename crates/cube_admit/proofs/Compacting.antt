@@ -9,7 +9,7 @@ use Rattle.cube_model.specs.Compaction.{source_entry, compacted_by, compacted_on
 use Rattle.cube_model.specs.Protection.{method}
 use Rattle.cube_admit.specs.declared.held.Held.{Held}
 use Rattle.cube_admit.specs.declared.held.Held.TheVariants as held
-use Rattle.cube_admit.specs.States.{State, entry_of, IsHeldBy, StandsFor}
+use Rattle.cube_admit.specs.States.{State, entry_of, IsHeldBy, IsStateOf}
 use Rattle.cube_admit.specs.Compacting.{held_entries, held_from}
 
 -- what is kept of one measure
@@ -45,7 +45,7 @@ from_is g h from (x ∷ xs) each = ap (λ es. es ++ held_from (from + 1) xs) fir
         there = omega arith
 
 -- where no request waits, all that is kept is the compacted history
-pub all_is_compacted : (g : Public) (s : State) → StandsFor g s → s.pending ≡ None → held_from 0 s.held ≡ compacted g s.history
+pub all_is_compacted : (g : Public) (s : State) → IsStateOf g s → s.pending ≡ None → held_from 0 s.held ≡ compacted g s.history
 all_is_compacted g s stands none = from_is g s.history 0 s.held each ∙ ap (λ n. flat_map (compacted_on g s.history) (count_from 0 n)) stands.long
   where
     whole_is : s.history ++ entry_of s.pending ≡ s.history

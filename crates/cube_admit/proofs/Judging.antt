@@ -22,7 +22,7 @@ use Rattle.cube_admit.specs.declared.held.Held.{Held}
 use Rattle.cube_admit.specs.declared.held.Held.TheVariants as held
 use Rattle.cube_admit.specs.declared.source.Step.TheVariants.{Stays, Would}
 use Rattle.cube_admit.specs.Sources.{IsLong, stepped, step_by, judged_as}
-use Rattle.cube_admit.specs.States.{State, entry_of, whole, waiting, waits_by, waits_for, coloured, source_in, IsHeldBy, IsNextBy, IsReady, IsTableOf, StandsFor}
+use Rattle.cube_admit.specs.States.{State, entry_of, whole, waiting, waits_by, waits_for, coloured, source_in, IsHeldBy, IsNextBy, IsReady, IsTableOf, IsStateOf}
 use Rattle.cube_admit.specs.declared.held.Pending.{Pending}
 use Rattle.cube_model.proofs.Worlds.{admissible_fresh}
 use Rattle.cube_admit.proofs.Standing.{unchanged, put_each, asks_one, links-skip}
@@ -145,7 +145,7 @@ pub record Known (g : Public) (s : State) (r : Request) (m : ℕ) : Type 0 where
   pub there : m < length s.held
   pub held : (m : ℕ) → m < length s.held → IsHeldBy (method g m) g s.history s.history m (get_or s.held m held.Open)
 
-pub known : (g : Public) (s : State) (r : Request) (m : ℕ) → StandsFor g s → s.pending ≡ None → is_valid g r ≡ true → r.what ≡ Measure m → Known g s r m
+pub known : (g : Public) (s : State) (r : Request) (m : ℕ) → IsStateOf g s → s.pending ≡ None → is_valid g r ≡ true → r.what ≡ Measure m → Known g s r m
 known g s r m stands none v what =
     let history : whole s ≡ s.history = ap (λ (p : Option Pending). s.history ++ entry_of p) none ∙ append-nil s.history in
     let admissible : IsAdmissible g s.history = subst (IsAdmissible g) history stands.admissible in
@@ -177,9 +177,9 @@ source_more g h k n (held.Source c) i = i
 source_more g h k n (held.Links c) i = absurd i
 
 -- a request waits with its fresh answer
-waiting_stands : (g : Public) (s t : State) (r : Request) (m : ℕ) (n : Next) (new : Held) → StandsFor g s → s.pending ≡ None → is_valid g r ≡ true → r.what ≡ Measure m → verdict g s.history r ≡ Answer true
+waiting_stands : (g : Public) (s t : State) (r : Request) (m : ℕ) (n : Next) (new : Held) → IsStateOf g s → s.pending ≡ None → is_valid g r ≡ true → r.what ≡ Measure m → verdict g s.history r ≡ Answer true
     → IsNextBy (method g m) g s.history (s.history ++ Asked r ∷ []) m n → IsHeldBy (method g m) g s.history (s.history ++ Asked r ∷ []) m new
-    → t.history ≡ s.history → t.held ≡ set s.held m new → t.pending ≡ Some (record { request = r; measure = m; next = n }) → IsTableOf g t.table → StandsFor g t
+    → t.history ≡ s.history → t.held ≡ set s.held m new → t.pending ≡ Some (record { request = r; measure = m; next = n }) → IsTableOf g t.table → IsStateOf g t
 waiting_stands g s t r m n new stands none valid what fresh becomes is_held same kept waits table =
     let k = known g s r m stands none valid what in
     let more = s.history ++ Asked r ∷ [] in
@@ -198,17 +198,17 @@ set_same hs m = set-get_or hs m held.Open
 
 -- ---- on a lattice measure
 
-pub waits_on : (g : Public) (s t : State) (r : Request) (m : ℕ) (c : List ℕ) (v : Verdict) → StandsFor g s → s.pending ≡ None → is_valid g r ≡ true → r.what ≡ Measure m → IsStep g s.history r m c → v ≡ judged_as g (length (requests s.history)) m c
-    → t.history ≡ s.history → t.held ≡ s.held → t.pending ≡ waits_by v (record { request = r; measure = m; next = next.Source c }) → IsTableOf g t.table → StandsFor g t
+pub waits_on : (g : Public) (s t : State) (r : Request) (m : ℕ) (c : List ℕ) (v : Verdict) → IsStateOf g s → s.pending ≡ None → is_valid g r ≡ true → r.what ≡ Measure m → IsStep g s.history r m c → v ≡ judged_as g (length (requests s.history)) m c
+    → t.history ≡ s.history → t.held ≡ s.held → t.pending ≡ waits_by v (record { request = r; measure = m; next = next.Source c }) → IsTableOf g t.table → IsStateOf g t
 waits_on g s t r m c v stands none valid what step told same kept waits table = go v told waits
   where
     p : Pending
     p = record { request = r; measure = m; next = next.Source c }
 
-    stays : t.pending ≡ None → StandsFor g t
+    stays : t.pending ≡ None → IsStateOf g t
     stays e = unchanged g s t same kept (e ∙ sym none) table stands
 
-    go : (v : Verdict) → v ≡ judged_as g (length (requests s.history)) m c → t.pending ≡ waits_by v p → StandsFor g t
+    go : (v : Verdict) → v ≡ judged_as g (length (requests s.history)) m c → t.pending ≡ waits_by v p → IsStateOf g t
     go (Answer true) told waits =
         let k = known g s r m stands none valid what in
         waiting_stands g s t r m (next.Source c) (get_or s.held m held.Open) stands none valid what (sym (told ∙ step.verdict))
@@ -221,8 +221,8 @@ waits_on g s t r m c v stands none valid what step told same kept waits table = 
     go (Pair a i j u) told waits = stays waits
     go (Single a i u) told waits = stays waits
 
-pub judged_stands : (g : Public) (s t : State) (r : Request) (m : ℕ) (c : List ℕ) (result : Result Verdict NoMemory) → StandsFor g s → s.pending ≡ None → is_valid g r ≡ true → r.what ≡ Measure m → IsStep g s.history r m c → IfOk result (λ v. v ≡ judged_as g (length (requests s.history)) m c)
-    → t.history ≡ s.history → t.held ≡ s.held → IfOk result (λ v. t.pending ≡ waits_by v (record { request = r; measure = m; next = next.Source c })) → OnErr result (t.pending ≡ None) → IsTableOf g t.table → StandsFor g t
+pub judged_stands : (g : Public) (s t : State) (r : Request) (m : ℕ) (c : List ℕ) (result : Result Verdict NoMemory) → IsStateOf g s → s.pending ≡ None → is_valid g r ≡ true → r.what ≡ Measure m → IsStep g s.history r m c → IfOk result (λ v. v ≡ judged_as g (length (requests s.history)) m c)
+    → t.history ≡ s.history → t.held ≡ s.held → IfOk result (λ v. t.pending ≡ waits_by v (record { request = r; measure = m; next = next.Source c })) → OnErr result (t.pending ≡ None) → IsTableOf g t.table → IsStateOf g t
 judged_stands g s t r m c (Ok v) stands none valid what step told same kept waits err table = waits_on g s t r m c v stands none valid what step told same kept waits table
 judged_stands g s t r m c (Err e) stands none valid what step told same kept waits err table = unchanged g s t same kept (err ∙ sym none) table stands
 
@@ -271,7 +271,7 @@ links_there g g' h r m k even linked i = go (method g m) k linked i
 -- what a request on a parity measure is told, and what the state then stands for
 pub record Outcome (g : Public) (s t : State) (r : Request) (v : Verdict) : Type 0 where
   pub verdict : v ≡ verdict g s.history r
-  pub stands : StandsFor g t
+  pub stands : IsStateOf g t
   pub waits : waiting t ≡ waits_for v r
 
 not_waiting : (v : Verdict) (r : Request) → (v ≡ Answer true → ⊥) → None ≡ waits_for v r
@@ -282,7 +282,7 @@ not_waiting (SourceWould d u) r n = refl
 not_waiting (Pair a i j u) r n = refl
 not_waiting (Single a i u) r n = refl
 
-pub links_outcome : (g : Public) (s t : State) (r : Request) (m : ℕ) (v : Verdict) → StandsFor g s → s.pending ≡ None → is_valid g r ≡ true → r.what ≡ Measure m → is_linked (get_or s.held m held.Open) ≡ true → LinksJudged (length (requests s.history)) m r (links g r) s t v → Outcome g s t r v
+pub links_outcome : (g : Public) (s t : State) (r : Request) (m : ℕ) (v : Verdict) → IsStateOf g s → s.pending ≡ None → is_valid g r ≡ true → r.what ≡ Measure m → is_linked (get_or s.held m held.Open) ≡ true → LinksJudged (length (requests s.history)) m r (links g r) s t v → Outcome g s t r v
 links_outcome g s t r m v stands none valid what linked done = go (method g m) refl (get_or s.held m held.Open) (get_or t.held m held.Open) refl refl linked (k.held m k.there) done.judged
   where
     k : Known g s r m
@@ -328,17 +328,17 @@ links_outcome g s t r m v stands none valid what linked done = go (method g m) r
     go Parity e (held.Links c) (held.Links d) was is l i j = by_mark e c d was is i (j.0 ∙ ap (λ (e : Colouring). linked_as e (length (requests s.history)) (links g r)) i ∙ linked_verdict g s.history r m ∙ sym (verdict_on g s.history r m Parity e (asks_it r m what))) done.mark done.waits j.1
 
 -- for whatever comes of it
-pub linked_is : (g : Public) (s t : State) (r : Request) (m : ℕ) (result : Result Verdict NoMemory) → StandsFor g s → s.pending ≡ None → is_valid g r ≡ true → r.what ≡ Measure m → is_linked (get_or s.held m held.Open) ≡ true → IfOk result (LinksJudged (length (requests s.history)) m r (links g r) s t) → IfOk result (λ v. v ≡ verdict g s.history r)
+pub linked_is : (g : Public) (s t : State) (r : Request) (m : ℕ) (result : Result Verdict NoMemory) → IsStateOf g s → s.pending ≡ None → is_valid g r ≡ true → r.what ≡ Measure m → is_linked (get_or s.held m held.Open) ≡ true → IfOk result (LinksJudged (length (requests s.history)) m r (links g r) s t) → IfOk result (λ v. v ≡ verdict g s.history r)
 linked_is g s t r m (Ok v) stands none valid what linked judged = (links_outcome g s t r m v stands none valid what linked judged).verdict
 linked_is g s t r m (Err e) stands none valid what linked judged = tt
 
-pub linked_waits : (g : Public) (s t : State) (r : Request) (m : ℕ) (result : Result Verdict NoMemory) → StandsFor g s → s.pending ≡ None → is_valid g r ≡ true → r.what ≡ Measure m → is_linked (get_or s.held m held.Open) ≡ true → IfOk result (LinksJudged (length (requests s.history)) m r (links g r) s t) → IfOk result (λ v. waiting t ≡ waits_for v r)
+pub linked_waits : (g : Public) (s t : State) (r : Request) (m : ℕ) (result : Result Verdict NoMemory) → IsStateOf g s → s.pending ≡ None → is_valid g r ≡ true → r.what ≡ Measure m → is_linked (get_or s.held m held.Open) ≡ true → IfOk result (LinksJudged (length (requests s.history)) m r (links g r) s t) → IfOk result (λ v. waiting t ≡ waits_for v r)
 linked_waits g s t r m (Ok v) stands none valid what linked judged = (links_outcome g s t r m v stands none valid what linked judged).waits
 linked_waits g s t r m (Err e) stands none valid what linked judged = tt
 
-pub linked_stands : (g : Public) (s t : State) (r : Request) (m : ℕ) (result : Result Verdict NoMemory) → StandsFor g s → s.pending ≡ None → is_valid g r ≡ true → r.what ≡ Measure m → is_linked (get_or s.held m held.Open) ≡ true → IfOk result (LinksJudged (length (requests s.history)) m r (links g r) s t) → OnErr result (t ≡ s) → StandsFor g t
+pub linked_stands : (g : Public) (s t : State) (r : Request) (m : ℕ) (result : Result Verdict NoMemory) → IsStateOf g s → s.pending ≡ None → is_valid g r ≡ true → r.what ≡ Measure m → is_linked (get_or s.held m held.Open) ≡ true → IfOk result (LinksJudged (length (requests s.history)) m r (links g r) s t) → OnErr result (t ≡ s) → IsStateOf g t
 linked_stands g s t r m (Ok v) stands none valid what linked judged err = (links_outcome g s t r m v stands none valid what linked judged).stands
-linked_stands g s t r m (Err e) stands none valid what linked judged err = subst (StandsFor g) (sym err) stands
+linked_stands g s t r m (Err e) stands none valid what linked judged err = subst (IsStateOf g) (sym err) stands
 
 pub linked_history : (ls : List Link) (many m : ℕ) (s t : State) (r : Request) (result : Result Verdict NoMemory) → IfOk result (LinksJudged many m r ls s t) → OnErr result (t ≡ s) → t.history ≡ s.history
 linked_history ls many m s t r (Ok v) judged err = judged.history

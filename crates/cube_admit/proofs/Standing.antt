@@ -31,7 +31,7 @@ use Rattle.cube_admit.specs.declared.held.Held.TheVariants as held
 use Rattle.cube_admit.specs.declared.held.Next.{Next}
 use Rattle.cube_admit.specs.declared.held.Next.TheVariants as next
 use Rattle.cube_admit.specs.declared.held.Pending.{Pending}
-use Rattle.cube_admit.specs.States.{State, entry_of, whole, coloured, started, entered, given_back, IsHeldBy, IsNextBy, IsReady, IsTableOf, StandsFor}
+use Rattle.cube_admit.specs.States.{State, entry_of, whole, coloured, started, entered, given_back, IsHeldBy, IsNextBy, IsReady, IsTableOf, IsStateOf}
 
 -- a front of an admissible history is admissible
 admissible_front : (g : Public) (b xs ys : List Entry) → AdmissibleFrom g b (xs ++ ys) → AdmissibleFrom g b xs
@@ -39,7 +39,7 @@ admissible_front g b [] ys a = tt
 admissible_front g b (x ∷ xs) ys a = (a.0, a.1, admissible_front g (b ++ x ∷ []) xs ys a.2)
 
 -- the history is admissible, whether a request waits behind it or not
-pub admissible_history : (g : Public) (s : State) → StandsFor g s → IsAdmissible g s.history
+pub admissible_history : (g : Public) (s : State) → IsStateOf g s → IsAdmissible g s.history
 admissible_history g s stands = admissible_front g [] s.history (entry_of s.pending) stands.admissible
 
 -- ---- what is kept of a measure, behind one request more or less
@@ -126,14 +126,14 @@ put_each P hs k new lt here others m below = go (same_or m k)
 -- ---- the request that waits
 
 -- no request waits: nothing changes but the table
-pub unchanged : (g : Public) (s t : State) → t.history ≡ s.history → t.held ≡ s.held → t.pending ≡ s.pending → IsTableOf g t.table → StandsFor g s → StandsFor g t
-unchanged g s t history kept waits table stands = subst (StandsFor g) (sym same) (record { admissible = stands.admissible; long = stands.long; held = stands.held; ready = stands.ready; table = table })
+pub unchanged : (g : Public) (s t : State) → t.history ≡ s.history → t.held ≡ s.held → t.pending ≡ s.pending → IsTableOf g t.table → IsStateOf g s → IsStateOf g t
+unchanged g s t history kept waits table stands = subst (IsStateOf g) (sym same) (record { admissible = stands.admissible; long = stands.long; held = stands.held; ready = stands.ready; table = table })
   where
     same : t ≡ record s { table = t.table }
     same = ap (λ (h : List Entry). record t { history = h }) history ∙ ap (λ (p : Option Pending). record t { history = s.history; pending = p }) waits ∙ ap (λ (hs : List Held). record s { held = hs; table = t.table }) kept
 
 -- it goes
-pub dropped : (g : Public) (s t : State) (p : Pending) → s.pending ≡ Some p → p.measure < length s.held → t.history ≡ s.history → t.held ≡ set s.held p.measure (given_back p.next (get_or s.held p.measure held.Open)) → t.pending ≡ None → t.table ≡ s.table → StandsFor g s → StandsFor g t
+pub dropped : (g : Public) (s t : State) (p : Pending) → s.pending ≡ Some p → p.measure < length s.held → t.history ≡ s.history → t.held ≡ set s.held p.measure (given_back p.next (get_or s.held p.measure held.Open)) → t.pending ≡ None → t.table ≡ s.table → IsStateOf g s → IsStateOf g t
 dropped g s t p waits lt same kept none table stands =
     let ready : IsReady g s (Some p) = subst (IsReady g s) waits stands.ready in
     let all : whole s ≡ s.history ++ Asked p.request ∷ [] = ap (λ (q : Option Pending). s.history ++ entry_of q) waits in
@@ -153,7 +153,7 @@ dropped g s t p waits lt same kept none table stands =
     }
 
 -- it enters
-pub committed : (g : Public) (s t : State) (p : Pending) → s.pending ≡ Some p → p.measure < length s.held → t.history ≡ s.history ++ Asked p.request ∷ [] → t.held ≡ set s.held p.measure (entered p.next (get_or s.held p.measure held.Open)) → t.pending ≡ None → t.table ≡ s.table → StandsFor g s → StandsFor g t
+pub committed : (g : Public) (s t : State) (p : Pending) → s.pending ≡ Some p → p.measure < length s.held → t.history ≡ s.history ++ Asked p.request ∷ [] → t.held ≡ set s.held p.measure (entered p.next (get_or s.held p.measure held.Open)) → t.pending ≡ None → t.table ≡ s.table → IsStateOf g s → IsStateOf g t
 committed g s t p waits lt grown kept none table stands =
     let ready : IsReady g s (Some p) = subst (IsReady g s) waits stands.ready in
     let all : whole s ≡ s.history ++ Asked p.request ∷ [] = ap (λ (q : Option Pending). s.history ++ entry_of q) waits in
@@ -200,7 +200,7 @@ held_at_first g Plain m = tt
 held_at_first g Lattice m = refl
 held_at_first g Parity m = refl
 
-pub at_first : (g : Public) (t : State) → t.history ≡ [] → t.held ≡ map (λ m. started g (method g m) m) (count_from 0 (length g.policy.methods)) → t.pending ≡ None → IsTableOf g t.table → StandsFor g t
+pub at_first : (g : Public) (t : State) → t.history ≡ [] → t.held ≡ map (λ m. started g (method g m) m) (count_from 0 (length g.policy.methods)) → t.pending ≡ None → IsTableOf g t.table → IsStateOf g t
 at_first g t none kept waits table =
     let n = length g.policy.methods in
     let f = λ (m : ℕ). started g (method g m) m in

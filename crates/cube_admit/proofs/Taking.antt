@@ -29,9 +29,9 @@ use Rattle.cube_model.proofs.Parities.{links_of-one}
 use Rattle.cube_model.proofs.Worlds.{admissible_push, in_list}
 use Rattle.cube_colour.specs.Colourings.{Colouring}
 use Rattle.cube_admit.specs.Linking.{linked_as, IsLinks, HeldJudged}
-use Rattle.cube_admit.specs.Room.{CanEnd}
+use Rattle.cube_admit.specs.Needs.{CanEnd}
 use Rattle.cube_admit.specs.Sources.{IsLong, stepped, step_by}
-use Rattle.cube_admit.specs.States.{State, entry_of, whole, waiting, waits_for, coloured, source_in, IsHeldBy, IsReady, IsTableOf, StandsFor}
+use Rattle.cube_admit.specs.States.{State, entry_of, whole, waiting, waits_for, coloured, source_in, IsHeldBy, IsReady, IsTableOf, IsStateOf}
 use Rattle.cube_admit.specs.Taking.{behind}
 use Rattle.cube_admit.specs.declared.held.Held.{Held}
 use Rattle.cube_admit.specs.declared.held.Held.TheVariants as held
@@ -68,7 +68,7 @@ pub record Quiet (g : Public) (s : State) : Type 0 where
   pub allowed : AreAllowed g s.history
   pub held : (m : ℕ) → m < length s.held → IsHeldBy (method g m) g s.history s.history m (get_or s.held m held.Open)
 
-pub quiet : (g : Public) (s : State) → StandsFor g s → s.pending ≡ None → Quiet g s
+pub quiet : (g : Public) (s : State) → IsStateOf g s → s.pending ≡ None → Quiet g s
 quiet g s stands none =
     let history : whole s ≡ s.history = ap (λ (p : Option Pending). s.history ++ entry_of p) none ∙ append-nil s.history in
     let admissible = admissible_history g s stands in
@@ -79,8 +79,8 @@ quiet g s stands none =
     }
 
 -- with one entry more on one measure, and what that holds of it
-pub entered_stands : (g : Public) (s t : State) (e : Entry) (m : ℕ) (new : Held) → StandsFor g s → s.pending ≡ None → is_allowed g e ≡ true → taken g s.history e ≡ Taken → ((k : ℕ) → k ≢ m → is_on k e ≡ false) → m < length s.held
-    → IsHeldBy (method g m) g (s.history ++ e ∷ []) (s.history ++ e ∷ []) m new → t.history ≡ s.history ++ e ∷ [] → t.held ≡ set s.held m new → t.pending ≡ None → IsTableOf g t.table → StandsFor g t
+pub entered_stands : (g : Public) (s t : State) (e : Entry) (m : ℕ) (new : Held) → IsStateOf g s → s.pending ≡ None → is_allowed g e ≡ true → taken g s.history e ≡ Taken → ((k : ℕ) → k ≢ m → is_on k e ≡ false) → m < length s.held
+    → IsHeldBy (method g m) g (s.history ++ e ∷ []) (s.history ++ e ∷ []) m new → t.history ≡ s.history ++ e ∷ [] → t.held ≡ set s.held m new → t.pending ≡ None → IsTableOf g t.table → IsStateOf g t
 entered_stands g s t e m new stands none allowed enters off lt is_held grown kept empty table =
     let q = quiet g s stands none in
     let more = s.history ++ e ∷ [] in
@@ -167,28 +167,28 @@ lattice_held g h m k e i = go k (subst (λ (way : Method). IsHeldBy way g h h m 
     go (held.Links c) i = absurd i
 
 -- the measure is one that is kept
-pub source_there : (g : Public) (s : State) (m : ℕ) (c : List ℕ) → StandsFor g s → is_allowed g (Source m c) ≡ true → m < length s.held
+pub source_there : (g : Public) (s : State) (m : ℕ) (c : List ℕ) → IsStateOf g s → is_allowed g (Source m c) ≡ true → m < length s.held
 source_there g s m c stands allowed = subst (λ (n : ℕ). m < n) (sym stands.long) (source_allowed g m c allowed).there
 
 -- what a state where nothing waits keeps of the measure
-lattice_kept : (g : Public) (s : State) (m : ℕ) (c : List ℕ) → StandsFor g s → s.pending ≡ None → is_allowed g (Source m c) ≡ true → get_or s.held m held.Open ≡ held.Source (source s.history m)
+lattice_kept : (g : Public) (s : State) (m : ℕ) (c : List ℕ) → IsStateOf g s → s.pending ≡ None → is_allowed g (Source m c) ≡ true → get_or s.held m held.Open ≡ held.Source (source s.history m)
 lattice_kept g s m c stands none allowed = lattice_held g s.history m (get_or s.held m held.Open) (source_allowed g m c allowed).way ((quiet g s stands none).held m (source_there g s m c stands allowed))
 
 -- it is as long as the levels
-pub source_long : (g : Public) (s : State) (m : ℕ) (c : List ℕ) → StandsFor g s → s.pending ≡ None → is_allowed g (Source m c) ≡ true → IsLong (length c) (source_in (get_or s.held m held.Open))
+pub source_long : (g : Public) (s : State) (m : ℕ) (c : List ℕ) → IsStateOf g s → s.pending ≡ None → is_allowed g (Source m c) ≡ true → IsLong (length c) (source_in (get_or s.held m held.Open))
 source_long g s m c stands none allowed = subst (λ (x : Held). IsLong (length c) (source_in x)) (sym (lattice_kept g s m c stands none allowed)) (long (source s.history m) (long_source g s.history m (quiet g s stands none).allowed))
   where
     long : (s : Option (List ℕ)) → IsOfLength (length g.dimensions) s → IsLong (length c) s
     long None l = tt
     long (Some s) l = l ∙ sym (length-levels g.dimensions c (source_allowed g m c allowed).levels)
 
-pub source_ends : (g : Public) (s : State) (m : ℕ) (c d : List ℕ) → StandsFor g s → s.pending ≡ None → is_allowed g (Source m c) ≡ true → CanEnd (next.Source d) (get_or s.held m held.Open)
+pub source_ends : (g : Public) (s : State) (m : ℕ) (c d : List ℕ) → IsStateOf g s → s.pending ≡ None → is_allowed g (Source m c) ≡ true → CanEnd (next.Source d) (get_or s.held m held.Open)
 source_ends g s m c d stands none allowed = subst (CanEnd (next.Source d)) (sym (lattice_kept g s m c stands none allowed)) tt
 
-stepped_here : (g : Public) (s : State) (m : ℕ) (c asked : List ℕ) → StandsFor g s → s.pending ≡ None → is_allowed g (Source m c) ≡ true → asked ≡ c → step_by (get_or s.held m held.Open) asked ≡ stepped (source s.history m) c
+stepped_here : (g : Public) (s : State) (m : ℕ) (c asked : List ℕ) → IsStateOf g s → s.pending ≡ None → is_allowed g (Source m c) ≡ true → asked ≡ c → step_by (get_or s.held m held.Open) asked ≡ stepped (source s.history m) c
 stepped_here g s m c asked stands none allowed same = ap (step_by (get_or s.held m held.Open)) same ∙ ap (λ (x : Held). step_by x c) (lattice_kept g s m c stands none allowed)
 
-pub source_stays : (g : Public) (s : State) (m : ℕ) (c asked : List ℕ) → StandsFor g s → s.pending ≡ None → is_allowed g (Source m c) ≡ true → asked ≡ c → Stays ≡ step_by (get_or s.held m held.Open) asked → Passed ≡ taken g s.history (Source m c)
+pub source_stays : (g : Public) (s : State) (m : ℕ) (c asked : List ℕ) → IsStateOf g s → s.pending ≡ None → is_allowed g (Source m c) ≡ true → asked ≡ c → Stays ≡ step_by (get_or s.held m held.Open) asked → Passed ≡ taken g s.history (Source m c)
 unfolding taken
 source_stays g s m c asked stands none allowed same step = go (holds_grain (source s.history m) c) (step ∙ stepped_here g s m c asked stands none allowed same)
   where
@@ -213,7 +213,7 @@ narrows_by g h m c d allowed levels false holds e =
       source = ap (λ (l : List ℕ). Some l) same ∙ sym (source-narrow h m c);
     }
 
-pub source_narrows : (g : Public) (s : State) (m : ℕ) (c asked d : List ℕ) → StandsFor g s → s.pending ≡ None → is_allowed g (Source m c) ≡ true → asked ≡ c → Would d ≡ step_by (get_or s.held m held.Open) asked → Narrows g s.history m c d
+pub source_narrows : (g : Public) (s : State) (m : ℕ) (c asked d : List ℕ) → IsStateOf g s → s.pending ≡ None → is_allowed g (Source m c) ≡ true → asked ≡ c → Would d ≡ step_by (get_or s.held m held.Open) asked → Narrows g s.history m c d
 source_narrows g s m c asked d stands none allowed same step = narrows_by g s.history m c d (quiet g s stands none).allowed (source_allowed g m c allowed).levels (holds_grain (source s.history m) c) refl (step ∙ stepped_here g s m c asked stands none allowed same)
 
 other_source : (m k : ℕ) (c : List ℕ) → k ≢ m → is_on k (Source m c) ≡ false
@@ -223,8 +223,8 @@ other_source m k c n = go (eqb m k) refl
     go true e = absurd (n (sym (eqb-true m k e)))
     go false e = refl
 
-pub source_stands : (g : Public) (s t : State) (m : ℕ) (c d : List ℕ) → StandsFor g s → s.pending ≡ None → is_allowed g (Source m c) ≡ true → Narrows g s.history m c d → is_none (uncut g d m) ≡ true
-    → t.history ≡ s.history ++ Source m c ∷ [] → t.held ≡ set s.held m (held.Source (Some d)) → t.pending ≡ None → IsTableOf g t.table → StandsFor g t
+pub source_stands : (g : Public) (s t : State) (m : ℕ) (c d : List ℕ) → IsStateOf g s → s.pending ≡ None → is_allowed g (Source m c) ≡ true → Narrows g s.history m c d → is_none (uncut g d m) ≡ true
+    → t.history ≡ s.history ++ Source m c ∷ [] → t.held ≡ set s.held m (held.Source (Some d)) → t.pending ≡ None → IsTableOf g t.table → IsStateOf g t
 source_stands g s t m c d stands none allowed narrows safe grown kept empty table =
     let is = source_allowed g m c allowed in
     entered_stands g s t (Source m c) m (held.Source (Some d)) stands none allowed (narrows.becomes ∙ ap (λ (b : Bool). cond b Taken Refused) safe) (λ k n. other_source m k c n)
@@ -257,7 +257,7 @@ link_allowed g m l e =
       of = places_of (length g.shape.points) l both.1;
     }
 
-pub link_there : (g : Public) (s : State) (m : ℕ) (l : Link) → StandsFor g s → is_allowed g (Linked m l) ≡ true → m < length s.held
+pub link_there : (g : Public) (s : State) (m : ℕ) (l : Link) → IsStateOf g s → is_allowed g (Linked m l) ≡ true → m < length s.held
 link_there g s m l stands allowed = subst (λ (n : ℕ). m < n) (sym stands.long) (link_allowed g m l allowed).there
 
 parity_held : (g : Public) (h : List Entry) (m : ℕ) (k : Held) → method g m ≡ Parity → IsHeldBy (method g m) g h h m k → k ≡ held.Links (coloured g m (links_of g h m))
@@ -268,14 +268,14 @@ parity_held g h m k e i = go k (subst (λ (way : Method). IsHeldBy way g h h m k
     go (held.Source c) i = absurd i
     go (held.Links c) i = ap (λ (d : Colouring). held.Links d) i
 
-links_kept : (g : Public) (s : State) (m : ℕ) (l : Link) → StandsFor g s → s.pending ≡ None → is_allowed g (Linked m l) ≡ true → get_or s.held m held.Open ≡ held.Links (coloured g m (links_of g s.history m))
+links_kept : (g : Public) (s : State) (m : ℕ) (l : Link) → IsStateOf g s → s.pending ≡ None → is_allowed g (Linked m l) ≡ true → get_or s.held m held.Open ≡ held.Links (coloured g m (links_of g s.history m))
 links_kept g s m l stands none allowed = parity_held g s.history m (get_or s.held m held.Open) (link_allowed g m l allowed).way ((quiet g s stands none).held m (link_there g s m l stands allowed))
 
 one_of_places : (n : ℕ) (l : Link) → IsOfPlaces n l → AreOfPlaces n (l ∷ [])
 one_of_places n l of x (inl e) = subst (IsOfPlaces n) e of
 one_of_places n l of x (inr h) = absurd h
 
-pub link_is_links : (g : Public) (s : State) (m : ℕ) (l : Link) (links : List Link) → StandsFor g s → s.pending ≡ None → is_allowed g (Linked m l) ≡ true → links ≡ l ∷ [] → IsLinks (get_or s.held m held.Open) links
+pub link_is_links : (g : Public) (s : State) (m : ℕ) (l : Link) (links : List Link) → IsStateOf g s → s.pending ≡ None → is_allowed g (Linked m l) ≡ true → links ≡ l ∷ [] → IsLinks (get_or s.held m held.Open) links
 link_is_links g s m l links stands none allowed one = subst (IsLinks (get_or s.held m held.Open)) (sym one) (subst (λ (k : Held). IsLinks k (l ∷ [])) (sym (links_kept g s m l stands none allowed)) (one_of_places (length g.shape.points) l (link_allowed g m l allowed).of))
 
 -- what one link is told by the basis of a history's links is what becomes of it
@@ -307,7 +307,7 @@ linked_taken g h m l =
     go false None e = refl
     go false (Some i) e = refused 1 l _
 
-pub link_taken : (g : Public) (s : State) (m : ℕ) (l : Link) (links : List Link) (new : Held) (v : Verdict) (mark : Option ℕ) → StandsFor g s → s.pending ≡ None → is_allowed g (Linked m l) ≡ true → links ≡ l ∷ []
+pub link_taken : (g : Public) (s : State) (m : ℕ) (l : Link) (links : List Link) (new : Held) (v : Verdict) (mark : Option ℕ) → IsStateOf g s → s.pending ≡ None → is_allowed g (Linked m l) ≡ true → links ≡ l ∷ []
     → HeldJudged (get_or s.held m held.Open) new 0 links (v, mark) → taken_by v ≡ taken g s.history (Linked m l)
 link_taken g s m l links new v mark stands none allowed one judged = go new (subst (λ (ks : List Link). HeldJudged (held.Links kept) new 0 ks (v, mark)) one (subst (λ (k : Held). HeldJudged k new 0 links (v, mark)) (links_kept g s m l stands none allowed) judged))
   where
@@ -334,8 +334,8 @@ not_taken (SourceWould c t) n = refl
 not_taken (Pair k i j t) n = refl
 not_taken (Single k i t) n = refl
 
-pub link_stands : (g : Public) (s t : State) (m : ℕ) (l : Link) (links : List Link) (new : Held) (v : Verdict) (mark : Option ℕ) → StandsFor g s → s.pending ≡ None → is_allowed g (Linked m l) ≡ true → links ≡ l ∷ []
-    → HeldJudged (get_or s.held m held.Open) new 0 links (v, mark) → t.history ≡ behind s.history (Linked m l) (taken_by v) → t.held ≡ set s.held m new → t.pending ≡ None → IsTableOf g t.table → StandsFor g t
+pub link_stands : (g : Public) (s t : State) (m : ℕ) (l : Link) (links : List Link) (new : Held) (v : Verdict) (mark : Option ℕ) → IsStateOf g s → s.pending ≡ None → is_allowed g (Linked m l) ≡ true → links ≡ l ∷ []
+    → HeldJudged (get_or s.held m held.Open) new 0 links (v, mark) → t.history ≡ behind s.history (Linked m l) (taken_by v) → t.held ≡ set s.held m new → t.pending ≡ None → IsTableOf g t.table → IsStateOf g t
 link_stands g s t m l links new v mark stands none allowed one judged grown held_is empty table = go new mark (subst (λ (ks : List Link). HeldJudged (held.Links kept) new 0 ks (v, mark)) one (subst (λ (k : Held). HeldJudged k new 0 links (v, mark)) was judged)) held_is
   where
     n : ℕ
@@ -353,7 +353,7 @@ link_stands g s t m l links new v mark stands none allowed one judged grown held
     more : links_of g (s.history ++ Linked m l ∷ []) m ≡ ls ++ l ∷ []
     more = links_of-append g s.history (Linked m l ∷ []) m ∙ ap (λ (ks : List Link). ls ++ ks) (links_of-one g (Linked m l) m (eq-eqb m m refl))
 
-    go : (new : Held) (mark : Option ℕ) → HeldJudged (held.Links kept) new 0 (l ∷ []) (v, mark) → t.held ≡ set s.held m new → StandsFor g t
+    go : (new : Held) (mark : Option ℕ) → HeldJudged (held.Links kept) new 0 (l ∷ []) (v, mark) → t.held ≡ set s.held m new → IsStateOf g t
     go held.Open mark j is = absurd j
     go (held.Source c) mark j is = absurd j
     go (held.Links c) None j is =

@@ -1,7 +1,7 @@
 pub mod Boxes
 pub mod Compacting
 pub mod Linking
-pub mod Room
+pub mod Needs
 pub mod Sources
 pub mod States
 pub mod Taking

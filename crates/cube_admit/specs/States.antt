@@ -104,9 +104,9 @@ pub record IsTableOf (g : Public) (t : Table) : Type 0 where
   pub cuboids : t.cuboids ≡ cuboid_count g.dimensions
   pub found : Each (IsFound g) t.found
 
--- A state stands for what is public: its history is admissible, also with the request that waits; what it keeps of each measure
+-- A state is that of what is public: its history is admissible, also with the request that waits; what it keeps of each measure
 -- is that of the history, and what it will keep that of both; and its table is of what is public.
-pub record StandsFor (g : Public) (s : State) : Type 0 where
+pub record IsStateOf (g : Public) (s : State) : Type 0 where
   pub admissible : IsAdmissible g (whole s)
   pub long : length s.held ≡ length g.policy.methods
   pub held : (m : ℕ) → m < length s.held → IsHeldBy (method g m) g s.history (whole s) m (slice_index_or s.held m held.Open)

@@ -15,9 +15,9 @@ ghost use Rattle.cube_model.specs.Dims.{plains};
 ghost use Rattle.cube_model.specs.Verdicts.{verdict as verdict_of};
 ghost use Rattle.cube_admit.specs.Boxes.{AnswersEvenBoxes};
 ghost use Rattle.cube_admit.specs.Linking.{is_linked, marked, IsLinks, HeldJudged, LinksJudged};
-ghost use Rattle.cube_admit.specs.Room.{CanEnd};
+ghost use Rattle.cube_admit.specs.Needs.{CanEnd};
 ghost use Rattle.cube_admit.specs.Sources.{IsLong, step_by, judged_as};
-ghost use Rattle.cube_admit.specs.States.{whole, waiting, waits_by, waits_for, source_in, colouring_in, started, entered, given_back, IsTableOf, StandsFor};
+ghost use Rattle.cube_admit.specs.States.{whole, waiting, waits_by, waits_for, source_in, colouring_in, started, entered, given_back, IsTableOf, IsStateOf};
 ghost use Rattle.cube_admit.specs.declared.held.Next.TheVariants as next;
 ghost use Rattle.cube_admit.specs.declared.held.Held.TheVariants as kinds;
 ghost use Rattle.cube_source.specs.Judged.{judged_of};
@@ -58,14 +58,14 @@ impl Model for State {
     ghost use Rattle.std.specs.Prelude.{◌≡◌, ◌≤◌, length};
     ghost use Rattle.std.specs.Vec.{vec_capacity};
     ghost use Rattle.cube_model.specs.Entries.{requests};
-    ghost use Rattle.cube_admit.specs.Room.{HasRoom};
+    ghost use Rattle.cube_admit.specs.Needs.{CanEnter};
     ghost use Rattle.cube_admit.specs.States as said;
 
     ghost Value = { said.State };
 
     ghost view = { λ s. record { history = s.history.items; pending = s.pending; held = s.held.items; table = s.table } };
 
-    ghost invariant = { λ s. (length (requests s.history.items) ≡ s.asked) × (s.asked ≤ 16384) × HasRoom s.asked (length s.history.items) (vec_capacity s.history) s.held.items s.pending };
+    ghost invariant = { λ s. (length (requests s.history.items) ≡ s.asked) × (s.asked ≤ 16384) × CanEnter s.asked (length s.history.items) (vec_capacity s.history) s.held.items s.pending };
 }
 
 // What is kept of a measure at first.
@@ -97,7 +97,7 @@ fn start_all(alloc: Global, core: &Core, policy: &Policy) -> Result<Vec<Held>, N
     Ok(held)
 }
 
-// Puts an entry at the end of a history that has room for it.
+// Puts an entry at the end of a history that has space for it.
 fn enter(history: &mut Vec<Entry>, entry: Entry)
     requires { length history.old.items < vec_capacity history.old }
     ensures { history.new.items ≡ history.old.items ++ entry ∷ [] }
@@ -183,7 +183,7 @@ impl State {
         requires policy { IsPolicy core.now.dims policy.now }
         ensures empty { IfOk result (λ state. state.history ≡ []) }
         ensures none { IfOk result (λ state. state.pending ≡ None) }
-        ensures stands { IfOk result (λ state. StandsFor (shown core.now policy.now) state) }
+        ensures stands { IfOk result (λ state. IsStateOf (shown core.now policy.now) state) }
     {
         Ok(State {
             history: Vec::new(alloc),
@@ -220,7 +220,7 @@ impl State {
     pub fn drop_pending(&mut self)
         ensures history { self.new.history ≡ self.old.history }
         ensures none { self.new.pending ≡ None }
-        ensures stands { (g : Public) → StandsFor g self.old → StandsFor g self.new }
+        ensures stands { (g : Public) → IsStateOf g self.old → IsStateOf g self.new }
     {
         if let Some(pending) = self.pending.take() {
             give_back_at(&mut self.held, pending.measure, pending.next);
@@ -231,7 +231,7 @@ impl State {
     pub fn commit(&mut self)
         ensures history { self.new.history ≡ whole self.old }
         ensures none { self.new.pending ≡ None }
-        ensures stands { (g : Public) → StandsFor g self.old → StandsFor g self.new }
+        ensures stands { (g : Public) → IsStateOf g self.old → IsStateOf g self.new }
     {
         if let Some(pending) = self.pending.take() {
             let Pending {
@@ -269,7 +269,7 @@ impl State {
         }
     }
 
-    // Lets a request on a lattice measure wait, with room for it in the history.
+    // Lets a request on a lattice measure wait, with space for it in the history.
     fn hold(
         &mut self,
         alloc: Global,
@@ -421,13 +421,13 @@ impl State {
         measure: u32,
     ) -> Result<Verdict, NoMemory>
         requires policy { IsPolicy core.now.dims policy.now }
-        requires stands { StandsFor (shown core.now policy.now) self.old }
+        requires stands { IsStateOf (shown core.now policy.now) self.old }
         requires none { self.old.pending ≡ None }
         requires valid { is_valid (shown core.now policy.now) request.now ≡ true }
         requires what { request.now.what ≡ What.Measure measure }
         ensures verdict { IfOk result (λ verdict. verdict ≡ verdict_of (shown core.now policy.now) self.old.history request.now) }
         ensures history { self.new.history ≡ self.old.history }
-        ensures stands { StandsFor (shown core.now policy.now) self.new }
+        ensures stands { IsStateOf (shown core.now policy.now) self.new }
         ensures waits { IfOk result (λ verdict. waiting self.new ≡ waits_for verdict request.now) }
         ensures err { OnErr result (self.new.pending ≡ None) }
     {
@@ -450,11 +450,11 @@ impl State {
         request: &Request,
     ) -> Result<Verdict, NoMemory>
         requires policy { IsPolicy core.now.dims policy.now }
-        requires stands { StandsFor (shown core.now policy.now) self.old }
+        requires stands { IsStateOf (shown core.now policy.now) self.old }
         requires valid { is_valid (shown core.now policy.now) request.now ≡ true }
         ensures verdict { IfOk result (λ verdict. verdict ≡ verdict_of (shown core.now policy.now) self.old.history request.now) }
         ensures history { self.new.history ≡ self.old.history }
-        ensures stands { StandsFor (shown core.now policy.now) self.new }
+        ensures stands { IsStateOf (shown core.now policy.now) self.new }
         ensures waits { IfOk result (λ verdict. waiting self.new ≡ waits_for verdict request.now) }
         ensures even_boxes { IfOk result (λ verdict. AnswersEvenBoxes (shown core.now policy.now) self.old.history request.now verdict) }
         ensures err { OnErr result (self.new.pending ≡ None) }

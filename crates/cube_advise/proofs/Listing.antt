@@ -16,7 +16,7 @@ use Rattle.cube_admit.proofs.Standing.{admissible_history}
 use Rattle.cube_admit.specs.declared.held.Held.{Held}
 use Rattle.cube_admit.specs.declared.held.Held.TheVariants as held
 use Rattle.cube_admit.specs.declared.held.Pending.{Pending}
-use Rattle.cube_admit.specs.States.{State, entry_of, whole, source_in, colouring_in, coloured, IsHeldBy, StandsFor}
+use Rattle.cube_admit.specs.States.{State, entry_of, whole, source_in, colouring_in, coloured, IsHeldBy, IsStateOf}
 use Rattle.cube_advise.specs.Open.{InRange, finest_by}
 use Rattle.cube_advise.proofs.Narrowing.{get_or_in}
 use Rattle.cube_advise.proofs.Opening.{listed_levels}
@@ -34,7 +34,7 @@ held_source g h k m way held.Open e i = absurd (subst (λ (w : Method). IsHeldBy
 held_source g h k m way (held.Source c) e i = subst (λ (w : Method). IsHeldBy w g h k m (held.Source c)) e i
 held_source g h k m way (held.Links c) e i = absurd (subst (λ (w : Method). IsHeldBy w g h k m (held.Links c)) e i)
 
-pub kept_source : (g : Public) (s : State) (m : ℕ) → StandsFor g s → method g m ≡ Lattice → m < length s.held → source_in (get_or s.held m held.Open) ≡ source s.history m
+pub kept_source : (g : Public) (s : State) (m : ℕ) → IsStateOf g s → method g m ≡ Lattice → m < length s.held → source_in (get_or s.held m held.Open) ≡ source s.history m
 kept_source g s m stands way below = held_source g s.history (whole s) m (method g m) (get_or s.held m held.Open) way (stands.held m below)
 
 in_range : (g : Public) (o : Option (List ℕ)) → InRangeOf g o → InRange g.dimensions o
@@ -47,12 +47,12 @@ held_links g h k m way (held.Source c) e i = absurd (subst (λ (w : Method). IsH
 held_links g h k m way (held.Links c) e i = ap Some (subst (λ (w : Method). IsHeldBy w g h k m (held.Links c)) e i)
 
 -- what is kept of a parity measure, where no request waits, is a colouring by the links of its history
-pub kept_links : (g : Public) (s : State) (m : ℕ) → StandsFor g s → s.pending ≡ None → method g m ≡ Parity → m < length s.held → colouring_in (get_or s.held m held.Open) ≡ Some (coloured g m (links_of g s.history m))
+pub kept_links : (g : Public) (s : State) (m : ℕ) → IsStateOf g s → s.pending ≡ None → method g m ≡ Parity → m < length s.held → colouring_in (get_or s.held m held.Open) ≡ Some (coloured g m (links_of g s.history m))
 kept_links g s m stands none way below =
     held_links g s.history (whole s) m (method g m) (get_or s.held m held.Open) way (stands.held m below)
     ∙ ap (λ (h : List Entry). Some (coloured g m (links_of g h m))) (ap (λ (p : Option Pending). s.history ++ entry_of p) none ∙ append-nil s.history)
 
-pub source_range : (g : Public) (s : State) (m : ℕ) → StandsFor g s → InRange g.dimensions (source s.history m)
+pub source_range : (g : Public) (s : State) (m : ℕ) → IsStateOf g s → InRange g.dimensions (source s.history m)
 source_range g s m stands = in_range g (source s.history m) (source_in_range g s.history m (admissible_allowed g [] s.history (admissible_history g s stands)))
 
 -- levels in range are one for each dimension

@@ -4,7 +4,7 @@ ghost use Rattle.std.specs.List.{All, flat_map};
 ghost use Rattle.cube_model.specs.Cores.{shown};
 ghost use Rattle.cube_model.specs.Dims.{plains};
 ghost use Rattle.cube_model.specs.Policies.{IsPolicy};
-ghost use Rattle.cube_admit.specs.States.{StandsFor};
+ghost use Rattle.cube_admit.specs.States.{IsStateOf};
 ghost use Rattle.cube_advise.specs.Open.{InRange};
 ghost use Rattle.cube_advise.specs.Advice.{cuboid_line, source_lines, safe_lines, measure_line, lattice_lines, measure_lines, advice_text};
 
@@ -100,7 +100,7 @@ fn push_measure(
     measure: u32,
 ) -> Result<(), NoMemory>
     requires policy { IsPolicy core.now.dims policy.now }
-    requires stands { StandsFor (shown core.now policy.now) state.now }
+    requires stands { IsStateOf (shown core.now policy.now) state.now }
     requires measure { measure < length core.now.dims.measures }
     ensures { OnOk result (text.new ≡ text.old ++ measure_lines core.now.dims (shown core.now policy.now) state.now.history measure) }
 {
@@ -114,7 +114,7 @@ fn push_measure(
 /// history has a source, and `safe (C)` for each of the finest open cuboids, by number, or `none`.
 pub fn advice(alloc: Global, core: &Core, policy: &Policy, state: &State) -> Result<Text, NoMemory>
     requires policy { IsPolicy core.now.dims policy.now }
-    requires stands { StandsFor (shown core.now policy.now) state.now }
+    requires stands { IsStateOf (shown core.now policy.now) state.now }
     ensures { IfOk result (λ text. text ≡ advice_text core.now.dims (shown core.now policy.now) state.now.history) }
 {
     let _rules = core.dims();

@@ -5,7 +5,7 @@ ghost use Rattle.cube_model.specs.declared.policy.Method.TheVariants as methods;
 ghost use Rattle.cube_model.specs.Entries.{requests};
 ghost use Rattle.cube_model.specs.Policies.{IsPolicy};
 ghost use Rattle.cube_model.specs.Protection.{method};
-ghost use Rattle.cube_admit.specs.States.{StandsFor};
+ghost use Rattle.cube_admit.specs.States.{IsStateOf};
 ghost use Rattle.cube_text.specs.Counts.{count_line};
 ghost use Rattle.cube_advise.specs.Behind.{links_line, lines_behind, behind_text};
 ghost use Rattle.cube_advise.specs.Holdings.{links_held, most_links, room as room_behind};
@@ -45,7 +45,7 @@ fn room(state: &State) -> u64
 // How many links are held of a parity measure.
 fn links_of(core: &Core, policy: &Policy, state: &State, measure: u32) -> u64
     requires policy { IsPolicy core.now.dims policy.now }
-    requires stands { StandsFor (shown core.now policy.now) state.now }
+    requires stands { IsStateOf (shown core.now policy.now) state.now }
     requires none { state.now.pending ≡ None }
     requires measure { measure < length core.now.dims.measures }
     requires parity { method (shown core.now policy.now) measure ≡ methods.Parity }
@@ -99,7 +99,7 @@ fn push_measure(
     measure: u32,
 ) -> Result<(), NoMemory>
     requires policy { IsPolicy core.now.dims policy.now }
-    requires stands { StandsFor (shown core.now policy.now) state.now }
+    requires stands { IsStateOf (shown core.now policy.now) state.now }
     requires none { state.now.pending ≡ None }
     requires measure { measure < length core.now.dims.measures }
     ensures { OnOk result (text.new ≡ text.old ++ lines_behind core.now.dims (shown core.now policy.now) state.now.history measure) }
@@ -124,7 +124,7 @@ pub fn advice_behind(
     state: &State,
 ) -> Result<Text, NoMemory>
     requires policy { IsPolicy core.now.dims policy.now }
-    requires stands { StandsFor (shown core.now policy.now) state.now }
+    requires stands { IsStateOf (shown core.now policy.now) state.now }
     requires none { state.now.pending ≡ None }
     ensures { IfOk result (λ text. text ≡ behind_text core.now.dims (shown core.now policy.now) state.now.history) }
 {

@@ -3,7 +3,7 @@ ghost use Rattle.std.specs.Prelude.{◌≡◌, IfOk};
 ghost use Rattle.cube_model.specs.Cores.{shown};
 ghost use Rattle.cube_model.specs.Policies.{IsPolicy};
 ghost use Rattle.cube_model.specs.Verdicts.{IsAdmissible};
-ghost use Rattle.cube_admit.specs.States.{StandsFor};
+ghost use Rattle.cube_admit.specs.States.{IsStateOf};
 
 use crate::Workload;
 use cube_admit::State;
@@ -21,7 +21,7 @@ pub fn workload_behind(
     requires policy { IsPolicy core.now.dims policy.now }
     requires admissible { IsAdmissible (shown core.now policy.now) history.now }
     ensures history { IfOk result (λ workload. workload.history ≡ history.now) }
-    ensures stands { IfOk result (λ workload. StandsFor (shown core.now policy.now) workload) }
+    ensures stands { IfOk result (λ workload. IsStateOf (shown core.now policy.now) workload) }
 {
     let mut state = State::new(alloc, core, policy)?;
     'entries: for entry in history {

@@ -3,7 +3,7 @@ ghost use Rattle.std.specs.Prelude.{◌≡◌, ◌++◌, IfOk};
 ghost use Rattle.cube_model.specs.Cores.{shown};
 ghost use Rattle.cube_model.specs.Policies.{IsPolicy};
 ghost use Rattle.cube_model.specs.Verdicts.{IsAdmissible};
-ghost use Rattle.cube_admit.specs.States.{StandsFor};
+ghost use Rattle.cube_admit.specs.States.{IsStateOf};
 ghost use Rattle.cube_advise.specs.Telling.{HasFewLines, words_for, first_text, later_text};
 
 use crate::{Workload, advice, advice_behind, workload_behind, workload_text};
@@ -21,7 +21,7 @@ fn with_words(
     workload: &Option<Text>,
 ) -> Result<Text, NoMemory>
     requires policy { IsPolicy core.now.dims policy.now }
-    requires stands { StandsFor (shown core.now policy.now) behind }
+    requires stands { IsStateOf (shown core.now policy.now) behind }
     requires few { HasFewLines workload.now }
     ensures { IfOk result (λ all. all ≡ text ++ words_for core.now policy.now behind.history workload.now) }
 {

@@ -7,7 +7,7 @@ ghost use Rattle.cube_model.specs.Policies.{IsPolicy};
 ghost use Rattle.cube_model.specs.Requests.{is_valid};
 ghost use Rattle.cube_model.specs.Runs.{entered};
 ghost use Rattle.cube_model.specs.Verdicts.{verdict as verdict_of};
-ghost use Rattle.cube_admit.specs.States.{StandsFor};
+ghost use Rattle.cube_admit.specs.States.{IsStateOf};
 ghost use Rattle.cube_query.specs.Canonical.{is_request};
 ghost use Rattle.cube_advise.specs.Words.{asked_in, word_on, behind, words_of};
 ghost use Rattle.cube_advise.specs.Lines.{is_workload as is_one, workload_words};
@@ -67,7 +67,7 @@ impl Workload {
     pub fn new(alloc: Global, core: &Core, policy: &Policy) -> Result<Workload, NoMemory>
         requires policy { IsPolicy core.now.dims policy.now }
         ensures empty { IfOk result (λ workload. workload.history ≡ []) }
-        ensures stands { IfOk result (λ workload. StandsFor (shown core.now policy.now) workload) }
+        ensures stands { IfOk result (λ workload. IsStateOf (shown core.now policy.now) workload) }
     {
         Ok(Workload {
             state: State::new(alloc, core, policy)?,
@@ -77,7 +77,7 @@ impl Workload {
     /// Behind the history of a state. A request that waits there goes.
     pub fn behind(state: State) -> Workload
         ensures history { result.history ≡ state.history }
-        ensures stands { (g : Public) → StandsFor g state → StandsFor g result }
+        ensures stands { (g : Public) → IsStateOf g state → IsStateOf g result }
     {
         let mut state = state;
         state.drop_pending();
@@ -101,11 +101,11 @@ impl Workload {
         request: &Request,
     ) -> Result<Verdict, NoMemory>
         requires policy { IsPolicy core.now.dims policy.now }
-        requires stands { StandsFor (shown core.now policy.now) self.old }
+        requires stands { IsStateOf (shown core.now policy.now) self.old }
         requires valid { is_valid (shown core.now policy.now) request.now ≡ true }
         ensures verdict { IfOk result (λ verdict. verdict ≡ verdict_of (shown core.now policy.now) self.old.history request.now) }
         ensures history { IfOk result (λ verdict. self.new.history ≡ entered self.old.history request.now verdict) }
-        ensures stands { StandsFor (shown core.now policy.now) self.new }
+        ensures stands { IsStateOf (shown core.now policy.now) self.new }
         ensures err { OnErr result (self.new.history ≡ self.old.history) }
     {
         let verdict = self.state.verdict(alloc, core, policy, request)?;
@@ -123,11 +123,11 @@ impl Workload {
         line: &[u8],
     ) -> Result<Word, NoMemory>
         requires policy { IsPolicy core.now.dims policy.now }
-        requires stands { StandsFor (shown core.now policy.now) self.old }
+        requires stands { IsStateOf (shown core.now policy.now) self.old }
         ensures word { IfOk result (λ word. word ≡ word_on (shown core.now policy.now) self.old.history (asked_in core.now.dims line.now)) }
         ensures history { IfOk result (λ word. self.new.history ≡ behind (shown core.now policy.now) self.old.history (asked_in core.now.dims line.now)) }
         ensures step { IfOk result (λ word. (more : List (List ℕ)) → words_of core.now.dims (shown core.now policy.now) self.old.history (line.now ∷ more) ≡ word ∷ words_of core.now.dims (shown core.now policy.now) self.new.history more) }
-        ensures stands { StandsFor (shown core.now policy.now) self.new }
+        ensures stands { IsStateOf (shown core.now policy.now) self.new }
         ensures err { OnErr result (self.new.history ≡ self.old.history) }
     {
         match read_line(alloc, core.dims(), line)? {
@@ -156,7 +156,7 @@ pub fn workload_text(
     text: &[u8],
 ) -> Result<Text, NoMemory>
     requires policy { IsPolicy core.now.dims policy.now }
-    requires stands { StandsFor (shown core.now policy.now) workload }
+    requires stands { IsStateOf (shown core.now policy.now) workload }
     requires few { is_one text.now ≡ true }
     ensures { IfOk result (λ words. words ≡ workload_words core.now.dims (shown core.now policy.now) workload.history text.now) }
 {

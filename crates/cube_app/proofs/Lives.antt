@@ -18,9 +18,10 @@ use Rattle.cube_engine.specs.Worlds.{first_history}
 use Rattle.cube_talk.specs.Asks.{rooms_behind}
 use Rattle.cube_talk.specs.Moments.{Moment, moment}
 use Rattle.cube_talk.specs.declared.talk.TalkEnd.{TalkEnd}
-use Rattle.cube_talk.specs.Crashes.{IsOnTheWay, IsInHand, IsPassed, TalkedOver}
+use Rattle.cube_talk.specs.Crashes.{IsOnTheWay, IsLineInHand, IsPassed, TalkedOver}
 use Rattle.cube_serving.specs.Starting.{IsBetween, Survived, HeldIn}
-use Rattle.cube_serving.proofs.Held.{settled_leaves, held}
+use Rattle.cube_engine.proofs.Settled.{settled_leaves}
+use Rattle.cube_serving.proofs.Held.{held}
 use Rattle.cube_serving.proofs.Started.{exact_of, within_of, begun}
 use Rattle.cube_app.specs.Talks.{IsInLine}
 use Rattle.cube_app.proofs.Worlds.{behind_grows, behind_more}
@@ -80,7 +81,7 @@ held_lines {S} {I} {O} {input} {out} core policy h j stated last end mid store z
     let rooms = alone (world core policy) h in
     let ls = v.talked.first in
     let around : within_of e rooms 0 (mid.logs 0).state = (sym zeroth, λ b image. inl (exact b image)) in
-    held 0 core policy h (IsInLine core policy h ls last.outcomes) (GivesRooms (exact_of e) 0) (IsInHand (manner core.dims) rooms ls last.outcomes) mid store
+    held 0 core policy h (IsInLine core policy h ls last.outcomes) (GivesRooms (exact_of e) 0) (IsLineInHand (manner core.dims) rooms ls last.outcomes) mid store
     (rooms, inl (record { first = []; more = ls; split = refl; are = refl }), refl)
     (λ r bytes i g. (first_history r, (r, i, refl), g.1 bytes (settled_leaves bytes)))
     exact opened (v.survives.in_hand tells 0 around)

@@ -4,7 +4,7 @@ use Rattle.std.specs.Prelude.{IfOk, IfErr}
 use Rattle.std.specs.declared.result.Result.{Result}
 use Rattle.std.specs.declared.result.Result.TheVariants.{Ok, Err}
 use Rattle.cube_io.specs.Seen.{StoreState}
-use Rattle.cube_opening.specs.Reports.{IsReport, NoRoom}
+use Rattle.cube_opening.specs.Reports.{IsReport, NoMessage}
 use Rattle.cube_opening.specs.declared.report.Report.{Report}
 use Rattle.cube_serving.specs.Grouping.{OnlyFirst}
 use Rattle.cube_serving.specs.Starting.{OnlyJournal}
@@ -34,17 +34,17 @@ no_memory : {n : ℕ} → n ≡ 7 → CalmStatus n
 no_memory e = inr (inr (inr (inr (inl e))))
 
 -- nothing is done where there is no memory to begin
-pub not_begun : {F S I O W : Type 0} {objects : Outside F S I O W} {r : Report} (words : List (List ℕ)) (given : Result Orders Usage) → NoRoom r → Untouched objects → Runs words given objects r
+pub not_begun : {F S I O W : Type 0} {objects : Outside F S I O W} {r : Report} (words : List (List ℕ)) (given : Result Orders Usage) → NoMessage r → Untouched objects → Runs words given objects r
 not_begun {F} {S} {I} {O} {W} {objects} {r} words given none same = record {
-  refused = each_err given (λ usage. (IsReport 2 (usage_text words usage) r ⊎ NoRoom r) × Untouched objects) (λ usage. (inr none, same));
-  obeyed = each_ok given (λ orders. Obeyed orders objects r ⊎ (NoRoom r × Untouched objects)) (λ orders. inr (none, same));
+  refused = each_err given (λ usage. (IsReport 2 (usage_text words usage) r ⊎ NoMessage r) × Untouched objects) (λ usage. (inr none, same));
+  obeyed = each_ok given (λ orders. Obeyed orders objects r ⊎ (NoMessage r × Untouched objects)) (λ orders. inr (none, same));
   calm = λ calm. no_memory none.0;
 }
 
-pub refused_as : {F S I O W : Type 0} {objects : Outside F S I O W} {r : Report} (words : List (List ℕ)) (given : Result Orders Usage) (usage : Usage) → Err usage ≡ given → IsReport 2 (usage_text words usage) r ⊎ NoRoom r → Untouched objects → Runs words given objects r
+pub refused_as : {F S I O W : Type 0} {objects : Outside F S I O W} {r : Report} (words : List (List ℕ)) (given : Result Orders Usage) (usage : Usage) → Err usage ≡ given → IsReport 2 (usage_text words usage) r ⊎ NoMessage r → Untouched objects → Runs words given objects r
 refused_as {F} {S} {I} {O} {W} {objects} {r} words given usage is told same = subst (λ (x : Result Orders Usage). Runs words x objects r) is (record { refused = (told, same); obeyed = tt; calm = λ calm. wrong told })
   where
-    wrong : IsReport 2 (usage_text words usage) r ⊎ NoRoom r → CalmStatus r.status
+    wrong : IsReport 2 (usage_text words usage) r ⊎ NoMessage r → CalmStatus r.status
     wrong (inl e) = inr (inl e.0)
     wrong (inr e) = no_memory e.0
 

@@ -269,8 +269,7 @@ made : {O : Type 0} (making : Making) (out : Seen SinkState O) (r : Report) → 
 made making out r (inl e) = done e.0.0
 made making out r (inr (inl e)) = unput e.0.0
 made making out r (inr (inr (inl e))) = no_memory e.0.0
-made making out r (inr (inr (inr (inl e)))) = no_memory e.0.0
-made making out r (inr (inr (inr (inr e)))) = refused e.0.0
+made making out r (inr (inr (inr e))) = no_memory e.0.0
 
 drafts : {F O : Type 0} (drafting : Drafting) (files : Seen FolderState F) (out : Seen SinkState O) (r : Report) → DraftRun drafting files out r → Known r.status
 drafts drafting files out r (inl e) = unread_file e.0

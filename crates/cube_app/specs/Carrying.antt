@@ -28,7 +28,7 @@ use Rattle.cube_carrying.specs.Telling.{breach_text, stop_text}
 use Rattle.cube_carrying.specs.declared.breach.Breach.{Breach}
 use Rattle.cube_carrying.specs.declared.histories.Stop.{Stop}
 use Rattle.cube_opening.specs.Opening.{GotBehind, Make, HasAll, EndsUnopened, names_of}
-use Rattle.cube_opening.specs.Reports.{IsReport, IsDone, NoRoom, Prints}
+use Rattle.cube_opening.specs.Reports.{IsReport, IsDone, NoMessage, Prints}
 use Rattle.cube_opening.specs.declared.cube_files.CubeFiles.{CubeFiles}
 use Rattle.cube_opening.specs.declared.report.Report.{Report}
 use Rattle.cube_serving.specs.Starting.{EndsClosed, IsOpen, Recovers, HasJournal}
@@ -109,7 +109,7 @@ IsCarryOf x (Err line) = Breaks x line ⊎ StopsAt x line
 -- the text was put on the sink, or the carry is refused with the line and nothing is put
 abbrev pub Hands : {O : Type 0} → Result (List ℕ) (List ℕ) → Seen SinkState O → Report → Type 0
 Hands (Ok text) out r = Prints text out r
-Hands (Err line) out r = (IsReport 3 (codes "carry: " ++ line) r ⊎ NoRoom r) × (out.after.written ≡ out.before.written)
+Hands (Err line) out r = (IsReport 3 (codes "carry: " ++ line) r ⊎ NoMessage r) × (out.after.written ≡ out.before.written)
 
 -- This was said, unless memory ran out before.
 abbrev pub HandsOver : {O : Type 0} → Handing → Seen SinkState O → Report → Type 0

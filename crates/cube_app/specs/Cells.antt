@@ -11,7 +11,7 @@ use Rattle.cube_engine.specs.Changes.{changes_for, text_of, twin_for}
 use Rattle.cube_engine.specs.Compacting.{compacted_text, KeepsAll}
 use Rattle.cube_engine.specs.Kept.{history_of, IsExact}
 use Rattle.cube_opening.specs.Opening.{GotBehind, Make, HasAll, names_of}
-use Rattle.cube_opening.specs.Reports.{IsReport, IsDone, NoRoom, Prints}
+use Rattle.cube_opening.specs.Reports.{IsReport, IsDone, NoMessage, Prints}
 use Rattle.cube_opening.specs.declared.cube_files.CubeFiles.{CubeFiles}
 use Rattle.cube_opening.specs.declared.report.Report.{Report}
 use Rattle.cube_serving.specs.Starting.{EndsClosed, IsOpen, Recovers, HasJournal}
@@ -29,7 +29,7 @@ told_text Compacted core policy h cell = Ok (compacted_text core policy h)
 -- The text was put on the sink, or the cell is refused with the line and nothing is put. Memory may run out before.
 abbrev pub Tells : {O : Type 0} → Result (List ℕ) (ℕ × List ℕ) → Seen SinkState O → Report → Type 0
 Tells (Ok text) out r = Prints text out r ⊎ (IsReport 7 (codes "no memory\n") r × (out.after.written ≡ out.before.written))
-Tells (Err why) out r = (IsReport 3 (codes "cell: " ++ why.1) r ⊎ IsReport 7 (codes "no memory\n") r ⊎ NoRoom r) × (out.after.written ≡ out.before.written)
+Tells (Err why) out r = (IsReport 3 (codes "cell: " ++ why.1) r ⊎ IsReport 7 (codes "no memory\n") r ⊎ NoMessage r) × (out.after.written ≡ out.before.written)
 
 -- a history that is told compacted keeps all
 abbrev pub KeepsIf : Telling → Core → Policy → List Entry → Type 0

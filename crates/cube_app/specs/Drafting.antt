@@ -8,7 +8,7 @@ use Rattle.cube_draft.specs.declared.fault.DraftFault.{DraftFault}
 use Rattle.cube_draft.specs.declared.fault.DraftFault.TheVariants.{NoMemory}
 use Rattle.cube_draft.specs.declared.whole.Draft.{Draft}
 use Rattle.cube_opening.specs.Opening.{fault_text, Unread, AskedUpTo, GotBehind}
-use Rattle.cube_opening.specs.Reports.{IsReport, NoRoom, Prints}
+use Rattle.cube_opening.specs.Reports.{IsReport, NoMessage, Prints}
 use Rattle.cube_opening.specs.declared.report.Report.{Report}
 use Rattle.cube_words.specs.declared.drafting.Drafting.{Drafting}
 
@@ -27,7 +27,7 @@ pub record Drafted {O : Type 0} (drafting : Drafting) (files : FolderState) (out
 
 -- nothing can be drafted, for a reason that is told, or memory ran out
 abbrev pub Undrafted : Report → Type 0
-Undrafted r = NoRoom r ⊎ IsReport 7 (codes "no memory\n") r ⊎ ((fault : DraftFault) × (fault ≢ NoMemory) × IsReport 3 (fault_text (codes "draft") (fault_words fault)) r)
+Undrafted r = NoMessage r ⊎ IsReport 7 (codes "no memory\n") r ⊎ ((fault : DraftFault) × (fault ≢ NoMemory) × IsReport 3 (fault_text (codes "draft") (fault_words fault)) r)
 
 -- A run of `draft` ends at the fact file, or nothing can be drafted for it, or it prints what it drafted.
 abbrev pub DraftRun : {F O : Type 0} → Drafting → Seen FolderState F → Seen SinkState O → Report → Type 0

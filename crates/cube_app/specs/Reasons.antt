@@ -14,7 +14,7 @@ use Rattle.cube_query.specs.declared.fault.RequestFault.{RequestFault}
 use Rattle.cube_reason.specs.Showing.{IsWhy, Shows}
 use Rattle.cube_engine.specs.Kept.{IsExact}
 use Rattle.cube_opening.specs.Opening.{EndsAtLast, FileSays, GotBehind, HasAll, HasFile, Make, names_of, names_with, unless_long}
-use Rattle.cube_opening.specs.Reports.{IsReport, IsDone, NoRoom, Prints}
+use Rattle.cube_opening.specs.Reports.{IsReport, IsDone, NoMessage, Prints}
 use Rattle.cube_opening.specs.declared.cube_files.CubeFiles.{CubeFiles}
 use Rattle.cube_opening.specs.declared.report.Report.{Report}
 use Rattle.cube_serving.specs.Starting.{EndsClosed, IsOpen, Recovers, HasJournal}
@@ -62,7 +62,7 @@ IsWhetherOf core policy h query reason (Err line) = Unasked core query line
 -- the text was put on the sink, or the query is refused with the line and nothing is put
 abbrev pub PutsSaid : {O : Type 0} → Result (List ℕ) (List ℕ) → Seen SinkState O → Report → Type 0
 PutsSaid (Ok text) out r = Prints text out r
-PutsSaid (Err line) out r = (IsReport 3 (codes "query: " ++ line) r ⊎ NoRoom r) × (out.after.written ≡ out.before.written)
+PutsSaid (Err line) out r = (IsReport 3 (codes "query: " ++ line) r ⊎ NoMessage r) × (out.after.written ≡ out.before.written)
 
 -- ---- why nothing is said
 

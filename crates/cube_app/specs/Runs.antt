@@ -2,7 +2,7 @@
 use Rattle.std.specs.Prelude.{◌≡◌, ◌≢◌, ◌⊎◌, ℕ, List, [], Result, IfOk, IfErr}
 use Rattle.cube_io.specs.Causes.{Rose}
 use Rattle.cube_io.specs.Seen.{FolderState, SourceState, SinkState, StoreState, WireState, Seen, Unused}
-use Rattle.cube_opening.specs.Reports.{IsReport, NoRoom, Prints}
+use Rattle.cube_opening.specs.Reports.{IsReport, NoMessage, Prints}
 use Rattle.cube_opening.specs.declared.report.Report.{Report}
 use Rattle.cube_serving.specs.Grouping.{OnlyFirst}
 use Rattle.cube_words.specs.Help.{help_said}
@@ -127,6 +127,6 @@ Untouched objects = Unused objects.files × Unused objects.store × Unused objec
 -- obeyed. Where there is no memory to begin, nothing is done either. Whatever the objects tell, a run in which none of them counted a
 -- fault ends with one of six statuses.
 pub record Runs {F S I O W : Type 0} (words : List (List ℕ)) (given : Result Orders Usage) (objects : Outside F S I O W) (r : Report) : Type 0 where
-  pub refused : IfErr given (λ usage. (IsReport 2 (usage_text words usage) r ⊎ NoRoom r) × Untouched objects)
-  pub obeyed : IfOk given (λ orders. Obeyed orders objects r ⊎ (NoRoom r × Untouched objects))
+  pub refused : IfErr given (λ usage. (IsReport 2 (usage_text words usage) r ⊎ NoMessage r) × Untouched objects)
+  pub obeyed : IfOk given (λ orders. Obeyed orders objects r ⊎ (NoMessage r × Untouched objects))
   pub calm : IsCalm objects → CalmStatus r.status

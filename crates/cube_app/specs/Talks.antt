@@ -15,7 +15,7 @@ use Rattle.cube_engine.specs.Steps.{manner}
 use Rattle.cube_engine.specs.Worlds.{first_history}
 use Rattle.cube_talk.specs.Asks as asking
 use Rattle.cube_talk.specs.Asks.{Talk, FailedFresh, rooms_behind}
-use Rattle.cube_talk.specs.Crashes.{IsInHand}
+use Rattle.cube_talk.specs.Crashes.{IsLineInHand}
 use Rattle.cube_talk.specs.Sums.{Talked}
 use Rattle.cube_talk.specs.declared.talk.TalkEnd.{TalkEnd}
 use Rattle.cube_opening.specs.Opening.{flat_said, FileSays, EndsAt, GotBehind, HasAll, names_of}
@@ -62,7 +62,7 @@ pub record SumRun {F I O : Type 0} (facts : List ℕ) (files : Seen FolderState 
 
 -- the history is the one behind some of the lines, from the first on, or that with the request of the line that comes next
 abbrev pub IsInLine : Core → Policy → List Entry → List (List ℕ) → List Outcome → List Entry → Type 0
-IsInLine core policy first ls os h = (here : List Room) × IsInHand (manner core.dims) (alone (world core policy) first) ls os here × (h ≡ first_history here)
+IsInLine core policy first ls os h = (here : List Room) × IsLineInHand (manner core.dims) (alone (world core policy) first) ls os here × (h ≡ first_history here)
 
 -- The asks of the input were answered by an open cube, from the first history to the last; what became of them is reported. The answers
 -- hide each protected cell: over the world with the changes the same would have been written, by the same lines and outcomes. The journal

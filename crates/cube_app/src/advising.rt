@@ -1,5 +1,5 @@
 // What is told of a cube before it is opened, or behind its journal: what can be released from it, and how a workload would be judged.
-ghost use Rattle.std.specs.Prelude.{◌≡◌, ◌≢◌, ◌⊎◌, ◌≤◌, ◌+◌, ◌++◌, ◌∷◌, ℕ, List, [], true, false, length, IsTrue, IfOk, IfErr, OnOk, IfSome, Ok, codes, None};
+ghost use Rattle.std.specs.Prelude.{◌≡◌, ◌≢◌, ◌⊎◌, ◌≤◌, ◌+◌, ◌++◌, ◌∷◌, ℕ, List, [], true, false, length, IsTrue, IfOk, IfErr, OnOk, IfSome, Ok, codes, None, Some};
 ghost use Rattle.cube_advise.specs.Lines.{is_workload as has_few_lines};
 ghost use Rattle.cube_advise.specs.Telling.{HasFewLines, later_text};
 ghost use Rattle.cube_io.specs.Causes.{Rose};
@@ -8,7 +8,7 @@ ghost use Rattle.cube_io.specs.Seen.{seen};
 ghost use Rattle.cube_model.specs.Policies.{IsPolicy};
 ghost use Rattle.cube_opening.specs.Opening.{FileSays, AskedFor, EndsAt, GotBehind, HasAll, IsDigest, IsSteady, Make, Reads};
 ghost use Rattle.cube_opening.specs.Reports.{IsReport};
-ghost use Rattle.cube_serving.specs.Starting.{AsksStore, HasJournal, OnlyJournal};
+ghost use Rattle.cube_serving.specs.Starting.{AsksStore, OnlyJournal};
 ghost use Rattle.cube_app.specs.Advising.{workload_said, WorkloadSays, named_with, EndsUnread, Puts, FirstEnds, LaterEnds, AdviseEnds, AsksIfNamed, HasWorkload, AdviseCompletes};
 
 use crate::run::print;
@@ -16,7 +16,9 @@ use cube_advise::{is_workload, told_first, told_later};
 use cube_engine::Engine;
 use cube_io::{Folder, Sink, Store};
 use cube_model::{NoMemory, Text};
-use cube_opening::{CubeFiles, Guarded, Opened, Report, Room, open_guarded, read_bytes, statuses};
+use cube_opening::{
+    CubeFiles, Guarded, Message, Opened, Report, open_guarded, read_bytes, statuses,
+};
 use cube_serving::open_engine;
 use std::alloc::Global;
 
@@ -28,16 +30,20 @@ struct Advisable {
 }
 
 // A workload of these bytes.
-fn limit_lines(alloc: Global, room: Room, bytes: Text) -> Result<Opened<Text>, Report>
-    requires { room ≡ [] }
-    ensures ok { IfOk result (λ opened. (opened.room ≡ []) × (has_few_lines opened.value ≡ true) × (opened.value ≡ bytes) × (length bytes ≤ max_file → workload_said bytes ≡ Ok opened.value)) }
+fn limit_lines(alloc: Global, message: Message, bytes: Text) -> Result<Opened<Text>, Report>
+    requires { message ≡ [] }
+    ensures ok { IfOk result (λ opened. (opened.message ≡ []) × (has_few_lines opened.value ≡ true) × (opened.value ≡ bytes) × (length bytes ≤ max_file → workload_said bytes ≡ Ok opened.value)) }
     ensures err { IfErr result (λ r. IsReport 3 r.text r × (length bytes ≤ max_file → workload_said bytes ≡ Err r.text)) }
 {
     if is_workload(bytes.as_slice()) {
-        Ok(Opened { room, value: bytes })
+        Ok(Opened {
+            message,
+            value: bytes,
+        })
     } else {
         Err(
-            room.with(b"workload: limit lines 1000000\n")
+            message
+                .with(b"workload: limit lines 1000000\n")
                 .close(alloc, statuses::FILE_REFUSED),
         )
     }
@@ -46,33 +52,33 @@ fn limit_lines(alloc: Global, room: Room, bytes: Text) -> Result<Opened<Text>, R
 // Reads a workload.
 fn open_workload<F: Folder>(
     alloc: Global,
-    room: Room,
+    message: Message,
     name: &Text,
     files: &mut F,
 ) -> Result<Opened<Text>, Report>
-    requires { room ≡ [] }
-    ensures ok { IfOk result (λ opened. (opened.room ≡ []) × (has_few_lines opened.value ≡ true) × IfSome (F.state files.old).files (λ known. FileSays workload_said name.now known (Ok opened.value))) }
+    requires { message ≡ [] }
+    ensures ok { IfOk result (λ opened. (opened.message ≡ []) × (has_few_lines opened.value ≡ true) × IfSome (F.state files.old).files (λ known. FileSays workload_said name.now known (Ok opened.value))) }
     ensures err { IfErr result (EndsAt [] workload_said name.now (seen F.state files.old files.new)) }
     ensures asks { OnOk result (AskedFor (name.now ∷ []) (seen F.state files.old files.new)) }
     ensures reads { Reads (seen F.state files.old files.new) result }
 {
-    let opened = match read_bytes(alloc, room, b"workload", name, files) {
+    let opened = match read_bytes(alloc, message, b"workload", name, files) {
         Ok(opened) => opened,
         Err(report) => return Err(report),
     };
-    limit_lines(alloc, opened.room, opened.value)
+    limit_lines(alloc, opened.message, opened.value)
 }
 
 // Reads the files of a cube, and the workload, where one is named.
 fn open_advisable<F: Folder>(
     alloc: Global,
-    room: Room,
+    message: Message,
     cube: &CubeFiles,
     workload: &Option<Text>,
     files: &mut F,
 ) -> Result<Opened<Advisable>, Report>
-    requires { room ≡ [] }
-    ensures ok { IfOk result (λ opened. (opened.room ≡ []) × Make cube.now (F.state files.old) opened.value.guarded.core opened.value.guarded.policy) }
+    requires { message ≡ [] }
+    ensures ok { IfOk result (λ opened. (opened.message ≡ []) × Make cube.now (F.state files.old) opened.value.guarded.core opened.value.guarded.policy) }
     ensures rules { IfOk result (λ opened. IsPolicy opened.value.guarded.core.dims opened.value.guarded.policy) }
     ensures digest { IfOk result (λ opened. IsDigest cube.now (F.state files.old) opened.value.guarded.facts) }
     ensures said { IfOk result (λ opened. WorkloadSays workload.now (F.state files.old) opened.value.workload) }
@@ -81,22 +87,22 @@ fn open_advisable<F: Folder>(
     ensures steady { OnOk result (IsSteady (seen F.state files.old files.new)) }
     ensures steady_err { IfErr result (λ r. r.status ≢ 5 → IsSteady (seen F.state files.old files.new)) }
 {
-    let opened = match open_guarded(alloc, room, cube, files) {
+    let opened = match open_guarded(alloc, message, cube, files) {
         Ok(opened) => opened,
         Err(report) => return Err(report),
     };
     let guarded = opened.value;
     match workload {
         None => Ok(Opened {
-            room: opened.room,
+            message: opened.message,
             value: Advisable {
                 guarded,
                 workload: None,
             },
         }),
-        Some(name) => match open_workload(alloc, opened.room, name, files) {
+        Some(name) => match open_workload(alloc, opened.message, name, files) {
             Ok(read) => Ok(Opened {
-                room: read.room,
+                message: read.message,
                 value: Advisable {
                     guarded,
                     workload: Some(read.value),
@@ -119,11 +125,11 @@ fn told_behind(alloc: Global, engine: &Engine, workload: &Option<Text>) -> Resul
 // Puts what is told.
 fn put_advice<O: Sink>(
     alloc: Global,
-    room: Room,
+    message: Message,
     text: Result<Text, NoMemory>,
     out: &mut O,
 ) -> Report
-    requires { room ≡ [] }
+    requires { message ≡ [] }
     ensures puts { (said : List ℕ) → IfOk text (λ text. text ≡ said) → Puts said (seen O.state out.old out.new) result }
     ensures output { result.status ≡ 6 → Rose (O.state out.old).faults (O.state out.new).faults }
     ensures output_steady { result.status ≢ 6 → (O.state out.new).faults ≡ (O.state out.old).faults }
@@ -131,21 +137,23 @@ fn put_advice<O: Sink>(
     ensures outcomes { result.outcomes ≡ [] }
 {
     match text {
-        Ok(text) => print(alloc, room, text.as_slice(), out),
-        Err(_) => room.with(b"no memory\n").close(alloc, statuses::NO_MEMORY),
+        Ok(text) => print(alloc, message, text.as_slice(), out),
+        Err(_) => message
+            .with(b"no memory\n")
+            .close(alloc, statuses::NO_MEMORY),
     }
 }
 
 // Puts what can be released before anything is asked.
 fn advise_first<F: Folder, O: Sink>(
     alloc: Global,
-    room: Room,
+    message: Message,
     cube: &CubeFiles,
     workload: &Option<Text>,
     files: &mut F,
     out: &mut O,
 ) -> Report
-    requires { room ≡ [] }
+    requires { message ≡ [] }
     ensures answers { FirstEnds cube.now workload.now (seen F.state files.old files.new) (seen O.state out.old out.new) result }
     ensures unreadable { result.status ≡ 5 → Rose (F.state files.old).faults (F.state files.new).faults }
     ensures output { result.status ≡ 6 → Rose (O.state out.old).faults (O.state out.new).faults }
@@ -157,7 +165,7 @@ fn advise_first<F: Folder, O: Sink>(
     ensures store { result.status ≢ 9 }
     ensures outcomes { result.outcomes ≡ [] }
 {
-    let opened = match open_advisable(alloc, room, cube, workload, files) {
+    let opened = match open_advisable(alloc, message, cube, workload, files) {
         Ok(opened) => opened,
         Err(report) => return report,
     };
@@ -167,13 +175,13 @@ fn advise_first<F: Folder, O: Sink>(
     } = opened.value;
     let _rules = guarded.core.dims();
     let text = told_first(alloc, &guarded.core, &guarded.policy, &bytes);
-    put_advice(alloc, opened.room, text, out)
+    put_advice(alloc, opened.message, text, out)
 }
 
 // Puts what can be released behind the history that the journal holds.
 fn advise_later<F: Folder, S: Store, O: Sink>(
     alloc: Global,
-    room: Room,
+    message: Message,
     cube: &CubeFiles,
     journal: &Text,
     workload: &Option<Text>,
@@ -181,7 +189,7 @@ fn advise_later<F: Folder, S: Store, O: Sink>(
     store: &mut S,
     out: &mut O,
 ) -> Report
-    requires { room ≡ [] }
+    requires { message ≡ [] }
     ensures answers { LaterEnds cube.now workload.now (seen F.state files.old files.new) (seen S.state store.old store.new) (seen O.state out.old out.new) result }
     ensures names { (store.new ≡ store.old) ⊎ AsksStore journal.now (seen S.state store.old store.new) result }
     ensures unkept { result.status ≡ 9 → Rose (S.state store.old).faults (S.state store.new).faults }
@@ -191,12 +199,12 @@ fn advise_later<F: Folder, S: Store, O: Sink>(
     ensures output { result.status ≡ 6 → Rose (O.state out.old).faults (O.state out.new).faults }
     ensures steady { result.status ≢ 5 → IsSteady (seen F.state files.old files.new) }
     ensures output_steady { result.status ≢ 6 → (O.state out.new).faults ≡ (O.state out.old).faults }
-    ensures complete { HasAll cube.now (F.state files.old) → HasWorkload workload.now (F.state files.old) → HasJournal cube.now (F.state files.old) (S.state store.old) → ¬ Rose (F.state files.old).faults (F.state files.new).faults → ¬ Rose (S.state store.old).faults (S.state store.new).faults → ¬ Rose (O.state out.old).faults (O.state out.new).faults → (result.status ≡ 0) ⊎ (result.status ≡ 7) }
+    ensures complete { AdviseCompletes cube.now (Some journal.now) workload.now (seen F.state files.old files.new) (seen S.state store.old store.new) (seen O.state out.old out.new) result }
     ensures words { result.status ≢ 2 }
     ensures wire { result.status ≢ 8 }
     ensures outcomes { result.outcomes ≡ [] }
 {
-    let opened = match open_advisable(alloc, room, cube, workload, files) {
+    let opened = match open_advisable(alloc, message, cube, workload, files) {
         Ok(opened) => opened,
         Err(report) => return report,
     };
@@ -205,19 +213,19 @@ fn advise_later<F: Folder, S: Store, O: Sink>(
         workload: bytes,
     } = opened.value;
     let _rules = guarded.core.dims();
-    let started = match open_engine(alloc, opened.room, guarded, journal, 1, store) {
+    let started = match open_engine(alloc, opened.message, guarded, journal, 1, store) {
         Ok(started) => started,
         Err(report) => return report,
     };
     let text = told_behind(alloc, &started.value, &bytes);
-    put_advice(alloc, started.room, text, out)
+    put_advice(alloc, started.message, text, out)
 }
 
 /// Puts what can be released from a cube, before anything is asked or behind the history that the journal holds, where one is named, and
 /// the words for the lines of a workload, where one is named.
 pub fn advise<F: Folder, S: Store, O: Sink>(
     alloc: Global,
-    room: Room,
+    message: Message,
     cube: &CubeFiles,
     journal: &Option<Text>,
     workload: &Option<Text>,
@@ -225,7 +233,7 @@ pub fn advise<F: Folder, S: Store, O: Sink>(
     store: &mut S,
     out: &mut O,
 ) -> Report
-    requires { room ≡ [] }
+    requires { message ≡ [] }
     ensures answers { AdviseEnds cube.now journal.now workload.now (seen F.state files.old files.new) (seen S.state store.old store.new) (seen O.state out.old out.new) result }
     ensures names { AsksIfNamed journal.now (seen S.state store.old store.new) result }
     ensures unkept { result.status ≡ 9 → Rose (S.state store.old).faults (S.state store.new).faults }
@@ -241,7 +249,7 @@ pub fn advise<F: Folder, S: Store, O: Sink>(
     ensures outcomes { result.outcomes ≡ [] }
 {
     match journal {
-        None => advise_first(alloc, room, cube, workload, files, out),
-        Some(name) => advise_later(alloc, room, cube, name, workload, files, store, out),
+        None => advise_first(alloc, message, cube, workload, files, out),
+        Some(name) => advise_later(alloc, message, cube, name, workload, files, store, out),
     }
 }

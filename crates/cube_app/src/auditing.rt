@@ -9,7 +9,7 @@ ghost use Rattle.cube_audit.specs.Sound.{SaysSound};
 ghost use Rattle.cube_audit.specs.Words.{fault_words};
 ghost use Rattle.cube_audit.specs.declared.transcript.TranscriptFault.TheVariants as faults;
 ghost use Rattle.cube_opening.specs.Opening.{fault_text as refusal, FileSays, AskedFor, EndsAt, Reads, IsSteady};
-ghost use Rattle.cube_opening.specs.Reports.{IsReport, NoRoom};
+ghost use Rattle.cube_opening.specs.Reports.{IsReport, NoMessage};
 ghost use Rattle.cube_app.specs.Auditing.{transcript_said, AuditEnds, AuditCompletes};
 
 use crate::run::print;
@@ -18,22 +18,24 @@ use cube_core::{Core, Steps};
 use cube_io::{Folder, Sink};
 use cube_model::{NoMemory, Policy, Text};
 use cube_opening::{
-    CubeFiles, Opened, Report, Room, no_room, open_unsealed, read_bytes, refuse, statuses,
+    CubeFiles, Message, Opened, Report, no_message, open_unsealed, read_bytes, refuse, statuses,
 };
 use std::alloc::Global;
 use std::marker::Brand;
 use std::sync::ledger::{Blank, Ledger};
 
 // The report on a fault of a transcript.
-fn refuse_transcript(alloc: Global, room: Room, fault: TranscriptFault) -> Report
-    requires { room ≡ [] }
-    ensures { NoRoom result ⊎ IsReport 7 (codes "no memory\n") result ⊎ ((fault ≢ faults.NoMemory) × IsReport 3 (refusal (codes "transcript") (fault_words fault)) result) }
+fn refuse_transcript(alloc: Global, message: Message, fault: TranscriptFault) -> Report
+    requires { message ≡ [] }
+    ensures { NoMessage result ⊎ IsReport 7 (codes "no memory\n") result ⊎ ((fault ≢ faults.NoMemory) × IsReport 3 (refusal (codes "transcript") (fault_words fault)) result) }
 {
     match fault {
-        TranscriptFault::NoMemory => room.with(b"no memory\n").close(alloc, statuses::NO_MEMORY),
+        TranscriptFault::NoMemory => message
+            .with(b"no memory\n")
+            .close(alloc, statuses::NO_MEMORY),
         other => match fault_text(alloc, &other) {
             Ok(words) => refuse(alloc, b"transcript", &words),
-            Err(_) => no_room(alloc),
+            Err(_) => no_message(alloc),
         },
     }
 }
@@ -41,27 +43,27 @@ fn refuse_transcript(alloc: Global, room: Room, fault: TranscriptFault) -> Repor
 // Reads the transcript.
 fn open_transcript<F: Folder>(
     alloc: Global,
-    room: Room,
+    message: Message,
     name: &Text,
     files: &mut F,
 ) -> Result<Opened<Transcript>, Report>
-    requires { room ≡ [] }
-    ensures ok { IfOk result (λ opened. (opened.room ≡ []) × IfSome (F.state files.old).files (λ known. FileSays transcript_said name.now known (Ok opened.value))) }
+    requires { message ≡ [] }
+    ensures ok { IfOk result (λ opened. (opened.message ≡ []) × IfSome (F.state files.old).files (λ known. FileSays transcript_said name.now known (Ok opened.value))) }
     ensures few { IfOk result (λ opened. length opened.value ≤ 65536) }
     ensures err { IfErr result (EndsAt [] transcript_said name.now (seen F.state files.old files.new)) }
     ensures asks { OnOk result (AskedFor (name.now ∷ []) (seen F.state files.old files.new)) }
     ensures reads { Reads (seen F.state files.old files.new) result }
 {
-    let opened = match read_bytes(alloc, room, b"transcript", name, files) {
+    let opened = match read_bytes(alloc, message, b"transcript", name, files) {
         Ok(opened) => opened,
         Err(report) => return Err(report),
     };
     match read_transcript(alloc, opened.value.as_slice()) {
         Ok(value) => Ok(Opened {
-            room: opened.room,
+            message: opened.message,
             value,
         }),
-        Err(fault) => Err(refuse_transcript(alloc, opened.room, fault)),
+        Err(fault) => Err(refuse_transcript(alloc, opened.message, fault)),
     }
 }
 
@@ -104,13 +106,13 @@ fn line_of(
 /// Checks the transcript in a file against the cube of the files, and prints the line of the audit.
 pub fn audit<F: Folder, O: Sink>(
     alloc: Global,
-    room: Room,
+    message: Message,
     cube: &CubeFiles,
     transcript: &Text,
     files: &mut F,
     out: &mut O,
 ) -> Report
-    requires { room ≡ [] }
+    requires { message ≡ [] }
     ensures answers { AuditEnds cube.now transcript.now (seen F.state files.old files.new) (seen O.state out.old out.new) result }
     ensures unreadable { result.status ≡ 5 → Rose (F.state files.old).faults (F.state files.new).faults }
     ensures output { result.status ≡ 6 → Rose (O.state out.old).faults (O.state out.new).faults }
@@ -122,19 +124,19 @@ pub fn audit<F: Folder, O: Sink>(
     ensures store { result.status ≢ 9 }
     ensures outcomes { result.outcomes ≡ [] }
 {
-    let opened = match open_unsealed(alloc, room, cube, files) {
+    let opened = match open_unsealed(alloc, message, cube, files) {
         Ok(opened) => opened,
         Err(report) => return report,
     };
     let guarded = opened.value;
-    let read = match open_transcript(alloc, opened.room, transcript, files) {
+    let read = match open_transcript(alloc, opened.message, transcript, files) {
         Ok(read) => read,
         Err(report) => return report,
     };
     match line_of(alloc, &guarded.core, &guarded.policy, &read.value) {
-        Ok(text) => print(alloc, read.room, text.as_slice(), out),
+        Ok(text) => print(alloc, read.message, text.as_slice(), out),
         Err(_) => read
-            .room
+            .message
             .with(b"no memory\n")
             .close(alloc, statuses::NO_MEMORY),
     }

@@ -26,7 +26,9 @@ use cube_engine::Engine;
 use cube_io::{Folder, Sink, Store};
 use cube_journal::{digest_of, journal2_text, public_text};
 use cube_model::{Entry, History, NoMemory, Places, Policy, Text};
-use cube_opening::{CubeFiles, Report, Room, open_guarded, open_unsealed, refuse_line, statuses};
+use cube_opening::{
+    CubeFiles, Message, Report, open_guarded, open_unsealed, refuse_line, statuses,
+};
 use cube_serving::open_engine;
 use std::alloc::Global;
 
@@ -151,11 +153,11 @@ fn carried_over(
 #[tactic(auto, using(crate::proofs::Handed::not_uncarried))]
 fn put_carried<O: Sink>(
     alloc: Global,
-    room: Room,
+    message: Message,
     said: Result<Text, Uncarried>,
     out: &mut O,
 ) -> Report
-    requires { room ≡ [] }
+    requires { message ≡ [] }
     ensures hands { HandsSo said (seen O.state out.old out.new) result }
     ensures accepted { (x : Handing) → IfErr said (IsUncarried x) → IsHanded x → result.status ≢ 3 }
     ensures output { result.status ≡ 6 → Rose (O.state out.old).faults (O.state out.new).faults }
@@ -164,16 +166,18 @@ fn put_carried<O: Sink>(
     ensures outcomes { result.outcomes ≡ [] }
 {
     match said {
-        Ok(text) => print(alloc, room, text.as_slice(), out),
+        Ok(text) => print(alloc, message, text.as_slice(), out),
         Err(Uncarried::Line(line)) => refuse_line(alloc, b"carry: ", &line),
-        Err(Uncarried::NoMemory) => room.with(b"no memory\n").close(alloc, statuses::NO_MEMORY),
+        Err(Uncarried::NoMemory) => message
+            .with(b"no memory\n")
+            .close(alloc, statuses::NO_MEMORY),
     }
 }
 
 /// Puts the journal of a cube that holds what the journal of an older one told, where the cube continues that one.
 pub fn carry_over<F: Folder, S: Store, O: Sink>(
     alloc: Global,
-    room: Room,
+    message: Message,
     cube: &CubeFiles,
     older: &CubeFiles,
     journal: &Text,
@@ -181,7 +185,7 @@ pub fn carry_over<F: Folder, S: Store, O: Sink>(
     store: &mut S,
     out: &mut O,
 ) -> Report
-    requires { room ≡ [] }
+    requires { message ≡ [] }
     ensures answers { CarryEnds cube.now older.now (seen F.state files.old files.new) (seen S.state store.old store.new) (seen O.state out.old out.new) result }
     ensures names { (store.new ≡ store.old) ⊎ AsksStore journal.now (seen S.state store.old store.new) result }
     ensures unkept { result.status ≡ 9 → Rose (S.state store.old).faults (S.state store.new).faults }
@@ -196,19 +200,19 @@ pub fn carry_over<F: Folder, S: Store, O: Sink>(
     ensures wire { result.status ≢ 8 }
     ensures outcomes { result.outcomes ≡ [] }
 {
-    let opened = match open_unsealed(alloc, room, cube, files) {
+    let opened = match open_unsealed(alloc, message, cube, files) {
         Ok(opened) => opened,
         Err(report) => return report,
     };
     let new = opened.value;
-    let guarded = match open_guarded(alloc, opened.room, older, files) {
+    let guarded = match open_guarded(alloc, opened.message, older, files) {
         Ok(guarded) => guarded,
         Err(report) => return report,
     };
-    let started = match open_engine(alloc, guarded.room, guarded.value, journal, 1, store) {
+    let started = match open_engine(alloc, guarded.message, guarded.value, journal, 1, store) {
         Ok(started) => started,
         Err(report) => return report,
     };
     let said = carried_over(alloc, &started.value, &new.core, &new.policy);
-    put_carried(alloc, started.room, said, out)
+    put_carried(alloc, started.message, said, out)
 }

@@ -12,7 +12,7 @@ use crate::run::print;
 use cube_engine::{Engine, NoChanges};
 use cube_io::{Folder, Sink, Store};
 use cube_model::Text;
-use cube_opening::{CubeFiles, Report, Room, open_guarded, refuse_line, statuses};
+use cube_opening::{CubeFiles, Message, Report, open_guarded, refuse_line, statuses};
 use cube_serving::open_engine;
 use std::alloc::Global;
 
@@ -30,11 +30,11 @@ pub enum Telling {
 // Puts what is told.
 fn put_told<O: Sink>(
     alloc: Global,
-    room: Room,
+    message: Message,
     told: Result<Text, NoChanges>,
     out: &mut O,
 ) -> Report
-    requires { room ≡ [] }
+    requires { message ≡ [] }
     ensures tells { (said : Result (List ℕ) (ℕ × List ℕ)) → IfOk told (λ text. said ≡ Ok text) → IfErr told (λ why. Refuses why said) → Tells said (seen O.state out.old out.new) result }
     ensures accepted { (said : Result (List ℕ) (ℕ × List ℕ)) → IfErr told (λ why. Refuses why said) → IsOk said → result.status ≢ 3 }
     ensures output { result.status ≡ 6 → Rose (O.state out.old).faults (O.state out.new).faults }
@@ -43,9 +43,11 @@ fn put_told<O: Sink>(
     ensures outcomes { result.outcomes ≡ [] }
 {
     match told {
-        Ok(text) => print(alloc, room, text.as_slice(), out),
+        Ok(text) => print(alloc, message, text.as_slice(), out),
         Err(NoChanges::Said { line, .. }) => refuse_line(alloc, b"cell: ", &line),
-        Err(NoChanges::NoMemory) => room.with(b"no memory\n").close(alloc, statuses::NO_MEMORY),
+        Err(NoChanges::NoMemory) => message
+            .with(b"no memory\n")
+            .close(alloc, statuses::NO_MEMORY),
     }
 }
 
@@ -67,7 +69,7 @@ fn told_of(alloc: Global, engine: Engine, telling: Telling, cell: &Text) -> Resu
 /// Puts what is to be told, by the history that the journal holds.
 pub fn tell<F: Folder, S: Store, O: Sink>(
     alloc: Global,
-    room: Room,
+    message: Message,
     telling: Telling,
     cube: &CubeFiles,
     journal: &Text,
@@ -76,7 +78,7 @@ pub fn tell<F: Folder, S: Store, O: Sink>(
     store: &mut S,
     out: &mut O,
 ) -> Report
-    requires { room ≡ [] }
+    requires { message ≡ [] }
     ensures answers { TellEnds telling cube.now cell.now (seen F.state files.old files.new) (seen S.state store.old store.new) (seen O.state out.old out.new) result }
     ensures names { (store.new ≡ store.old) ⊎ AsksStore journal.now (seen S.state store.old store.new) result }
     ensures unkept { result.status ≡ 9 → Rose (S.state store.old).faults (S.state store.new).faults }
@@ -91,15 +93,15 @@ pub fn tell<F: Folder, S: Store, O: Sink>(
     ensures wire { result.status ≢ 8 }
     ensures outcomes { result.outcomes ≡ [] }
 {
-    let opened = match open_guarded(alloc, room, cube, files) {
+    let opened = match open_guarded(alloc, message, cube, files) {
         Ok(opened) => opened,
         Err(report) => return report,
     };
     let _rules = opened.value.core.dims();
-    let started = match open_engine(alloc, opened.room, opened.value, journal, 1, store) {
+    let started = match open_engine(alloc, opened.message, opened.value, journal, 1, store) {
         Ok(started) => started,
         Err(report) => return report,
     };
     let told = told_of(alloc, started.value, telling, cell);
-    put_told(alloc, started.room, told, out)
+    put_told(alloc, started.message, told, out)
 }

@@ -9,20 +9,22 @@ use crate::run::print;
 use cube_draft::{Draft, DraftFault, draft_files, fault_text};
 use cube_io::{Folder, Sink};
 use cube_model::Text;
-use cube_opening::{Report, Room, no_room, read_bytes, refuse, statuses};
+use cube_opening::{Message, Report, no_message, read_bytes, refuse, statuses};
 use cube_words::Drafting;
 use std::alloc::Global;
 
 // The report on a fault of a draft.
-fn refuse_draft(alloc: Global, room: Room, fault: DraftFault) -> Report
-    requires { room ≡ [] }
+fn refuse_draft(alloc: Global, message: Message, fault: DraftFault) -> Report
+    requires { message ≡ [] }
     ensures { Undrafted result }
 {
     match fault {
-        DraftFault::NoMemory => room.with(b"no memory\n").close(alloc, statuses::NO_MEMORY),
+        DraftFault::NoMemory => message
+            .with(b"no memory\n")
+            .close(alloc, statuses::NO_MEMORY),
         other => match fault_text(alloc, &other) {
             Ok(words) => refuse(alloc, b"draft", &words),
-            Err(_) => no_room(alloc),
+            Err(_) => no_message(alloc),
         },
     }
 }
@@ -41,12 +43,12 @@ fn text_of<'a>(drafting: &Drafting, draft: &'a Draft) -> &'a Text
 /// Prints the dimension file or the policy file that is drafted for a fact file.
 pub fn draft<F: Folder, O: Sink>(
     alloc: Global,
-    room: Room,
+    message: Message,
     drafting: &Drafting,
     files: &mut F,
     out: &mut O,
 ) -> Report
-    requires { room ≡ [] }
+    requires { message ≡ [] }
     ensures answers { DraftRun drafting.now (seen F.state files.old files.new) (seen O.state out.old out.new) result }
     ensures unreadable { result.status ≡ 5 → Rose (F.state files.old).faults (F.state files.new).faults }
     ensures output { result.status ≡ 6 → Rose (O.state out.old).faults (O.state out.new).faults }
@@ -57,17 +59,17 @@ pub fn draft<F: Folder, O: Sink>(
     ensures store { result.status ≢ 9 }
     ensures outcomes { result.outcomes ≡ [] }
 {
-    let opened = match read_bytes(alloc, room, b"facts", &drafting.facts, files) {
+    let opened = match read_bytes(alloc, message, b"facts", &drafting.facts, files) {
         Ok(opened) => opened,
         Err(report) => return report,
     };
     match draft_files(alloc, opened.value.as_slice(), &drafting.choices) {
         Ok(drafted) => print(
             alloc,
-            opened.room,
+            opened.message,
             text_of(drafting, &drafted).as_slice(),
             out,
         ),
-        Err(fault) => refuse_draft(alloc, opened.room, fault),
+        Err(fault) => refuse_draft(alloc, opened.message, fault),
     }
 }

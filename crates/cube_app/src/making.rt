@@ -7,13 +7,13 @@ ghost use Rattle.cube_app.specs.Making.{DemoRun};
 
 use cube_demo::{DemoFault, demo};
 use cube_io::Sink;
-use cube_opening::{Report, Room, statuses};
+use cube_opening::{Message, Report, statuses};
 use cube_words::Making;
 use std::alloc::Global;
 
 /// Says what the cube that is made of a number and a size answers to made queries.
-pub fn show<O: Sink>(alloc: Global, room: Room, making: Making, out: &mut O) -> Report
-    requires room { room ≡ [] }
+pub fn show<O: Sink>(alloc: Global, message: Message, making: Making, out: &mut O) -> Report
+    requires message { message ≡ [] }
     requires fits { IsMade making }
     ensures run { DemoRun making (seen O.state out.old out.new) result }
     ensures output { result.status ≡ 6 → Rose (O.state out.old).faults (O.state out.new).faults }
@@ -25,13 +25,12 @@ pub fn show<O: Sink>(alloc: Global, room: Room, making: Making, out: &mut O) -> 
     ensures outcomes { result.outcomes ≡ [] }
 {
     match demo(alloc, making.number, making.size, out) {
-        Ok(()) => room.close(alloc, statuses::DONE),
-        Err(DemoFault::OutputFailed) => room
+        Ok(()) => message.close(alloc, statuses::DONE),
+        Err(DemoFault::OutputFailed) => message
             .with(b"output failed\n")
             .close(alloc, statuses::OUTPUT_FAILED),
-        Err(DemoFault::NoMemory) => room.with(b"no memory\n").close(alloc, statuses::NO_MEMORY),
-        Err(DemoFault::Unread) => room
-            .with(b"made: unread\n")
-            .close(alloc, statuses::FILE_REFUSED),
+        Err(DemoFault::NoMemory) => message
+            .with(b"no memory\n")
+            .close(alloc, statuses::NO_MEMORY),
     }
 }

@@ -17,7 +17,7 @@ use cube_engine::Engine;
 use cube_io::{Folder, Sink, Store};
 use cube_model::{NoMemory, Request, Text};
 use cube_opening::{
-    CubeFiles, Opened, Report, Room, open_guarded, read_bytes, refuse_line, statuses,
+    CubeFiles, Message, Opened, Report, open_guarded, read_bytes, refuse_line, statuses,
 };
 use cube_query::{RequestFault, read_request};
 use cube_reason::{accept_text, why_text};
@@ -150,8 +150,13 @@ fn whether_of(alloc: Global, engine: Engine, query: &Text, reason: &Text) -> Res
 }
 
 // Puts what is said of a query.
-fn put_said<O: Sink>(alloc: Global, room: Room, said: Result<Text, Unsaid>, out: &mut O) -> Report
-    requires { room ≡ [] }
+fn put_said<O: Sink>(
+    alloc: Global,
+    message: Message,
+    said: Result<Text, Unsaid>,
+    out: &mut O,
+) -> Report
+    requires { message ≡ [] }
     ensures says { SaysSo said (seen O.state out.old out.new) result }
     ensures accepted { (core : cores.Core) (query : List ℕ) → IfErr said (IsUnsaid core query) → IsOk (request_of core.dims query) → result.status ≢ 3 }
     ensures output { result.status ≡ 6 → Rose (O.state out.old).faults (O.state out.new).faults }
@@ -160,9 +165,11 @@ fn put_said<O: Sink>(alloc: Global, room: Room, said: Result<Text, Unsaid>, out:
     ensures outcomes { result.outcomes ≡ [] }
 {
     match said {
-        Ok(text) => print(alloc, room, text.as_slice(), out),
+        Ok(text) => print(alloc, message, text.as_slice(), out),
         Err(Unsaid::Query(line)) => refuse_line(alloc, b"query: ", &line),
-        Err(Unsaid::NoMemory) => room.with(b"no memory\n").close(alloc, statuses::NO_MEMORY),
+        Err(Unsaid::NoMemory) => message
+            .with(b"no memory\n")
+            .close(alloc, statuses::NO_MEMORY),
     }
 }
 
@@ -170,7 +177,7 @@ fn put_said<O: Sink>(alloc: Global, room: Room, said: Result<Text, Unsaid>, out:
 // reason, or that it is admitted.
 fn why<F: Folder, S: Store, O: Sink>(
     alloc: Global,
-    room: Room,
+    message: Message,
     cube: &CubeFiles,
     journal: &Text,
     query: &Text,
@@ -178,7 +185,7 @@ fn why<F: Folder, S: Store, O: Sink>(
     store: &mut S,
     out: &mut O,
 ) -> Report
-    requires { room ≡ [] }
+    requires { message ≡ [] }
     ensures answers { WhyEnds cube.now query.now (seen F.state files.old files.new) (seen S.state store.old store.new) (seen O.state out.old out.new) result }
     ensures names { (store.new ≡ store.old) ⊎ AsksStore journal.now (seen S.state store.old store.new) result }
     ensures unkept { result.status ≡ 9 → Rose (S.state store.old).faults (S.state store.new).faults }
@@ -193,32 +200,32 @@ fn why<F: Folder, S: Store, O: Sink>(
     ensures wire { result.status ≢ 8 }
     ensures outcomes { result.outcomes ≡ [] }
 {
-    let opened = match open_guarded(alloc, room, cube, files) {
+    let opened = match open_guarded(alloc, message, cube, files) {
         Ok(opened) => opened,
         Err(report) => return report,
     };
-    let started = match open_engine(alloc, opened.room, opened.value, journal, 1, store) {
+    let started = match open_engine(alloc, opened.message, opened.value, journal, 1, store) {
         Ok(started) => started,
         Err(report) => return report,
     };
     let said = why_of(alloc, started.value, query);
-    put_said(alloc, started.room, said, out)
+    put_said(alloc, started.message, said, out)
 }
 
 // Reads the file of a reason.
 fn open_reason<F: Folder>(
     alloc: Global,
-    room: Room,
+    message: Message,
     name: &Text,
     files: &mut F,
 ) -> Result<Opened<Text>, Report>
-    requires { room ≡ [] }
-    ensures ok { IfOk result (λ opened. (opened.room ≡ []) × IfSome (F.state files.old).files (λ known. FileSays reason_said name.now known (Ok opened.value))) }
+    requires { message ≡ [] }
+    ensures ok { IfOk result (λ opened. (opened.message ≡ []) × IfSome (F.state files.old).files (λ known. FileSays reason_said name.now known (Ok opened.value))) }
     ensures err { IfErr result (EndsAt [] reason_said name.now (seen F.state files.old files.new)) }
     ensures asks { OnOk result (AskedFor (name.now ∷ []) (seen F.state files.old files.new)) }
     ensures reads { Reads (seen F.state files.old files.new) result }
 {
-    match read_bytes(alloc, room, b"reason", name, files) {
+    match read_bytes(alloc, message, b"reason", name, files) {
         Ok(opened) => Ok(opened),
         Err(report) => Err(report),
     }
@@ -227,7 +234,7 @@ fn open_reason<F: Folder>(
 // Puts whether the bytes of a file say why a query is refused behind the history that the journal holds.
 fn check_reason<F: Folder, S: Store, O: Sink>(
     alloc: Global,
-    room: Room,
+    message: Message,
     cube: &CubeFiles,
     journal: &Text,
     query: &Text,
@@ -236,7 +243,7 @@ fn check_reason<F: Folder, S: Store, O: Sink>(
     store: &mut S,
     out: &mut O,
 ) -> Report
-    requires { room ≡ [] }
+    requires { message ≡ [] }
     ensures answers { WhetherEnds cube.now query.now reason.now (seen F.state files.old files.new) (seen S.state store.old store.new) (seen O.state out.old out.new) result }
     ensures names { (store.new ≡ store.old) ⊎ AsksStore journal.now (seen S.state store.old store.new) result }
     ensures unkept { result.status ≡ 9 → Rose (S.state store.old).faults (S.state store.new).faults }
@@ -251,28 +258,28 @@ fn check_reason<F: Folder, S: Store, O: Sink>(
     ensures wire { result.status ≢ 8 }
     ensures outcomes { result.outcomes ≡ [] }
 {
-    let opened = match open_guarded(alloc, room, cube, files) {
+    let opened = match open_guarded(alloc, message, cube, files) {
         Ok(opened) => opened,
         Err(report) => return report,
     };
     let guarded = opened.value;
-    let read = match open_reason(alloc, opened.room, reason, files) {
+    let read = match open_reason(alloc, opened.message, reason, files) {
         Ok(read) => read,
         Err(report) => return report,
     };
-    let started = match open_engine(alloc, read.room, guarded, journal, 1, store) {
+    let started = match open_engine(alloc, read.message, guarded, journal, 1, store) {
         Ok(started) => started,
         Err(report) => return report,
     };
     let said = whether_of(alloc, started.value, query, &read.value);
-    put_said(alloc, started.room, said, out)
+    put_said(alloc, started.message, said, out)
 }
 
 /// Puts why a query is refused behind the history that the journal holds; or, where the file of a reason is named, whether its
 /// bytes say so.
 pub fn say_why<F: Folder, S: Store, O: Sink>(
     alloc: Global,
-    room: Room,
+    message: Message,
     cube: &CubeFiles,
     journal: &Text,
     query: &Text,
@@ -281,7 +288,7 @@ pub fn say_why<F: Folder, S: Store, O: Sink>(
     store: &mut S,
     out: &mut O,
 ) -> Report
-    requires { room ≡ [] }
+    requires { message ≡ [] }
     ensures run { ReasonRun cube.now journal.now query.now reason.now (seen F.state files.old files.new) (seen S.state store.old store.new) (seen O.state out.old out.new) result }
     ensures unkept { result.status ≡ 9 → Rose (S.state store.old).faults (S.state store.new).faults }
     ensures others { OnlyJournal (S.state store.old) (S.state store.new) }
@@ -294,7 +301,9 @@ pub fn say_why<F: Folder, S: Store, O: Sink>(
     ensures outcomes { result.outcomes ≡ [] }
 {
     match reason {
-        None => why(alloc, room, cube, journal, query, files, store, out),
-        Some(name) => check_reason(alloc, room, cube, journal, query, name, files, store, out),
+        None => why(alloc, message, cube, journal, query, files, store, out),
+        Some(name) => check_reason(
+            alloc, message, cube, journal, query, name, files, store, out,
+        ),
     }
 }

@@ -4,7 +4,7 @@ ghost use Rattle.cube_io.specs.Causes.{Rose};
 ghost use Rattle.cube_io.specs.Seen.{seen};
 ghost use Rattle.cube_words.specs.Help.{help_said};
 ghost use Rattle.cube_words.specs.Words.{orders_of as orders_in, Fits};
-ghost use Rattle.cube_opening.specs.Reports.{IsReport, NoRoom, Prints};
+ghost use Rattle.cube_opening.specs.Reports.{IsReport, NoMessage, Prints};
 ghost use Rattle.cube_opening.specs.Opening.{HasAll, IsSteady};
 ghost use Rattle.cube_serving.specs.Starting.{AsksStore, OnlyJournal};
 ghost use Rattle.cube_app.specs.Runs.{Obeyed, Runs};
@@ -25,8 +25,8 @@ use cube_engine::Engine;
 use cube_io::{Folder, Sink, Source, Store, Wire};
 use cube_model::{NoMemory, Text};
 use cube_opening::{
-    CubeFiles, Report, Room, no_room, open_flat, open_guarded, open_unsealed, spent_room, statuses,
-    with_text,
+    CubeFiles, Message, Report, no_message, open_flat, open_guarded, open_unsealed, spent_message,
+    statuses, with_text,
 };
 use cube_serving::{open_engine, replay_cube, replay_grouped, serve_cube, serve_grouped};
 use cube_talk::{Carry, Ending, TalkEnd, converse_by_asks, converse_by_sums};
@@ -58,17 +58,17 @@ fn usage_text(alloc: Global, words: &[Text], usage: Usage) -> Result<Text, NoMem
 }
 
 fn refuse_words(alloc: Global, words: &[Text], usage: Usage) -> Report
-    ensures { IsReport 2 (usage_words words.now usage) result ⊎ NoRoom result }
+    ensures { IsReport 2 (usage_words words.now usage) result ⊎ NoMessage result }
 {
     match usage_text(alloc, words, usage) {
         Ok(text) => with_text(alloc, statuses::WRONG_WORDS, text),
-        Err(_) => no_room(alloc),
+        Err(_) => no_message(alloc),
     }
 }
 
 /// Puts a text.
-pub fn print<O: Sink>(alloc: Global, room: Room, text: &[u8], out: &mut O) -> Report
-    requires { room ≡ [] }
+pub fn print<O: Sink>(alloc: Global, message: Message, text: &[u8], out: &mut O) -> Report
+    requires { message ≡ [] }
     ensures prints { Prints text.now (seen O.state out.old out.new) result }
     ensures output { result.status ≡ 6 → Rose (O.state out.old).faults (O.state out.new).faults }
     ensures steady { result.status ≢ 6 → (O.state out.new).faults ≡ (O.state out.old).faults }
@@ -80,16 +80,16 @@ pub fn print<O: Sink>(alloc: Global, room: Room, text: &[u8], out: &mut O) -> Re
     ensures outcomes { result.outcomes ≡ [] }
 {
     match out.put(text) {
-        Ok(()) => room.close(alloc, statuses::DONE),
-        Err(_) => room
+        Ok(()) => message.close(alloc, statuses::DONE),
+        Err(_) => message
             .with(b"output failed\n")
             .close(alloc, statuses::OUTPUT_FAILED),
     }
 }
 
 // Puts the help, or its part on a command.
-fn print_help<O: Sink>(alloc: Global, room: Room, on: Option<Command>, out: &mut O) -> Report
-    requires { room ≡ [] }
+fn print_help<O: Sink>(alloc: Global, message: Message, on: Option<Command>, out: &mut O) -> Report
+    requires { message ≡ [] }
     ensures prints { Prints (help_said on) (seen O.state out.old out.new) result }
     ensures output { result.status ≡ 6 → Rose (O.state out.old).faults (O.state out.new).faults }
     ensures steady { result.status ≢ 6 → (O.state out.new).faults ≡ (O.state out.old).faults }
@@ -100,8 +100,8 @@ fn print_help<O: Sink>(alloc: Global, room: Room, on: Option<Command>, out: &mut
     ensures outcomes { result.outcomes ≡ [] }
 {
     match help(alloc, on) {
-        Ok(text) => print(alloc, room, text.as_slice(), out),
-        Err(_) => no_room(alloc),
+        Ok(text) => print(alloc, message, text.as_slice(), out),
+        Err(_) => no_message(alloc),
     }
 }
 
@@ -117,37 +117,37 @@ fn status_of(ending: Ending) -> u8
     }
 }
 
-fn ending_room(room: Room, end: TalkEnd, requests: u64) -> Room
-    requires { room ≡ [] }
+fn ending_message(message: Message, end: TalkEnd, requests: u64) -> Message
+    requires { message ≡ [] }
     ensures { result ≡ ending_text end.ending requests end.bytes }
 {
     match end.ending {
-        Ending::Ended => room,
-        Ending::InputFailed => room.with(b"input failed\n"),
-        Ending::OutputFailed => room.with(b"output failed\n"),
-        Ending::NoMemory => room.with(b"no memory\n"),
-        Ending::Spent => spent_room(room, requests, end.bytes),
+        Ending::Ended => message,
+        Ending::InputFailed => message.with(b"input failed\n"),
+        Ending::OutputFailed => message.with(b"output failed\n"),
+        Ending::NoMemory => message.with(b"no memory\n"),
+        Ending::Spent => spent_message(message, requests, end.bytes),
     }
 }
 
-fn report_talk(alloc: Global, room: Room, end: TalkEnd, requests: u64) -> Report
-    requires { room ≡ [] }
+fn report_talk(alloc: Global, message: Message, end: TalkEnd, requests: u64) -> Report
+    requires { message ≡ [] }
     ensures { IsReport (status_in end.ending) (ending_text end.ending requests end.bytes) result }
 {
-    ending_room(room, end, requests).close(alloc, status_of(end.ending))
+    ending_message(message, end, requests).close(alloc, status_of(end.ending))
 }
 
 // The sums over a file for the lines of the input.
 fn sum<F: Folder, S: Store, I: Source, O: Sink>(
     alloc: Global,
-    room: Room,
+    message: Message,
     name: &Text,
     files: &mut F,
     store: &mut S,
     input: &mut I,
     out: &mut O,
 ) -> Report
-    requires { room ≡ [] }
+    requires { message ≡ [] }
     ensures answers { SumEnds name.now (seen F.state files.old files.new) (seen I.state input.old input.new) (seen O.state out.old out.new) result }
     ensures ended { result.status ≡ 0 → (I.state input.new).ended ≡ true }
     ensures unreadable { result.status ≡ 5 → (Rose (F.state files.old).faults (F.state files.new).faults × ((I.state input.new).faults ≡ (I.state input.old).faults)) ⊎ (Rose (I.state input.old).faults (I.state input.new).faults × IsSteady (seen F.state files.old files.new)) }
@@ -161,29 +161,29 @@ fn sum<F: Folder, S: Store, I: Source, O: Sink>(
     ensures outcomes { result.outcomes ≡ [] }
     ensures store { store.new ≡ store.old }
 {
-    let opened = match open_flat(alloc, room, name, files) {
+    let opened = match open_flat(alloc, message, name, files) {
         Ok(opened) => opened,
         Err(report) => return report,
     };
     let Ok(carry) = Carry::new(alloc) else {
         return opened
-            .room
+            .message
             .with(b"no memory\n")
             .close(alloc, statuses::NO_MEMORY);
     };
     let (end, lines) = converse_by_sums(alloc, carry, opened.value, store, input, out);
-    report_talk(alloc, opened.room, end, lines)
+    report_talk(alloc, opened.message, end, lines)
 }
 
 // The summary of what the files of a cube hold.
 fn check<F: Folder, O: Sink>(
     alloc: Global,
-    room: Room,
+    message: Message,
     cube: &CubeFiles,
     files: &mut F,
     out: &mut O,
 ) -> Report
-    requires { room ≡ [] }
+    requires { message ≡ [] }
     ensures checks { CheckEnds cube.now (seen F.state files.old files.new) (seen O.state out.old out.new) result }
     ensures unreadable { result.status ≡ 5 → Rose (F.state files.old).faults (F.state files.new).faults }
     ensures output { result.status ≡ 6 → Rose (O.state out.old).faults (O.state out.new).faults }
@@ -195,33 +195,33 @@ fn check<F: Folder, O: Sink>(
     ensures store { result.status ≢ 9 }
     ensures outcomes { result.outcomes ≡ [] }
 {
-    let opened = match open_unsealed(alloc, room, cube, files) {
+    let opened = match open_unsealed(alloc, message, cube, files) {
         Ok(opened) => opened,
         Err(report) => return report,
     };
     match check_text(alloc, &opened.value.core, &opened.value.policy) {
-        Ok(text) => print(alloc, opened.room, text.as_slice(), out),
+        Ok(text) => print(alloc, opened.message, text.as_slice(), out),
         Err(_) => opened
-            .room
+            .message
             .with(b"no memory\n")
             .close(alloc, statuses::NO_MEMORY),
     }
 }
 
-fn report_asks(room: Room, end: TalkEnd, engine: Engine) -> Report
-    requires { room ≡ [] }
+fn report_asks(message: Message, end: TalkEnd, engine: Engine) -> Report
+    requires { message ≡ [] }
     ensures status { result.status ≡ status_in end.ending }
     ensures text { result.text ≡ ending_text end.ending (length engine.outcomes) end.bytes }
     ensures outcomes { result.outcomes ≡ engine.outcomes }
 {
-    let room = ending_room(room, end, engine.outcomes().len() as u64);
-    room.close_with(status_of(end.ending), engine.finish())
+    let message = ending_message(message, end, engine.outcomes().len() as u64);
+    message.close_with(status_of(end.ending), engine.finish())
 }
 
 // The answers of a cube to the lines of the input.
 fn ask<F: Folder, S: Store, I: Source, O: Sink>(
     alloc: Global,
-    room: Room,
+    message: Message,
     cube: &CubeFiles,
     journal: &Text,
     stated: u64,
@@ -230,7 +230,7 @@ fn ask<F: Folder, S: Store, I: Source, O: Sink>(
     input: &mut I,
     out: &mut O,
 ) -> Report
-    requires room { room ≡ [] }
+    requires message { message ≡ [] }
     requires stated { 1 ≤ stated }
     ensures answers { AskEnds cube.now stated (seen F.state files.old files.new) (seen S.state store.old store.new) (seen I.state input.old input.new) (seen O.state out.old out.new) result }
     ensures names { (store.new ≡ store.old) ⊎ AsksStore journal.now (seen S.state store.old store.new) result }
@@ -247,29 +247,29 @@ fn ask<F: Folder, S: Store, I: Source, O: Sink>(
     ensures words { result.status ≢ 2 }
     ensures wire { result.status ≢ 8 }
 {
-    let opened = match open_guarded(alloc, room, cube, files) {
+    let opened = match open_guarded(alloc, message, cube, files) {
         Ok(opened) => opened,
         Err(report) => return report,
     };
     let _rules = opened.value.core.dims();
-    let started = match open_engine(alloc, opened.room, opened.value, journal, stated, store) {
+    let started = match open_engine(alloc, opened.message, opened.value, journal, stated, store) {
         Ok(started) => started,
         Err(report) => return report,
     };
     let Ok(carry) = Carry::new(alloc) else {
         return started
-            .room
+            .message
             .with(b"no memory\n")
             .close(alloc, statuses::NO_MEMORY);
     };
     let (end, engine) = converse_by_asks(alloc, carry, started.value, store, input, out);
-    report_asks(started.room, end, engine)
+    report_asks(started.message, end, engine)
 }
 
 // Does what is ordered.
 fn obey<F: Folder, S: Store, I: Source, O: Sink, W: Wire>(
     alloc: Global,
-    room: Room,
+    message: Message,
     orders: Orders,
     files: &mut F,
     store: &mut S,
@@ -277,7 +277,7 @@ fn obey<F: Folder, S: Store, I: Source, O: Sink, W: Wire>(
     out: &mut O,
     wire: &mut W,
 ) -> Report
-    requires room { room ≡ [] }
+    requires message { message ≡ [] }
     requires fits { Fits orders }
     requires quiet { IsTrue (W.state wire.old).told → (W.state wire.old).log ≡ [] }
     ensures { Obeyed orders (record {
@@ -289,17 +289,17 @@ fn obey<F: Folder, S: Store, I: Source, O: Sink, W: Wire>(
     }) result }
 {
     match orders {
-        Orders::Help { on } => print_help(alloc, room, on, out),
-        Orders::Version => print(alloc, room, VERSION, out),
-        Orders::Draft { drafting } => draft(alloc, room, &drafting, files, out),
-        Orders::Sum { facts } => sum(alloc, room, &facts, files, store, input, out),
-        Orders::Check { files: cube } => check(alloc, room, &cube, files, out),
+        Orders::Help { on } => print_help(alloc, message, on, out),
+        Orders::Version => print(alloc, message, VERSION, out),
+        Orders::Draft { drafting } => draft(alloc, message, &drafting, files, out),
+        Orders::Sum { facts } => sum(alloc, message, &facts, files, store, input, out),
+        Orders::Check { files: cube } => check(alloc, message, &cube, files, out),
         Orders::Ask {
             files: cube,
             journal,
             stated,
         } => ask(
-            alloc, room, &cube, &journal, stated, files, store, input, out,
+            alloc, message, &cube, &journal, stated, files, store, input, out,
         ),
         Orders::Witness {
             files: cube,
@@ -307,7 +307,7 @@ fn obey<F: Folder, S: Store, I: Source, O: Sink, W: Wire>(
             cell,
         } => tell(
             alloc,
-            room,
+            message,
             Telling::Changes,
             &cube,
             &journal,
@@ -322,7 +322,7 @@ fn obey<F: Folder, S: Store, I: Source, O: Sink, W: Wire>(
             cell,
         } => tell(
             alloc,
-            room,
+            message,
             Telling::Twin,
             &cube,
             &journal,
@@ -339,7 +339,7 @@ fn obey<F: Folder, S: Store, I: Source, O: Sink, W: Wire>(
             let no_cell = Text::new(alloc);
             tell(
                 alloc,
-                room,
+                message,
                 Telling::Compacted,
                 &cube,
                 &journal,
@@ -353,24 +353,26 @@ fn obey<F: Folder, S: Store, I: Source, O: Sink, W: Wire>(
             files: cube,
             older,
             journal,
-        } => carry_over(alloc, room, &cube, &older, &journal, files, store, out),
+        } => carry_over(alloc, message, &cube, &older, &journal, files, store, out),
         Orders::Why {
             files: cube,
             journal,
             query,
             reason,
         } => say_why(
-            alloc, room, &cube, &journal, &query, &reason, files, store, out,
+            alloc, message, &cube, &journal, &query, &reason, files, store, out,
         ),
         Orders::Audit {
             files: cube,
             transcript,
-        } => audit(alloc, room, &cube, &transcript, files, out),
+        } => audit(alloc, message, &cube, &transcript, files, out),
         Orders::Advise {
             files: cube,
             journal,
             workload,
-        } => advise(alloc, room, &cube, &journal, &workload, files, store, out),
+        } => advise(
+            alloc, message, &cube, &journal, &workload, files, store, out,
+        ),
         Orders::Serve {
             files: cube,
             journal,
@@ -378,7 +380,7 @@ fn obey<F: Folder, S: Store, I: Source, O: Sink, W: Wire>(
             stated,
             idle,
         } => serve_cube(
-            alloc, room, &cube, &journal, &address, stated, idle, files, store, wire,
+            alloc, message, &cube, &journal, &address, stated, idle, files, store, wire,
         ),
         Orders::ServeGroups {
             files: cube,
@@ -387,7 +389,7 @@ fn obey<F: Folder, S: Store, I: Source, O: Sink, W: Wire>(
             stated,
             idle,
         } => serve_grouped(
-            alloc, room, &cube, &journal, &address, stated, idle, files, store, wire,
+            alloc, message, &cube, &journal, &address, stated, idle, files, store, wire,
         ),
         Orders::Replay {
             files: cube,
@@ -395,7 +397,7 @@ fn obey<F: Folder, S: Store, I: Source, O: Sink, W: Wire>(
             script,
             stated,
         } => replay_cube(
-            alloc, room, &cube, &journal, &script, stated, files, store, out,
+            alloc, message, &cube, &journal, &script, stated, files, store, out,
         ),
         Orders::ReplayGroups {
             files: cube,
@@ -403,9 +405,9 @@ fn obey<F: Folder, S: Store, I: Source, O: Sink, W: Wire>(
             script,
             stated,
         } => replay_grouped(
-            alloc, room, &cube, &journal, &script, stated, files, store, out,
+            alloc, message, &cube, &journal, &script, stated, files, store, out,
         ),
-        Orders::Demo { making } => show(alloc, room, making, out),
+        Orders::Demo { making } => show(alloc, message, making, out),
     }
 }
 
@@ -435,12 +437,12 @@ pub fn run<F: Folder, S: Store, I: Source, O: Sink, W: Wire>(
     ensures talks { TwinTalksAreTheSame }
     ensures logs { TwinLogsAreTheSame }
 {
-    let Ok(room) = Room::new(alloc) else {
-        return no_room(alloc);
+    let Ok(message) = Message::new(alloc) else {
+        return no_message(alloc);
     };
     match orders_of(alloc, words) {
-        Err(_) => no_room(alloc),
+        Err(_) => no_message(alloc),
         Ok(Err(usage)) => refuse_words(alloc, words, usage),
-        Ok(Ok(orders)) => obey(alloc, room, orders, files, store, input, out, wire),
+        Ok(Ok(orders)) => obey(alloc, message, orders, files, store, input, out, wire),
     }
 }

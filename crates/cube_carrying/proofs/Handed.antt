@@ -24,7 +24,7 @@ use Rattle.cube_model.proofs.Members.{IsIn-map, IsIn-count_from}
 use Rattle.cube_model.proofs.Sums.{length-count_from}
 use Rattle.cube_source.specs.Blocks.{AreFlags}
 use Rattle.cube_colour.proofs.History.{All-from}
-use Rattle.cube_admit.specs.States.{State, StandsFor, entry_of}
+use Rattle.cube_admit.specs.States.{State, IsStateOf, entry_of}
 use Rattle.cube_carry.specs.Carrying as carrying
 use Rattle.cube_carry.specs.Carrying.{last, source_for}
 use Rattle.cube_carry.specs.Names.{Named, named, known, IsNamed, measure_in, carried_levels, carried_place, carried_link}
@@ -41,16 +41,16 @@ use Rattle.cube_carrying.proofs.Mixing.{stays_apart_is}
 use Rattle.std.proofs.lemmas.Bool.{and_parts, ltb-true}
 
 -- ---- the old history
-pub admissible : (g : Public) (s : State) → StandsFor g s → s.pending ≡ None → IsAdmissible g s.history
+pub admissible : (g : Public) (s : State) → IsStateOf g s → s.pending ≡ None → IsAdmissible g s.history
 admissible g s stands none = subst (IsAdmissible g) (ap (λ p. s.history ++ entry_of p) none ∙ append-nil s.history) stands.admissible
 
-pub all_allowed : (g : Public) (s : State) → StandsFor g s → s.pending ≡ None → AreAllowed g s.history
+pub all_allowed : (g : Public) (s : State) → IsStateOf g s → s.pending ≡ None → AreAllowed g s.history
 all_allowed g s stands none = admissible_allowed g [] s.history (admissible g s stands none)
 
-pub source_beyond : (c : Core) (p : Policy) (s : State) (k : ℕ) → IsPolicy c.dims p → StandsFor (shown c p) s → s.pending ≡ None → length c.dims.measures ≤ k → source s.history k ≡ None
+pub source_beyond : (c : Core) (p : Policy) (s : State) (k : ℕ) → IsPolicy c.dims p → IsStateOf (shown c p) s → s.pending ≡ None → length c.dims.measures ≤ k → source s.history k ≡ None
 source_beyond c p s k rules stands none past = let e = rules.methods in no_source (shown c p) k s.history (all_allowed (shown c p) s stands none) (omega (arith, e, past))
 
-pub links_beyond : (c : Core) (p : Policy) (s : State) (k : ℕ) → IsPolicy c.dims p → StandsFor (shown c p) s → s.pending ≡ None → length c.dims.measures ≤ k → links_of (shown c p) s.history k ≡ []
+pub links_beyond : (c : Core) (p : Policy) (s : State) (k : ℕ) → IsPolicy c.dims p → IsStateOf (shown c p) s → s.pending ≡ None → length c.dims.measures ≤ k → links_of (shown c p) s.history k ≡ []
 links_beyond c p s k rules stands none past = let e = rules.methods in no_links (shown c p) k s.history (all_allowed (shown c p) s stands none) (omega (arith, e, past))
 
 -- ---- numbers

@@ -8,7 +8,7 @@ use Rattle.cube_model.specs.Policies.{IsPolicy}
 use Rattle.cube_model.specs.Protection.{first}
 use Rattle.cube_model.specs.Verdicts.{links_of}
 use Rattle.cube_colour.specs.Colourings.{Colouring}
-use Rattle.cube_admit.specs.States.{State, StandsFor, coloured}
+use Rattle.cube_admit.specs.States.{State, IsStateOf, coloured}
 use Rattle.cube_carry.specs.Carrying as carrying
 use Rattle.cube_carry.specs.Continues.{Continues}
 use Rattle.cube_carry.specs.Names.{named}
@@ -20,7 +20,7 @@ pub record IsGiven (old : Core) (old_policy : Policy) (state : State) (new : Cor
   pub old_rules : IsPolicy old.dims old_policy
   pub new_rules : IsPolicy new.dims new_policy
   pub continues : Continues (named old old_policy) (named new new_policy)
-  pub stands : StandsFor (shown old old_policy) state
+  pub stands : IsStateOf (shown old old_policy) state
   pub none : state.pending ≡ None
 
 -- what is kept of the links of a measure: their colouring, or nothing where there are none

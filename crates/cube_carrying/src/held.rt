@@ -5,7 +5,7 @@ ghost use Rattle.cube_model.specs.Cores.{shown};
 ghost use Rattle.cube_model.specs.Policies.{IsPolicy};
 ghost use Rattle.cube_model.specs.Protection.{method};
 ghost use Rattle.cube_model.specs.Verdicts.{source};
-ghost use Rattle.cube_admit.specs.States.{StandsFor};
+ghost use Rattle.cube_admit.specs.States.{IsStateOf};
 ghost use Rattle.cube_carrying.specs.Given.{IsKept};
 
 use cube_admit::State;
@@ -21,7 +21,7 @@ pub(crate) fn kept_source<'a>(
     number: usize,
 ) -> Option<&'a Levels>
     requires policy { IsPolicy core.now.dims policy.now }
-    requires stands { StandsFor (shown core.now policy.now) state.now }
+    requires stands { IsStateOf (shown core.now policy.now) state.now }
     requires none { state.now.pending ≡ None }
     requires lattice { number < length core.now.dims.measures → method (shown core.now policy.now) number ≡ methods.Lattice }
     ensures { option_copied result ≡ source state.now.history number }
@@ -41,7 +41,7 @@ pub(crate) fn kept_colouring<'a>(
     number: usize,
 ) -> Option<&'a Colouring>
     requires policy { IsPolicy core.now.dims policy.now }
-    requires stands { StandsFor (shown core.now policy.now) state.now }
+    requires stands { IsStateOf (shown core.now policy.now) state.now }
     requires none { state.now.pending ≡ None }
     requires parity { number < length core.now.dims.measures → method (shown core.now policy.now) number ≡ methods.Parity }
     ensures { IsKept (shown core.now policy.now) state.now.history number (option_copied result) }

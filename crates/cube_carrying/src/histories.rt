@@ -8,7 +8,7 @@ ghost use Rattle.cube_model.specs.Cubes.{are_levels, cuboids_below};
 ghost use Rattle.cube_model.specs.Dims.{plains};
 ghost use Rattle.cube_model.specs.Policies.{IsPolicy};
 ghost use Rattle.cube_model.specs.Protection.{method, listed};
-ghost use Rattle.cube_admit.specs.States.{StandsFor};
+ghost use Rattle.cube_admit.specs.States.{IsStateOf};
 ghost use Rattle.cube_carry.specs.Carrying as carrying;
 ghost use Rattle.cube_carry.specs.Continues.{Continues};
 ghost use Rattle.cube_carry.specs.Names.{named, carried_levels};
@@ -231,7 +231,7 @@ pub fn carry(
     requires new_policy { IsPolicy new.now.dims new_policy.now }
     requires continues { Continues (named old.now old_policy.now) (named new.now new_policy.now) }
     requires places { places.now ≡ carried_places old.now new.now }
-    requires stands { StandsFor (shown old.now old_policy.now) state.now }
+    requires stands { IsStateOf (shown old.now old_policy.now) state.now }
     requires none { state.now.pending ≡ None }
     ensures { IfOk result (IsCarriedBy (named old.now old_policy.now) (named new.now new_policy.now) state.now.history) }
 {

@@ -45,23 +45,6 @@ ok_map P Q (Err e) f h = tt
 -- ---- texts that are read
 
 module _ (f : List ℕ → Result Request RequestFault) where
-  pub read_more : (texts : List (List ℕ)) (i : ℕ) (text : List ℕ) (rs new : List Request) (r : Request) → i < length texts → text ≡ get_or texts i text → map f (take i texts) ≡ map Ok rs → f text ≡ Ok r → new ≡ rs ++ r ∷ [] → map f (take (i + 1) texts) ≡ map Ok new
-  read_more texts i text rs new r l at so_far read grown =
-      map_more f texts i text l
-      ∙ ap₂ (λ (ys : List (Result Request RequestFault)) (y : Result Request RequestFault). ys ++ y ∷ []) so_far (ap f (sym at) ∙ read)
-      ∙ sym (ap (λ (ys : List Request). map Ok ys) grown ∙ map-append Ok rs (r ∷ []))
-
-  not_err : (said : Result Request RequestFault) (r : Request) → IsErr said → said ≡ Ok r → ⊥
-  not_err (Ok x) r e h = absurd (let f : false ≡ true = e in false≢true f)
-  not_err (Err x) r e h = absurd (cc)
-
-  -- a text that is read as nothing, among others
-  pub unread_at : (texts : List (List ℕ)) (i : ℕ) (text : List ℕ) → i < length texts → text ≡ get_or texts i text → IsErr (f text) → (rs : List Request) → map f texts ≡ map Ok rs → ⊥
-  unread_at [] i text l at e rs h = absurd (omega (arith, l))
-  unread_at (x ∷ xs) i text l at e [] h = absurd (cc)
-  unread_at (x ∷ xs) zero text l at e (r ∷ rs) h = not_err (f text) r e (ap f at ∙ (cc))
-  unread_at (x ∷ xs) (suc i) text l at e (r ∷ rs) h = unread_at xs i text (omega (arith, l)) at e rs (cc)
-
   pub read_long : (texts : List (List ℕ)) (rs : List Request) → map f texts ≡ map Ok rs → length rs ≡ length texts
   read_long texts rs h = sym (length-map rs Ok) ∙ sym (ap length h) ∙ length-map texts f
 

@@ -1,5 +1,5 @@
 pub mod Counting
 pub mod Hiding
 pub mod Summary
-pub mod Reading
+pub mod Writing
 pub mod Examples

@@ -28,9 +28,9 @@ fn ask(
     query: &Text,
 ) -> Result<(), NoMemory>
     requires fits { ⟦<Engine as Desk<NullStore>>⟧.fits engine.old store.old }
-    requires room { 1 ≤ ⟦<Engine as Desk<NullStore>>⟧.room engine.old }
+    requires capacity { 1 ≤ ⟦<Engine as Desk<NullStore>>⟧.capacity engine.old }
     ensures fits { ⟦<Engine as Desk<NullStore>>⟧.fits engine.new store.new }
-    ensures room { OnOk result (⟦<Engine as Desk<NullStore>>⟧.room engine.new + 1 ≡ ⟦<Engine as Desk<NullStore>>⟧.room engine.old) }
+    ensures capacity { OnOk result (⟦<Engine as Desk<NullStore>>⟧.capacity engine.new + 1 ≡ ⟦<Engine as Desk<NullStore>>⟧.capacity engine.old) }
 {
     let asked = Ask {
         group: None,
@@ -52,8 +52,8 @@ pub(crate) fn ask_all(
     requires { IsPolicy core.dims policy }
 {
     let mut store = null_store(alloc)?;
-    let room = queries.len() as u64;
-    let Ok(mut engine) = Engine::start(alloc, core, policy, &mut store, 0, room) else {
+    let capacity = queries.len() as u64;
+    let Ok(mut engine) = Engine::start(alloc, core, policy, &mut store, 0, capacity) else {
         return Err(NoMemory);
     };
     'queries: for query in queries {

@@ -1,31 +1,27 @@
 // The demonstration.
 ghost use Rattle.std.specs.Prelude.{◌≡◌, ◌≢◌, ◌≤◌, Err, IfOk, IfErr, OnOk};
 ghost use Rattle.cube_io.specs.Causes.{Rose};
-ghost use Rattle.cube_demo.specs.Reading.{IsSummary, Prints, IsRefused, EndsShort};
+ghost use Rattle.cube_demo.specs.Writing.{IsSummary, Prints, EndsShort};
 ghost use Rattle.cube_demo.specs.declared.fault.DemoFault.TheVariants as fault;
 
 use crate::DemoFault;
 use crate::asking::ask_all;
-use crate::reading::{core_of, policy_in, requests_in};
 use crate::summary::summary;
-use cube_gen::make;
 use cube_io::Sink;
-use cube_model::Text;
+use cube_made::make_cube;
+use cube_model::{NoMemory, Text};
 use std::alloc::Global;
 
 /// The summary of the cube that is made of a number and a size, whose queries are asked of an engine as well.
-fn summary_of(alloc: Global, number: u64, size: u32) -> Result<Text, DemoFault>
+fn summary_of(alloc: Global, number: u64, size: u32) -> Result<Text, NoMemory>
     requires some { 1 ≤ size }
     requires few { size ≤ 20 }
-    ensures ok { IfOk result (λ text. IsSummary number size text) }
-    ensures err { IfErr result (IsRefused number size) }
+    ensures { IfOk result (λ text. IsSummary number size text) }
 {
-    let made = make(alloc, number, size)?;
-    let core = core_of(alloc, made.dims.as_slice(), made.facts.as_slice())?;
-    let policy = policy_in(alloc, core.dims(), made.policy.as_slice())?;
-    let requests = requests_in(alloc, core.dims(), made.queries.as_slice())?;
-    let text = summary(alloc, size, &core, &policy, requests.as_slice())?;
-    ask_all(alloc, core, policy, made.queries.as_slice())?;
+    let made = make_cube(alloc, number, size)?;
+    let requests = made.requests.as_slice();
+    let text = summary(alloc, size, &made.core, &made.policy, requests)?;
+    ask_all(alloc, made.core, made.policy, made.queries.as_slice())?;
     Ok(text)
 }
 

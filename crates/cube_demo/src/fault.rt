@@ -11,8 +11,6 @@ pub enum DemoFault {
     NoMemory,
     /// The sink failed; this was counted.
     OutputFailed,
-    /// A made text is read as nothing. This comes only where it is so.
-    Unread,
 }
 
 impl From<NoMemory> for DemoFault {

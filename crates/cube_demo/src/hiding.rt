@@ -6,7 +6,7 @@ ghost use Rattle.cube_model.specs.Cubes.{IsIn};
 ghost use Rattle.cube_model.specs.Policies.{IsPolicy};
 ghost use Rattle.cube_model.specs.Protection as protection;
 ghost use Rattle.cube_model.specs.Twins as twins;
-ghost use Rattle.cube_admit.specs.States.{StandsFor};
+ghost use Rattle.cube_admit.specs.States.{IsStateOf};
 ghost use Rattle.cube_core.specs.Rows.{ArePlaces};
 ghost use Rattle.cube_query.specs.Canonical.{is_request};
 ghost use Rattle.cube_witness.specs.TwinFile as file;
@@ -56,7 +56,7 @@ fn signs_for(
     cell: &Cell,
 ) -> Result<Vec<i8>, NoMemory>
     requires policy { IsPolicy core.now.dims policy.now }
-    requires stands { StandsFor (shown core.now policy.now) state.now }
+    requires stands { IsStateOf (shown core.now policy.now) state.now }
     requires none { state.now.pending ≡ None }
     requires measure { measure < length core.now.dims.measures }
     requires protected { IsIn cell.now (protection.protected (shown core.now policy.now) measure) }
@@ -83,7 +83,7 @@ fn has_witness(
     cell: &Cell,
 ) -> Result<bool, NoMemory>
     requires policy { IsPolicy core.now.dims policy.now }
-    requires stands { StandsFor (shown core.now policy.now) state.now }
+    requires stands { IsStateOf (shown core.now policy.now) state.now }
     requires none { state.now.pending ≡ None }
     requires places { All (λ rows. All (λ row. ArePlaces (length core.now.shape.points) row.places) rows) tables.now }
     requires measure { measure < length core.now.dims.measures }
@@ -106,7 +106,7 @@ fn count_hidden(
     cells: &[Cell],
 ) -> Result<u64, NoMemory>
     requires policy { IsPolicy core.now.dims policy.now }
-    requires stands { StandsFor (shown core.now policy.now) state.now }
+    requires stands { IsStateOf (shown core.now policy.now) state.now }
     requires none { state.now.pending ≡ None }
     requires places { All (λ rows. All (λ row. ArePlaces (length core.now.shape.points) row.places) rows) tables.now }
     requires measure { measure < length core.now.dims.measures }
@@ -135,7 +135,7 @@ pub(crate) fn count_witnesses(
     measure: u32,
 ) -> Result<u64, NoMemory>
     requires policy { IsPolicy core.now.dims policy.now }
-    requires stands { StandsFor (shown core.now policy.now) state.now }
+    requires stands { IsStateOf (shown core.now policy.now) state.now }
     requires none { state.now.pending ≡ None }
     requires valid { All (λ request. is_request core.now.dims request ≡ true) requests.now }
     requires verdicts { verdicts.now ≡ verdicts_of (shown core.now policy.now) [] requests.now }

@@ -6,7 +6,7 @@ ghost use Rattle.cube_model.specs.Policies.{IsPolicy};
 ghost use Rattle.cube_model.specs.Requests.{is_valid};
 ghost use Rattle.cube_model.specs.Runs.{entered};
 ghost use Rattle.cube_model.specs.Verdicts.{verdict};
-ghost use Rattle.cube_admit.specs.States.{StandsFor};
+ghost use Rattle.cube_admit.specs.States.{IsStateOf};
 ghost use Rattle.cube_query.specs.Canonical.{is_request};
 ghost use Rattle.cube_demo.specs.Counting.{verdicts, history_behind};
 
@@ -24,12 +24,12 @@ fn judge(
     request: &Request,
 ) -> Result<Verdict, NoMemory>
     requires policy { IsPolicy core.now.dims policy.now }
-    requires stands { StandsFor (shown core.now policy.now) state.old }
+    requires stands { IsStateOf (shown core.now policy.now) state.old }
     requires valid { is_valid (shown core.now policy.now) request.now ≡ true }
     ensures verdict { IfOk result (λ judged. judged ≡ verdict (shown core.now policy.now) state.old.history request.now) }
     ensures history { IfOk result (λ judged. state.new.history ≡ entered state.old.history request.now judged) }
     ensures none { state.new.pending ≡ None }
-    ensures stands { StandsFor (shown core.now policy.now) state.new }
+    ensures stands { IsStateOf (shown core.now policy.now) state.new }
 {
     let verdict = state.verdict(alloc, core, policy, request)?;
     state.commit();
@@ -48,7 +48,7 @@ pub(crate) fn judge_all(
     ensures verdicts { IfOk result (λ judged. judged.1 ≡ verdicts (shown core.now policy.now) [] requests.now) }
     ensures history { IfOk result (λ judged. judged.0.history ≡ history_behind (shown core.now policy.now) [] requests.now) }
     ensures none { IfOk result (λ judged. judged.0.pending ≡ None) }
-    ensures stands { IfOk result (λ judged. StandsFor (shown core.now policy.now) judged.0) }
+    ensures stands { IfOk result (λ judged. IsStateOf (shown core.now policy.now) judged.0) }
 {
     let mut state = State::new(alloc, core, policy)?;
     let mut verdicts = Items::new(alloc);

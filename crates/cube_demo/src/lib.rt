@@ -7,7 +7,6 @@ mod demonstration;
 mod fault;
 mod hiding;
 mod judging;
-mod reading;
 mod summary;
 mod sums;
 mod worked;

@@ -7,18 +7,18 @@ use Rattle.cube_io.specs.Wires.{LogEntry, arrival_of, no_plan}
 use Rattle.cube_io.specs.Wires.LogEntry.{Heard}
 use Rattle.cube_edge.specs.Sockets.{SocketsState}
 
--- Of a watch: how often it failed, whether it tells, its log, the addresses that it was told of, and its room: it takes one more event or
+-- Of a watch: how often it failed, whether it tells, its log, the addresses that it was told of, and its space: it takes one more event or
 -- send that has fewer bytes than that.
 pub record WatchState : Type 0 where
   pub faults : ℕ
   pub told : Bool
   pub log : List LogEntry
   pub heard : List (List ℕ)
-  pub room : ℕ
+  pub capacity : ℕ
 
 -- a watch that tells nothing, and takes everything
 abbrev pub no_watch : WatchState
-no_watch = record { faults = 0; told = false; log = []; heard = []; room = 2 ^ 64 }
+no_watch = record { faults = 0; told = false; log = []; heard = []; capacity = 2 ^ 64 }
 
 -- an entry more
 pub record Notes (entry : LogEntry) (old new : WatchState) : Type 0 where

@@ -26,12 +26,12 @@ pub struct Hub<S: Sockets + Drop> {
     sent: usize,
     pub now: u64,
     pub idle: u64,
-    ghost room: { vec_len links ≡ 128 },
+    ghost capacity: { vec_len links ≡ 128 },
 }
 
 // Room for connections.
 fn make_links(alloc: Global) -> Result<Vec<Link>, NoMemory>
-    ensures room { IfOk result (λ links. vec_len links ≡ 128) }
+    ensures capacity { IfOk result (λ links. vec_len links ≡ 128) }
     ensures free { IfOk result (λ links. All (λ link. link.stage ≡ stage.Free) links.items) }
 {
     let mut links = Vec::with_capacity(alloc, MAX_LINKS)?;

@@ -42,7 +42,7 @@ pub enum Look {
     Gone,
 }
 
-/// A connection, or room for one.
+/// A connection, or space for one.
 #[derive(Drop)]
 pub struct Link {
     pub stage: Stage,

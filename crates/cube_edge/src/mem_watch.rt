@@ -8,7 +8,7 @@ use cube_io::{Event, Failed, Note, Scroll};
 use cube_model::{NoMemory, Text};
 use std::alloc::Global;
 
-/// A watch that keeps the log in memory, in room that is taken when it is made, and tells it. Entries are free
+/// A watch that keeps the log in memory, in space that is taken when it is made, and tells it. Entries are free
 /// that are owed to no connection: one is owed to each that is open, for its close, and one to each on which a send may go out, for
 /// one that fails.
 #[derive(Drop)]
@@ -22,15 +22,15 @@ pub struct MemWatch {
 }
 
 impl MemWatch {
-    /// An empty log, with room for so many entries and for so many bytes of them.
-    pub fn with_room(alloc: Global, entries: usize, bytes: usize) -> Result<MemWatch, NoMemory>
+    /// An empty log, with space for so many entries and for so many bytes of them.
+    pub fn with_capacity(alloc: Global, entries: usize, bytes: usize) -> Result<MemWatch, NoMemory>
         ensures told { IfOk result (λ watch. (⟦<MemWatch as Watch>⟧.state watch).told ≡ true) }
         ensures log { IfOk result (λ watch. (⟦<MemWatch as Watch>⟧.state watch).log ≡ []) }
         ensures heard { IfOk result (λ watch. (⟦<MemWatch as Watch>⟧.state watch).heard ≡ []) }
     {
         Ok(MemWatch {
             alloc,
-            scroll: Scroll::with_room(alloc, entries, bytes)?,
+            scroll: Scroll::with_capacity(alloc, entries, bytes)?,
             free: entries,
             heard: Vec::new(alloc),
             faults: 0,
@@ -72,7 +72,7 @@ impl MemWatch {
 }
 
 impl Watch for MemWatch {
-    ghost state = { λ w. record { faults = w.faults; told = true; log = w.scroll.log; heard = w.heard.items; room = (if nat_le 3 w.free then w.scroll.bytes_left + 1 else 0) } };
+    ghost state = { λ w. record { faults = w.faults; told = true; log = w.scroll.log; heard = w.heard.items; capacity = (if nat_le 3 w.free then w.scroll.bytes_left + 1 else 0) } };
 
     fn takes(&self, len: usize) -> bool {
         self.free >= 3 && len <= self.scroll.bytes_left()

@@ -327,7 +327,7 @@ impl<D: Disk + Drop, N: Write + Drop> Model for FileStore<D, N> {
 }
 
 impl<D: Disk + Drop, N: Write + Drop> FileStore<D, N> {
-    /// A store of a disk's files, with room for a path.
+    /// A store of a disk's files, with space for a path.
     pub fn new(alloc: Global, disk: D, notes: N) -> Result<Self, NoMemory>
         ensures { IfOk result (λ store. ⟦<FileStore<D, N> as Store>⟧.state store ≡ store_over 0 false (D.state disk)) }
     {

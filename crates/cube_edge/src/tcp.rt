@@ -20,7 +20,7 @@ use std::{io, str};
 const LISTENER: Token = Token(MAX_LINKS);
 
 /// The numbers of the errors behind which an accept can go well later: not permitted, no memory, too many open files of the
-/// system and of the program, no room for one more that is watched, those of the new connection and of its network, no buffers.
+/// system and of the program, no space for one more that is watched, those of the new connection and of its network, no buffers.
 const PASSING: [i32; 14] = [1, 12, 23, 24, 28, 64, 71, 92, 100, 101, 103, 105, 112, 113];
 
 /// The system tells of room on a connection only once a third of all is free. So it is also tried, each time that so many

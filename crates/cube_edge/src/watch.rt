@@ -12,18 +12,18 @@ use cube_model::Text;
 /// Who is told of each event, send and close on a wire, as it happens. What stands under `told` holds where the watch tells
 /// them.
 pub trait Watch {
-    /// What it tells, and the room that it has.
+    /// What it tells, and the space that it has.
     ghost state: { Self → WatchState };
 
     /// Whether it takes one more event or send of so many bytes.
     fn takes(&self, len: usize) -> bool
-        ensures { IsTrue result ↔ (len < (state self.now).room) };
+        ensures { IsTrue result ↔ (len < (state self.now).capacity) };
 
-    /// Says that an event of at most so many bytes may come. It fails where there is no room for it.
+    /// Says that an event of at most so many bytes may come. It fails where there is no space for it.
     fn expect_event(&mut self, len: usize) -> Result<(), Failed>
         ensures cause { HasCause (state self.old).faults (state self.new).faults result }
-        ensures room { OnOk result (len < (state self.old).room) }
-        ensures full { OnErr result ((state self.old).room ≤ len) }
+        ensures capacity { OnOk result (len < (state self.old).capacity) }
+        ensures full { OnErr result ((state self.old).capacity ≤ len) }
         ensures same { OnOk result (state self.new ≡ state self.old) }
         ensures told { (state self.new).told ≡ (state self.old).told }
         ensures log { IsTrue (state self.old).told → (state self.new).log ≡ (state self.old).log }
@@ -39,18 +39,18 @@ pub trait Watch {
     /// An event came. The bytes of a piece stand at the front of the buffer.
     fn hear(&mut self, event: Event, buf: &[u8])
         requires fits { FitsBuffer event buf.now }
-        requires room { length buf.now < (state self.old).room }
+        requires capacity { length buf.now < (state self.old).capacity }
         ensures { Notes (Heard (arrival_of event buf.now)) (state self.old) (state self.new) };
 
     /// A piece was sent.
     fn sent(&mut self, c: u32, piece: &[u8])
-        requires { length piece.now < (state self.old).room }
+        requires { length piece.now < (state self.old).capacity }
         ensures { Notes (Sent c piece.now) (state self.old) (state self.new) };
 
-    /// A send of so many bytes failed, and these went out of it; none where there was no room for it.
+    /// A send of so many bytes failed, and these went out of it; none where there was no space for it.
     fn torn(&mut self, c: u32, said: &[u8], len: usize)
         requires sound { IsTrue (state self.old).told → IsSound c (state self.old).log }
-        requires room { 0 < length said.now → length said.now < (state self.old).room }
+        requires capacity { 0 < length said.now → length said.now < (state self.old).capacity }
         ensures { Notes (Torn c said.now len) (state self.old) (state self.new) };
 
     /// A connection was closed.

@@ -27,7 +27,7 @@ const SETTLING: u64 = 2_000;
 /// A number belongs to one open connection, and another one gets it only once that one was closed. What a connection does not
 /// take of a reply waits, and nothing is read of it meanwhile; the others do not wait for it. A connection whose read or write
 /// fails counts as closed by the other side, and one that for too long was sent nothing and took nothing is closed. The wire has
-/// no end. Where the watch has no room for what is to come, `next`, `listen` and `send` fail.
+/// no end. Where the watch has no space for what is to come, `next`, `listen` and `send` fail.
 #[derive(Drop)]
 pub struct SocketWire<S: Sockets + Drop, N: Watch + Drop> {
     hub: Hub<S>,
@@ -94,7 +94,7 @@ impl<S: Sockets + Drop, N: Watch + Drop> SocketWire<S, N> {
     // Looks at the connections whose turn it is, up to one of which there is something to say. The watch is told of it.
     fn pass(&mut self, buf: &mut [u8])
         requires buf { 0 < length buf.old }
-        requires room { length buf.old < (N.state self.old.watch).room }
+        requires capacity { length buf.old < (N.state self.old.watch).capacity }
         ensures size { length buf.new ≡ length buf.old }
     {
         let Some(event) = self.hub.pass(buf) else {
@@ -115,7 +115,7 @@ impl<S: Sockets + Drop, N: Watch + Drop> SocketWire<S, N> {
     // The next event, where there is one now. The watch is told of it.
     fn find(&mut self, buf: &mut [u8]) -> Result<Option<Event>, Failed>
         requires buf { 0 < length buf.old }
-        requires room { length buf.old < (N.state self.old.watch).room }
+        requires capacity { length buf.old < (N.state self.old.watch).capacity }
         ensures size { length buf.new ≡ length buf.old }
         ensures fits { IfOk result (λ found. IfSome found (λ event. FitsBuffer event buf.new)) }
         ensures cause { HasCause (S.state self.old.hub.sockets).faults (S.state self.new.hub.sockets).faults result }

@@ -33,9 +33,9 @@ use Rattle.cube_admit.specs.declared.held.Held.{Held}
 use Rattle.cube_admit.specs.declared.held.Held.TheVariants as held
 use Rattle.cube_admit.specs.declared.held.Next.TheVariants as next
 use Rattle.cube_admit.specs.declared.held.Pending.{Pending}
-use Rattle.cube_admit.specs.States.{State, entry_of as entry_pending, waiting, whole, source_in, waits_for, IsHeldBy, IsNextBy, IsReady, StandsFor}
+use Rattle.cube_admit.specs.States.{State, entry_of as entry_pending, waiting, whole, source_in, waits_for, IsHeldBy, IsNextBy, IsReady, IsStateOf}
 use Rattle.cube_query.specs.Canonical.{is_request}
-use Rattle.cube_rollup.specs.Cuboids.{Cuboid, StandsFor as CuboidStands, cell_keys}
+use Rattle.cube_rollup.specs.Cuboids.{Cuboid, IsCuboidOf, cell_keys}
 use Rattle.cube_rollup.specs.Rollups.{Rollups, entered, source_by, kept_at, IsCuboidAt, entry_of, RollupsStand, cells_at}
 use Rattle.cube_rollup.proofs.Keeping.{committed, held as held_next, others}
 use Rattle.cube_engine.specs.Reads.{ReadsFew, cuboid_of, IsFineEnough}
@@ -54,7 +54,7 @@ source_kept Parity g h k m (held.Source c) is = absurd is
 source_kept Parity g h k m (held.Links c) is = refl
 
 -- the source that a state keeps of a measure is at the levels of the cuboid that is kept for it
-pub source_of : (g : Public) (s : State) (m : ℕ) → StandsFor g s → m < length g.policy.methods → source_in (get_or s.held m held.Open) ≡ kept_at g s.history m
+pub source_of : (g : Public) (s : State) (m : ℕ) → IsStateOf g s → m < length g.policy.methods → source_in (get_or s.held m held.Open) ≡ kept_at g s.history m
 source_of g s m stands lt = source_kept (method g m) g s.history (whole s) m (get_or s.held m held.Open) (stands.held m (subst (λ (n : ℕ). m < n) (sym stands.long) lt))
 
 in_range : (g : Public) (way : Method) (s : Option (List ℕ)) (ls : List ℕ) → InRange g s → source_by way s ≡ Some ls → are_levels g.dimensions ls ≡ true
@@ -108,7 +108,7 @@ pub record Makes (g : Public) (s : State) (p : Pending) (ls : List ℕ) : Type 0
   pub levels : are_levels g.dimensions ls ≡ true
   pub asked : asks p.measure p.request ≡ true
 
-pub makes : (g : Public) (s : State) (p : Pending) (ls : List ℕ) → StandsFor g s → s.pending ≡ Some p → p.next ≡ next.Source ls → Makes g s p ls
+pub makes : (g : Public) (s : State) (p : Pending) (ls : List ℕ) → IsStateOf g s → s.pending ≡ Some p → p.next ≡ next.Source ls → Makes g s p ls
 makes g s p ls stands waits is =
     let ready : IsReady g s (Some p) = subst (IsReady g s) waits stands.ready in
     let from : source_by (method g p.measure) (source (whole s) p.measure) ≡ Some ls = next_source (method g p.measure) g s.history (whole s) p.measure ls (subst (IsNextBy (method g p.measure) g s.history (whole s) p.measure) is ready.1) in
@@ -120,7 +120,7 @@ makes g s p ls stands waits is =
     }
 
 -- the cuboid at that source is held
-pub holds : (c : Core) (p : Policy) (s : State) (w : Pending) (ls : List ℕ) (k : Cuboid) (old new : Rollups) → StandsFor (shown c p) s → s.pending ≡ Some w → w.next ≡ next.Source ls → RollupsStand c p s.history None old → k.levels ≡ ls → k.measure ≡ w.measure → CuboidStands c k → new ≡ record { kept = old.kept; next = Some k }
+pub holds : (c : Core) (p : Policy) (s : State) (w : Pending) (ls : List ℕ) (k : Cuboid) (old new : Rollups) → IsStateOf (shown c p) s → s.pending ≡ Some w → w.next ≡ next.Source ls → RollupsStand c p s.history None old → k.levels ≡ ls → k.measure ≡ w.measure → IsCuboidOf c k → new ≡ record { kept = old.kept; next = Some k }
     → RollupsStand c p s.history (waiting s) new
 holds c p s w ls k old new stands waits is rolled levels measure stood made =
     let m = makes (shown c p) s w ls stands waits is in
@@ -129,7 +129,7 @@ holds c p s w ls k old new stands waits is rolled levels measure stood made =
     (subst (RollupsStand c p s.history (Some w.request)) (sym made) (held_next c p s.history w.request w.measure ls k old rolled.now m.asked m.there m.kept levels measure stood))
 
 -- a request on a parity measure waits
-pub passes : (c : Core) (p : Policy) (s : State) (w : Pending) (n : ℕ) (old : Rollups) → StandsFor (shown c p) s → s.pending ≡ Some w → w.next ≡ next.Mark n → RollupsStand c p s.history None old → RollupsStand c p s.history (waiting s) old
+pub passes : (c : Core) (p : Policy) (s : State) (w : Pending) (n : ℕ) (old : Rollups) → IsStateOf (shown c p) s → s.pending ≡ Some w → w.next ≡ next.Mark n → RollupsStand c p s.history None old → RollupsStand c p s.history (waiting s) old
 passes c p s w n old stands waits is rolled =
     let g = shown c p in
     let ready : IsReady g s (Some w) = subst (IsReady g s) waits stands.ready in
@@ -165,7 +165,7 @@ one_value : (x y : List ℕ) → Some x ≡ Some y → x ≡ y
 one_value x y e = cc
 
 -- what is known of the cuboid that is kept for a measure
-at_levels : (c : Core) (m : ℕ) (o : Option (List ℕ)) (k : Cuboid) → IsCuboidAt c m o (Some k) → (o ≡ Some k.levels) × (k.measure ≡ m) × CuboidStands c k
+at_levels : (c : Core) (m : ℕ) (o : Option (List ℕ)) (k : Cuboid) → IsCuboidAt c m o (Some k) → (o ≡ Some k.levels) × (k.measure ≡ m) × IsCuboidOf c k
 at_levels c m None k is = absurd is
 at_levels c m (Some ls) k is = (ap Some (sym is.0), is.1, is.2)
 
@@ -216,7 +216,7 @@ same_answer : (a b : Bool) → Answer a ≡ Answer b → a ≡ b
 same_answer a b e = cc
 
 -- a cuboid has as many cells as its core has at its levels
-as_many : (c : Core) (p : Policy) (k : Cuboid) → CuboidStands c k → length k.cells ≡ length (cell_keys (shown c p) k.levels)
+as_many : (c : Core) (p : Policy) (k : Cuboid) → IsCuboidOf c k → length k.cells ≡ length (cell_keys (shown c p) k.levels)
 as_many c p k stands = ap (λ (cells : List AnswerRow). length cells) (stands.cells p) ∙ length-map (cell_keys (shown c p) k.levels) _
 
 -- a request that adds nothing to the history is answered from the source cuboid

@@ -3,6 +3,7 @@ pub mod Alike
 pub mod KeepsAll
 pub mod Named
 pub mod Worlds
+pub mod Settled
 mod Preparing
 mod Logs
 mod Cuboids

@@ -26,7 +26,7 @@ use Rattle.cube_io.specs.Desks.{ForeignStay, GivesRooms, LeavesOf, LeavesAll, Is
 use Rattle.cube_io.specs.Seen.{StoreState}
 use Rattle.cube_io.specs.States.{State, Log, Gained, IsImage, settled}
 use Rattle.cube_io.specs.Told.{OthersStay}
-use Rattle.cube_io.proofs.Hands.{leaves_all_map}
+use Rattle.cube_io.proofs.Leaving.{leaves_all_map}
 use Rattle.cube_io.proofs.Trails.{gained_map}
 use Rattle.cube_journal.specs.Digests.{is_digest}
 use Rattle.cube_journal.specs.Keeping.{Journal, Fits, KeepsSafe, IsInKeep, IsInRecovery}
@@ -48,6 +48,7 @@ use Rattle.cube_engine.specs.Books.{Holding}
 use Rattle.cube_engine.specs.Kept.{digest_for, written, first_entry, by_left, judged_in, history_of, GivesHistory, IsExact, RecoversWithin, IsWithin, MayEnter, IsTail, IsKept}
 use Rattle.cube_engine.specs.Opening.{of_open, IsStartFault}
 use Rattle.cube_engine.specs.Worlds.{first_history}
+use Rattle.cube_engine.proofs.Settled.{nothing, settled_image, settled_exact}
 use Rattle.cube_engine.proofs.Named.{valid_under}
 
 -- ---- entries judged one behind another
@@ -118,10 +119,6 @@ part_within c p h bytes part r safe may prefix =
     (λ more. inr (r, history_by c p (bytes ++ part) (safe.entries ++ Asked r ∷ []) (h ++ Asked r ∷ []) more (leaves_more c p h bytes r safe may)))
     ((grows c p h bytes r safe may).part part prefix)
 
-nothing : (xs ys : List ℕ) → xs ++ ys ≡ [] → xs ≡ []
-nothing [] ys e = refl
-nothing (x ∷ xs) ys e = absurd (cc)
-
 image_within : (c : Core) (p : Policy) (h : List Entry) (bytes kept lost : List ℕ) (safe : Safe c p h bytes) → IsTail c p h (kept ++ lost) → RecoversWithin c p h (bytes ++ kept)
 image_within c p h bytes kept lost safe (inl none) =
     let e : kept ≡ [] = nothing kept lost none in
@@ -140,17 +137,6 @@ tails_within c p h s safe tails b image =
 
 pub kept_within : (c : Core) (p : Policy) (h : List Entry) (j : Journal) (s : State) → IsDims c.dims → IsKept c p h j s → IsWithin c p h s
 kept_within c p h j s dims k = tails_within c p h s (safe_of c p h j s dims k) k.tails
-
--- a crash leaves all of what is settled
-settled_image : (bytes b : List ℕ) → IsImage (settled bytes) b → b ≡ bytes
-settled_image bytes b image = go image.is_tail
-  where
-    go : IsIn (image.kept ++ image.lost) ([] ∷ []) → b ≡ bytes
-    go (inl e) = image.whole ∙ ap (λ (k : List ℕ). bytes ++ k) (nothing image.kept image.lost (sym e)) ∙ append-nil bytes
-    go (inr i) = absurd i
-
-pub settled_exact : (c : Core) (p : Policy) (bytes : List ℕ) (h : List Entry) (s : State) → s ≡ settled bytes → history_of c p bytes ≡ Ok h → IsExact c p h s
-settled_exact c p bytes h s is recovers b image = ap (history_of c p) (settled_image bytes b (subst (λ (t : State). IsImage t b) is image)) ∙ recovers
 
 -- ---- a keep
 

@@ -1,4 +1,4 @@
--- An engine: a book, what became of the asks so far, and how many more it has room for.
+-- An engine: a book, what became of the asks so far, and how many more it has space for.
 use Rattle.std.specs.Prelude.{ℕ, List, None}
 use Rattle.cube_model.specs.declared.entry.Entry.{Entry}
 use Rattle.cube_model.specs.declared.outcome.Outcome.{Outcome}
@@ -8,7 +8,7 @@ use Rattle.cube_model.specs.Rooms.{Room, alone}
 use Rattle.cube_journal.specs.Keeping.{Journal}
 use Rattle.cube_engine.specs.Books.{Book}
 
--- the outcomes so far, and the room for more
+-- the outcomes so far, and the space for more
 pub record Turns : Type 0 where
   pub outcomes : List Outcome
   pub left : ℕ

@@ -15,7 +15,7 @@ use Rattle.cube_model.specs.Protection.{method}
 use Rattle.cube_model.specs.Requests.{asks, grain}
 use Rattle.cube_model.specs.Verdicts.{source, verdict}
 use Rattle.cube_query.specs.Faults.{request_of}
-use Rattle.cube_rollup.specs.Cuboids.{Cuboid, StandsFor}
+use Rattle.cube_rollup.specs.Cuboids.{Cuboid, IsCuboidOf}
 use Rattle.cube_rollup.specs.Rollups.{Rollups, entered, cells_at}
 
 -- A request on a lattice measure that is answered and adds nothing to the history reads at most as many values as the source
@@ -38,6 +38,6 @@ cuboid_of r (Measure m) = slice_index_or (entered r) m None
 
 -- it is a cuboid of the core, for the request's measure and at least as fine as its grain
 pub record IsFineEnough (c : Core) (r : Request) (k : Cuboid) : Type 0 where
-  pub stands : StandsFor c k
+  pub stands : IsCuboidOf c k
   pub measure : asks k.measure r ≡ true
   pub finer : is_finer k.levels (grain r) ≡ true

@@ -1,5 +1,5 @@
 // The answer of a book to a question.
-ghost use Rattle.std.specs.Prelude.{◌≡◌, ◌≢◌, None, IsTrue};
+ghost use Rattle.std.specs.Prelude.{◌≡◌, ◌≢◌, true, None, IsTrue, if◌then◌else◌};
 ghost use Rattle.cube_model.specs.declared.outcome.Outcome.TheVariants as outcome;
 ghost use Rattle.cube_model.specs.Cores.{shown, world};
 ghost use Rattle.cube_io.specs.States.{Gained};
@@ -36,7 +36,9 @@ fn conclude_question<S: Store>(
     ensures none { book.new.waiting ≡ None }
     ensures cause { SettleCause result.1 (book_history outcome.Given book.old question.now ≢ book.old.history) (S.state store.old).faults (S.state store.new).faults }
     ensures untouched { book_history outcome.Given book.old question.now ≡ book.old.history → (store.new ≡ store.old) × (book.new.journal ≡ book.old.journal) }
-    ensures works { Works (S.state store.old) (S.state store.new) 4 }
+    ensures works { Works (S.state store.old) (S.state store.new) (if book.old.journal.failed then 4 else 2) }
+    ensures quiet { result.1 ≢ outcome.JournalFault → book.new.journal.failed ≡ true → book.old.journal.failed ≡ true }
+    ensures memory { result.1 ≡ outcome.NoMemory → store.new ≡ store.old }
     ensures others { OthersStay book.old.journal.log (S.state store.old) (S.state store.new) }
     ensures kept { IsTrue (S.state store.old).told → IsKept book.old.core book.old.policy book.new.history book.new.journal ((S.state store.new).logs book.old.journal.log).state }
     ensures exact { result.1 ≢ outcome.JournalFault → StaysExact book.old book.new.history (S.state store.old) (S.state store.new) }
@@ -76,14 +78,18 @@ impl Book {
 
         // The journal failed only where the question was to be kept, and where the store's count of faults rose.
         ensures cause { SettleCause result.1 (book_history outcome.Given self.old question.now ≢ self.old.history) (S.state store.old).faults (S.state store.new).faults }
-        ensures works { Works (S.state store.old) (S.state store.new) 4 }
         ensures others { OthersStay self.old.journal.log (S.state store.old) (S.state store.new) }
+
+        // The store is called twice at most, and four times where the last keep failed.
+        ensures works { Works (S.state store.old) (S.state store.new) (if self.old.journal.failed then 4 else 2) }
+        ensures quiet { result.1 ≢ outcome.JournalFault → self.new.journal.failed ≡ true → self.old.journal.failed ≡ true }
 
         // A request on a lattice measure that adds nothing to the history is answered from the source cuboid.
         ensures few_reads { AskReadsFew self.old.core.dims (shown self.old.core self.old.policy) self.old.history question.now steps.old steps.new }
 
-        // A question that adds nothing to the history leaves the store alone.
+        // A question that adds nothing to the history leaves the store alone, and so does want of memory.
         ensures untouched { book_history outcome.Given self.old question.now ≡ self.old.history → store.new ≡ store.old }
+        ensures memory { result.1 ≡ outcome.NoMemory → store.new ≡ store.old }
 
         // The book belongs to the log as it stands. Where no keep failed, every crash leaves just the history behind it; at
         // each moment of the call the history before it, alone or with one more request.

@@ -1,10 +1,10 @@
 // One cube with its policy, its history, and the log that keeps it.
-ghost use Rattle.std.specs.Prelude.{◌≡◌, ◌≤◌, ◌+◌, ◌^◌, ◌++◌, true, None, Ok, length, IsTrue, IfOk, OnOk, IfErr, OnErr, if◌then◌else◌};
+ghost use Rattle.std.specs.Prelude.{◌≡◌, ◌≤◌, ◌+◌, ◌^◌, ◌++◌, true, false, None, Ok, length, IsTrue, IfOk, OnOk, IfErr, OnErr, if◌then◌else◌};
 ghost use Rattle.cube_model.specs.declared.ask.Question.TheVariants as asked;
 ghost use Rattle.cube_model.specs.Cores.{shown, world};
 ghost use Rattle.cube_model.specs.Policies.{IsPolicy};
 ghost use Rattle.cube_model.specs.Verdicts.{verdict as verdict_of};
-ghost use Rattle.cube_admit.specs.States.{waiting as waiting_in, StandsFor};
+ghost use Rattle.cube_admit.specs.States.{waiting as waiting_in, IsStateOf};
 ghost use Rattle.cube_io.specs.Causes.{HasCause};
 ghost use Rattle.cube_io.specs.States.{Gained};
 ghost use Rattle.cube_io.specs.Told.{Works, OthersStay};
@@ -73,6 +73,7 @@ impl Book {
         ensures exact { IsTrue (S.state store.old).told → IfOk result (λ book. IsExact core policy book.history ((S.state store.new).logs log).state) }
         ensures crash { IsTrue (S.state store.old).told → Gained (IsInRecovery (history_of core policy) ((S.state store.old).logs log).state) ((S.state store.old).logs log) ((S.state store.new).logs log) }
         ensures log { IfOk result (λ book. book.journal.log ≡ log) }
+        ensures quiet { IfOk result (λ book. book.journal.failed ≡ false) }
         ensures core { IfOk result (λ book. book.core ≡ core) }
         ensures policy { IfOk result (λ book. book.policy ≡ policy) }
         ensures none { IfOk result (λ book. book.waiting ≡ None) }
@@ -106,7 +107,7 @@ impl Book {
     /// The history and what is kept of it.
     pub fn state(&self) -> &State
         ensures history { result.now.history ≡ self.now.history }
-        ensures stands { StandsFor (shown self.now.core self.now.policy) result.now }
+        ensures stands { IsStateOf (shown self.now.core self.now.policy) result.now }
         ensures waits { waiting_in result.now ≡ self.now.waiting }
     {
         self.holding.state()
@@ -209,6 +210,7 @@ impl Book {
         ensures works { Works (S.state store.old) (S.state store.new) (if self.old.journal.failed then 4 else 2) }
         ensures others { OthersStay self.old.journal.log (S.state store.old) (S.state store.new) }
         ensures ok { OnOk result (self.new.history ≡ self.old.history ++ entry_waiting self.old) }
+        ensures quiet { OnOk result (self.new.journal.failed ≡ false) }
         ensures err { OnErr result (self.new.history ≡ self.old.history) }
         ensures core { self.new.core ≡ self.old.core }
         ensures policy { self.new.policy ≡ self.old.policy }

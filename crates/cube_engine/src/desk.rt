@@ -20,7 +20,7 @@ impl<S: Store> Desk<S> for Engine {
 
     ghost outcomes = { λ e. e.outcomes };
 
-    ghost room = { λ e. e.left };
+    ghost capacity = { λ e. e.left };
 
     ghost fits = { λ e store. IsTrue (S.state store).attached × (IsTrue (S.state store).told → IsKept e.core e.policy e.history e.journal ((S.state store).logs e.journal.log).state) };
 
@@ -39,7 +39,7 @@ impl<S: Store> Desk<S> for Engine {
     }
 
     fn left(&self) -> u64 {
-        self.room()
+        self.capacity()
     }
 
     ghost failures = { λ e. manner_is_constant e.core.dims };

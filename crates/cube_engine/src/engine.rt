@@ -1,5 +1,5 @@
 // A book that counts what became of its asks.
-ghost use Rattle.std.specs.Prelude.{◌≡◌, ◌≢◌, ◌≤◌, ◌<◌, ◌+◌, ◌-◌, ◌++◌, ◌∷◌, ℕ, List, [], true, None, Some, Ok, IsTrue, IfOk, IfErr};
+ghost use Rattle.std.specs.Prelude.{◌≡◌, ◌≢◌, ◌≤◌, ◌<◌, ◌+◌, ◌-◌, ◌++◌, ◌∷◌, ℕ, List, [], true, None, Some, Ok, IsTrue, IfOk, IfErr, if◌then◌else◌};
 ghost use Rattle.cube_model.specs.declared.outcome.Outcome.TheVariants as outcome;
 ghost use Rattle.cube_model.specs.Cores.{shown, world};
 ghost use Rattle.cube_model.specs.Cubes.{same};
@@ -7,9 +7,9 @@ ghost use Rattle.cube_model.specs.Dims.{Dims};
 ghost use Rattle.cube_model.specs.Policies.{IsPolicy};
 ghost use Rattle.cube_model.specs.Rooms.{aim};
 ghost use Rattle.cube_model.specs.Verdicts.{verdict as verdict_of};
-ghost use Rattle.cube_admit.specs.States.{StandsFor};
+ghost use Rattle.cube_admit.specs.States.{IsStateOf};
 ghost use Rattle.cube_answers.specs.VerdictText.{IsVerdict};
-ghost use Rattle.cube_io.specs.Desks.{Answered};
+ghost use Rattle.cube_io.specs.Desks.{Answered, most_calls};
 ghost use Rattle.cube_io.specs.States.{Gained};
 ghost use Rattle.cube_io.specs.Told.{Works, OthersStay};
 ghost use Rattle.cube_journal.specs.Keeping.{IsInRecovery};
@@ -98,7 +98,9 @@ fn conclude<S: Store>(
     ensures none { book.new.waiting ≡ None }
     ensures cause { SettleCause result.1 ((manner book.old.core.dims).next (book_rooms book.old) ask.now outcome.Given ≢ book_rooms book.old) (S.state store.old).faults (S.state store.new).faults }
     ensures untouched { (manner book.old.core.dims).next (book_rooms book.old) ask.now outcome.Given ≡ book_rooms book.old → (store.new ≡ store.old) × (book.new.journal ≡ book.old.journal) }
-    ensures works { Works (S.state store.old) (S.state store.new) 4 }
+    ensures works { Works (S.state store.old) (S.state store.new) (if book.old.journal.failed then 4 else 2) }
+    ensures quiet { result.1 ≢ outcome.JournalFault → book.new.journal.failed ≡ true → book.old.journal.failed ≡ true }
+    ensures memory { result.1 ≡ outcome.NoMemory → store.new ≡ store.old }
     ensures others { OthersStay book.old.journal.log (S.state store.old) (S.state store.new) }
     ensures kept { IsTrue (S.state store.old).told → IsKept book.old.core book.old.policy book.new.history book.new.journal ((S.state store.new).logs book.old.journal.log).state }
     ensures exact { result.1 ≢ outcome.JournalFault → StaysExact book.old book.new.history (S.state store.old) (S.state store.new) }
@@ -116,7 +118,7 @@ fn conclude<S: Store>(
     }
 }
 
-/// A book and the outcomes of its asks, with room for a stated number of them. A new outcome takes no memory.
+/// A book and the outcomes of its asks, with space for a stated number of them. A new outcome takes no memory.
 #[derive(Drop)]
 pub struct Engine {
     book: Book,
@@ -124,25 +126,27 @@ pub struct Engine {
 }
 
 impl Model for Engine {
-    ghost use Rattle.std.specs.Prelude.{◌≡◌, None};
+    ghost use Rattle.std.specs.Prelude.{◌≡◌, true, None};
+    ghost use Rattle.cube_io.specs.Desks.{has_fault};
     ghost use Rattle.cube_engine.specs.Engines as said;
 
     ghost Value = { said.Engine };
 
     ghost view = { λ e. record { core = e.book.core; policy = e.book.policy; history = e.book.history; journal = e.book.journal; outcomes = e.turns.outcomes; left = e.turns.left } };
 
-    ghost invariant = { λ e. e.book.waiting ≡ None };
+    // No request waits, and the last keep failed only where the journal failed for an ask.
+    ghost invariant = { λ e. (e.book.waiting ≡ None) × (e.book.journal.failed ≡ true → has_fault e.turns.outcomes ≡ true) };
 }
 
 impl Engine {
-    /// An engine over a core under a policy, with room for so many asks and the history that a log of the store recovers.
+    /// An engine over a core under a policy, with space for so many asks and the history that a log of the store recovers.
     pub fn start<S: Store>(
         alloc: Global,
         core: Core,
         policy: Policy,
         store: &mut S,
         log: u32,
-        room: u64,
+        capacity: u64,
     ) -> Result<Engine, EngineFault>
         requires attached { IsTrue (S.state store.old).attached }
         requires policy { IsPolicy core.dims policy }
@@ -160,10 +164,10 @@ impl Engine {
 
         // At each moment of the call the log is as at entry, or each image recovers what the log recovered at entry.
         ensures crash { IsTrue (S.state store.old).told → Gained (IsInRecovery (history_of core policy) ((S.state store.old).logs log).state) ((S.state store.old).logs log) ((S.state store.new).logs log) }
-        ensures engine { IfOk result (λ engine. engine ≡ record { core = core; policy = policy; history = engine.history; journal = engine.journal; outcomes = []; left = room }) }
+        ensures engine { IfOk result (λ engine. engine ≡ record { core = core; policy = policy; history = engine.history; journal = engine.journal; outcomes = []; left = capacity }) }
         ensures log { IfOk result (λ engine. engine.journal.log ≡ log) }
     {
-        let turns = Turns::new(alloc, room)?;
+        let turns = Turns::new(alloc, capacity)?;
         let core = SharedCore::new(alloc, core)?;
         match Book::start(alloc, core, policy, store, log) {
             Ok(book) => Ok(Engine { book, turns }),
@@ -191,7 +195,7 @@ impl Engine {
     #[tactic(auto, using(crate::proofs::KeepsAll::pending_is))]
     pub fn state(&self) -> &State
         ensures history { result.now.history ≡ self.now.history }
-        ensures stands { StandsFor (shown self.now.core self.now.policy) result.now }
+        ensures stands { IsStateOf (shown self.now.core self.now.policy) result.now }
         ensures none { result.now.pending ≡ None }
     {
         self.book.state()
@@ -266,14 +270,17 @@ impl Engine {
         ensures policy { self.new.policy ≡ self.old.policy }
         ensures left { self.new.left + 1 ≡ self.old.left }
         ensures log { self.new.journal.log ≡ self.old.journal.log }
-        ensures works { Works (S.state store.old) (S.state store.new) 4 }
         ensures others { OthersStay self.old.journal.log (S.state store.old) (S.state store.new) }
+
+        // The store is called twice at most, and four times behind an ask for which the journal failed.
+        ensures works { Works (S.state store.old) (S.state store.new) (most_calls self.old.outcomes) }
 
         // A request on a lattice measure that adds nothing to the history is answered from the source cuboid.
         ensures few_reads { AskReadsFew self.old.core.dims (shown self.old.core self.old.policy) self.old.history ask.now.question steps.old steps.new }
 
-        // An ask that adds nothing to the history leaves the store alone.
+        // An ask that adds nothing to the history leaves the store alone, and so does want of memory.
         ensures untouched { (manner self.old.core.dims).next (rooms_of self.old) ask.now outcome.Given ≡ rooms_of self.old → store.new ≡ store.old }
+        ensures memory { self.new.outcomes ≡ self.old.outcomes ++ outcome.NoMemory ∷ [] → store.new ≡ store.old }
 
         // The engine belongs to the log as it stands. Where no keep failed, every crash leaves just the history behind it; at
         // each moment of the call the history before it, alone or with one more request.
@@ -313,9 +320,10 @@ impl Engine {
         ensures policy { self.new.policy ≡ self.old.policy }
         ensures left { self.new.left + 1 ≡ self.old.left }
         ensures log { self.new.journal.log ≡ self.old.journal.log }
-        ensures works { Works (S.state store.old) (S.state store.new) 4 }
+        ensures works { Works (S.state store.old) (S.state store.new) (most_calls self.old.outcomes) }
         ensures others { OthersStay self.old.journal.log (S.state store.old) (S.state store.new) }
         ensures untouched { (manner self.old.core.dims).next (rooms_of self.old) ask.now outcome.Given ≡ rooms_of self.old → store.new ≡ store.old }
+        ensures memory { self.new.outcomes ≡ self.old.outcomes ++ outcome.NoMemory ∷ [] → store.new ≡ store.old }
         ensures kept { IsTrue (S.state store.old).told → IsKept self.old.core self.old.policy self.new.history self.new.journal ((S.state store.new).logs self.old.journal.log).state }
         ensures exact { self.new.outcomes ≢ self.old.outcomes ++ outcome.JournalFault ∷ [] → StaysExact (book_of self.old) self.new.history (S.state store.old) (S.state store.new) }
         ensures within { IsTrue (S.state store.old).told → IsWithin self.old.core self.old.policy self.new.history ((S.state store.new).logs self.old.journal.log).state }
@@ -335,8 +343,8 @@ impl Engine {
         self.turns.record(Outcome::NoMemory);
     }
 
-    // How many more asks there is room for.
-    pub(crate) fn room(&self) -> u64
+    // How many more asks there is space for.
+    pub(crate) fn capacity(&self) -> u64
         ensures { result ≡ self.now.left }
     {
         self.turns.left()

@@ -5,7 +5,7 @@ ghost use Rattle.cube_model.specs.Cores.{IsCore, shown};
 ghost use Rattle.cube_model.specs.Entries.{requests};
 ghost use Rattle.cube_model.specs.Policies.{IsPolicy};
 ghost use Rattle.cube_model.specs.Verdicts.{verdict as verdict_of, IsAdmissible};
-ghost use Rattle.cube_admit.specs.States.{waiting as waiting_in, waits_for, StandsFor};
+ghost use Rattle.cube_admit.specs.States.{waiting as waiting_in, waits_for, IsStateOf};
 ghost use Rattle.cube_query.specs.Canonical.{is_request};
 ghost use Rattle.cube_rollup.specs.Rollups.{entry_of};
 ghost use Rattle.cube_engine.specs.Books.{that_waits};
@@ -34,7 +34,7 @@ impl Model for Holding {
     ghost use Rattle.std.specs.Prelude.{◌≡◌};
     ghost use Rattle.cube_model.specs.Cores.{shown};
     ghost use Rattle.cube_model.specs.Policies.{IsPolicy};
-    ghost use Rattle.cube_admit.specs.States.{waiting as waiting_in, StandsFor};
+    ghost use Rattle.cube_admit.specs.States.{waiting as waiting_in, IsStateOf};
     ghost use Rattle.cube_rollup.specs.Rollups.{RollupsStand};
     ghost use Rattle.cube_engine.specs.Books as said;
 
@@ -42,7 +42,7 @@ impl Model for Holding {
 
     ghost view = { λ b. record { core = b.core; policy = b.policy; history = b.state.history; waiting = waiting_in b.state } };
 
-    ghost invariant = { λ b. IsPolicy b.core.dims b.policy × StandsFor (shown b.core b.policy) b.state × RollupsStand b.core b.policy b.state.history (waiting_in b.state) b.rollups };
+    ghost invariant = { λ b. IsPolicy b.core.dims b.policy × IsStateOf (shown b.core b.policy) b.state × RollupsStand b.core b.policy b.state.history (waiting_in b.state) b.rollups };
 }
 
 impl Holding {
@@ -54,7 +54,7 @@ impl Holding {
         state: State,
     ) -> Result<Holding, NoMemory>
         requires policy { IsPolicy core.dims policy }
-        requires stands { StandsFor (shown core policy) state }
+        requires stands { IsStateOf (shown core policy) state }
         requires none { state.pending ≡ None }
         ensures { IfOk result (λ holding. holding ≡ record { core = core; policy = policy; history = state.history; waiting = None }) }
     {
@@ -92,7 +92,7 @@ impl Holding {
     /// The history and what is kept of it.
     pub(crate) fn state(&self) -> &State
         ensures history { result.now.history ≡ self.now.history }
-        ensures stands { StandsFor (shown self.now.core self.now.policy) result.now }
+        ensures stands { IsStateOf (shown self.now.core self.now.policy) result.now }
         ensures waits { waiting_in result.now ≡ self.now.waiting }
     {
         &self.state

@@ -1,11 +1,11 @@
 // The history of a log: its entries, judged one behind another.
-ghost use Rattle.std.specs.Prelude.{◌≡◌, ◌⊎◌, ◌≢◌, ◌≤◌, ◌+◌, ◌^◌, [], None, Ok, Err, length, IsTrue, IfOk, OnOk, IfErr};
+ghost use Rattle.std.specs.Prelude.{◌≡◌, ◌⊎◌, ◌≢◌, ◌≤◌, ◌+◌, ◌^◌, [], false, None, Ok, Err, length, IsTrue, IfOk, OnOk, IfErr};
 ghost use Rattle.cube_model.specs.Cores.{shown};
 ghost use Rattle.cube_model.specs.Cubes.{Each};
 ghost use Rattle.cube_model.specs.Logs.{left};
 ghost use Rattle.cube_model.specs.Logs.Left.{Leaves};
 ghost use Rattle.cube_model.specs.Policies.{IsPolicy};
-ghost use Rattle.cube_admit.specs.States.{StandsFor};
+ghost use Rattle.cube_admit.specs.States.{IsStateOf};
 ghost use Rattle.cube_io.specs.States.{Gained};
 ghost use Rattle.cube_io.specs.Told.{Works, OthersStay};
 ghost use Rattle.cube_journal.specs.Keeping.{IsInRecovery};
@@ -51,7 +51,7 @@ fn judge_all(
     requires sound { Each (IsSound core.now.dims policy.now (length core.now.shape.points)) entries.now }
     ensures left { IfOk result (λ state. left (shown core.now policy.now) [] first_entry entries.now ≡ Leaves state.history) }
     ensures none { IfOk result (λ state. state.pending ≡ None) }
-    ensures stands { IfOk result (λ state. StandsFor (shown core.now policy.now) state) }
+    ensures stands { IfOk result (λ state. IsStateOf (shown core.now policy.now) state) }
     ensures err { IfErr result (λ e. (e ≡ fault.NoMemory) ⊎ (by_left (left (shown core.now policy.now) [] first_entry entries.now) ≡ Err e)) }
 {
     let mut state = State::new(alloc, core, policy)?;
@@ -83,9 +83,10 @@ pub(crate) fn open_log<S: Store>(
     ensures exact { IsTrue (S.state store.old).told → IfOk result (λ opened. IsExact core.now policy.now opened.1.history ((S.state store.new).logs log).state) }
     ensures crash { IsTrue (S.state store.old).told → Gained (IsInRecovery (history_of core.now policy.now) ((S.state store.old).logs log).state) ((S.state store.old).logs log) ((S.state store.new).logs log) }
     ensures log { IfOk result (λ opened. opened.0.log ≡ log) }
+    ensures quiet { IfOk result (λ opened. opened.0.failed ≡ false) }
     ensures within { IfOk result (λ opened. opened.0.kept ≤ 2 ^ 28) }
     ensures none { IfOk result (λ opened. opened.1.pending ≡ None) }
-    ensures stands { IfOk result (λ opened. StandsFor (shown core.now policy.now) opened.1) }
+    ensures stands { IfOk result (λ opened. IsStateOf (shown core.now policy.now) opened.1) }
 {
     let digest = digest_for(alloc, core, policy)?;
     let _digits = digest.digits();

@@ -10,7 +10,7 @@ ghost use Rattle.cube_model.specs.Policies.{IsPolicy};
 ghost use Rattle.cube_model.specs.Requests.{answer as answer_of};
 ghost use Rattle.cube_core.specs.Grouping.{pointed, ArePoints};
 ghost use Rattle.cube_core.specs.Tallies.{row_of_tally};
-ghost use Rattle.cube_admit.specs.States.{waiting, StandsFor};
+ghost use Rattle.cube_admit.specs.States.{waiting, IsStateOf};
 ghost use Rattle.cube_query.specs.Canonical.{is_request};
 ghost use Rattle.cube_answers.specs.AnswerText.{answer_text as answer_words, IsAnswer};
 ghost use Rattle.cube_rollup.specs.Rollups.{kept_at, IsCuboidAt, RollupsStand};
@@ -34,7 +34,7 @@ fn roll<L: Ledger>(
     steps: &mut Steps<L>,
 ) -> Result<Option<Cuboid>, NoMemory>
     requires policy { IsPolicy core.now.dims policy.now }
-    requires stands { StandsFor (shown core.now policy.now) state.now }
+    requires stands { IsStateOf (shown core.now policy.now) state.now }
     requires measure { measure < length policy.now.methods }
     ensures { IfOk result (λ cuboid. IsCuboidAt core.now measure (kept_at (shown core.now policy.now) state.now.history measure) cuboid) }
 {
@@ -57,7 +57,7 @@ pub(crate) fn roll_all<L: Ledger>(
     requires parts { blank.parts ≡ L.parts }
     requires some { 0 < L.parts }
     requires policy { IsPolicy core.now.dims policy.now }
-    requires stands { StandsFor (shown core.now policy.now) state.now }
+    requires stands { IsStateOf (shown core.now policy.now) state.now }
     ensures { IfOk result (λ rollups. RollupsStand core.now policy.now state.now.history None rollups) }
 {
     let _rules = core.dims();
@@ -80,7 +80,7 @@ pub(crate) fn hold_next<L: Ledger>(
     steps: &mut Steps<L>,
 ) -> Result<(), NoMemory>
     requires policy { IsPolicy core.now.dims policy.now }
-    requires stands { StandsFor (shown core.now policy.now) state.now }
+    requires stands { IsStateOf (shown core.now policy.now) state.now }
     requires rolled { RollupsStand core.now policy.now state.now.history None rollups.old }
     ensures ok { OnOk result (RollupsStand core.now policy.now state.now.history (waiting state.now) rollups.new) }
     ensures kept { rollups.new.kept ≡ rollups.old.kept }

@@ -1,11 +1,11 @@
-// What became of the asks so far, with room for more.
+// What became of the asks so far, with space for more.
 ghost use Rattle.std.specs.Prelude.{◌≡◌, ◌≤◌, ◌+◌, ◌++◌, ◌∷◌, [], IfOk};
 
 use cube_model::{Items, NoMemory, Outcome, Outcomes};
 use std::alloc::Global;
 use std::marker::Model;
 
-/// The outcomes of the asks so far, and room for a number of others, which take no memory.
+/// The outcomes of the asks so far, and space for a number of others, which take no memory.
 #[derive(Drop)]
 pub struct Turns {
     outcomes: Vec<Outcome>,
@@ -25,13 +25,13 @@ impl Model for Turns {
 }
 
 impl Turns {
-    /// No outcome yet, and room for so many.
-    pub fn new(alloc: Global, room: u64) -> Result<Turns, NoMemory>
-        ensures { IfOk result (λ turns. turns ≡ record { outcomes = []; left = room }) }
+    /// No outcome yet, and space for so many.
+    pub fn new(alloc: Global, capacity: u64) -> Result<Turns, NoMemory>
+        ensures { IfOk result (λ turns. turns ≡ record { outcomes = []; left = capacity }) }
     {
         Ok(Turns {
-            outcomes: Vec::with_capacity(alloc, room as usize)?,
-            left: room,
+            outcomes: Vec::with_capacity(alloc, capacity as usize)?,
+            left: capacity,
         })
     }
 
@@ -54,7 +54,7 @@ impl Turns {
         self.outcomes.as_slice()
     }
 
-    /// How many more there is room for.
+    /// How many more there is space for.
     pub fn left(&self) -> u64
         ensures { result ≡ self.now.left }
     {

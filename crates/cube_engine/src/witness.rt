@@ -6,7 +6,7 @@ ghost use Rattle.cube_model.specs.declared.request.What.TheVariants as what;
 ghost use Rattle.cube_model.specs.Cores.{shown, world};
 ghost use Rattle.cube_model.specs.Cubes.{are_levels};
 ghost use Rattle.cube_model.specs.Dims.{plains};
-ghost use Rattle.cube_admit.specs.States.{StandsFor};
+ghost use Rattle.cube_admit.specs.States.{IsStateOf};
 ghost use Rattle.cube_query.specs.Canonical.{is_request};
 ghost use Rattle.cube_query.specs.Faults.{fault_status, fault_body};
 ghost use Rattle.cube_witness.specs.Grounds.{IsGrounds};
@@ -111,7 +111,7 @@ fn cell_of(alloc: Global, request: &Request) -> Result<Cell, NoMemory>
 
 /// What is kept of the history of a measure, by its method.
 pub fn grounds_of<'a>(core: &Core, policy: &Policy, state: &'a State, measure: u32) -> Grounds<'a>
-    requires stands { StandsFor (shown core.now policy.now) state.now }
+    requires stands { IsStateOf (shown core.now policy.now) state.now }
     requires none { state.now.pending ≡ None }
     requires measure { measure < length policy.now.methods }
     ensures { IsGrounds (shown core.now policy.now) state.now.history measure result }

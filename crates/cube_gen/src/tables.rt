@@ -8,10 +8,10 @@ use cube_model::{NoMemory, Text};
 use std::alloc::Global;
 
 const BRANCHES: &[u8] =
-    b"[[dimension]]\nname = \"branch\"\nlevels = [\"branch\", \"region\"]\npaths = [\n";
+    b"[[dimension]]\nlevels = [\n    \"branch\",\n    \"region\",\n]\nname = \"branch\"\npaths = [";
 
 const OTHERS: &[u8] =
-    b"]\n\n[[dimension]]\nname = \"month\"\nlevels = [\"month\", \"quarter\"]\npaths = [\n  [\"m1\", \"q1\"],\n  [\"m2\", \"q1\"],\n  [\"m3\", \"q1\"],\n  [\"m4\", \"q2\"],\n  [\"m5\", \"q2\"],\n  [\"m6\", \"q2\"],\n  [\"m7\", \"q3\"],\n  [\"m8\", \"q3\"],\n  [\"m9\", \"q3\"],\n  [\"m10\", \"q4\"],\n  [\"m11\", \"q4\"],\n  [\"m12\", \"q4\"],\n]\n\n[[dimension]]\nname = \"grade\"\nlevels = [\"grade\"]\npaths = [[\"g0\"], [\"g1\"], [\"g2\"], [\"g3\"], [\"g4\"], [\"g5\"]]\n\n[[measure]]\nname = \"pay\"\ndecimals = 2\n\n[[measure]]\nname = \"hours\"\n\n[[measure]]\nname = \"bonus\"\n";
+    b"\n]\n\n[[dimension]]\nlevels = [\n    \"month\",\n    \"quarter\",\n]\nname = \"month\"\npaths = [\n    [\n    \"m1\",\n    \"q1\",\n],\n    [\n    \"m2\",\n    \"q1\",\n],\n    [\n    \"m3\",\n    \"q1\",\n],\n    [\n    \"m4\",\n    \"q2\",\n],\n    [\n    \"m5\",\n    \"q2\",\n],\n    [\n    \"m6\",\n    \"q2\",\n],\n    [\n    \"m7\",\n    \"q3\",\n],\n    [\n    \"m8\",\n    \"q3\",\n],\n    [\n    \"m9\",\n    \"q3\",\n],\n    [\n    \"m10\",\n    \"q4\",\n],\n    [\n    \"m11\",\n    \"q4\",\n],\n    [\n    \"m12\",\n    \"q4\",\n],\n]\n\n[[dimension]]\nlevels = [\"grade\"]\nname = \"grade\"\npaths = [\n    [\"g0\"],\n    [\"g1\"],\n    [\"g2\"],\n    [\"g3\"],\n    [\"g4\"],\n    [\"g5\"],\n]\n\n[[measure]]\ndecimals = 2\nname = \"pay\"\n\n[[measure]]\nname = \"hours\"\n\n[[measure]]\nname = \"bonus\"\n";
 
 const POLICY: &[u8] =
     b"[[measure]]\nname = \"pay\"\nmethod = \"lattice\"\n\n[[measure]]\nname = \"hours\"\nmethod = \"parity\"\n\n[[measure]]\nname = \"bonus\"\nmethod = \"open\"\n\n[[object]]\nmeasure = \"pay\"\nbelow = { branch = \"branch\", month = \"month\", grade = \"grade\" }\nslice = { grade = { level = \"grade\", members = [\"g5\"] } }\n";
@@ -22,9 +22,9 @@ fn push_branch(text: &mut Text, size: u32, branch: u64) -> Result<(), NoMemory>
     requires few { size ≤ 20 }
     ensures { OnOk result (text.new ≡ text.old ++ branch_path size branch) }
 {
-    push_numbered(text, b"  [\"b", branch)?;
-    push_numbered(text, b"\", \"r", branch % (5 * u64::from(size)))?;
-    text.extend(b"\"],\n")
+    push_numbered(text, b"\n    [\n    \"b", branch)?;
+    push_numbered(text, b"\",\n    \"r", branch % (5 * u64::from(size)))?;
+    text.extend(b"\",\n],")
 }
 
 /// Puts what stands behind the branches at the end: months, grades and measures.

@@ -183,8 +183,8 @@ two_ends d r ys (Later e late) = rw e (sized (nat_le most_head (length r)) refl)
     longer = omega (arith, length-append r ys)
 
     full : (o : Option ℕ) → ((k : ℕ) → o ≡ Some k → length r < k) → most_head ≤ length r → measured d (r ++ ys) o ≡ Refused (d + most_head) HeadTooLarge
-    full None behind room = ap (λ (t : Bool). if t then Refused (d + most_head) HeadTooLarge else Unended) (le_true most_head (length (r ++ ys)) (omega (arith, longer)))
-    full (Some k) behind room = let lt = behind k refl in ap (λ (t : Bool). if t then parsed (d + k) (head_of (take k (r ++ ys))) else Refused (d + most_head) HeadTooLarge) (le_false k most_head (omega arith))
+    full None behind capacity = ap (λ (t : Bool). if t then Refused (d + most_head) HeadTooLarge else Unended) (le_true most_head (length (r ++ ys)) (omega (arith, longer)))
+    full (Some k) behind capacity = let lt = behind k refl in ap (λ (t : Bool). if t then parsed (d + k) (head_of (take k (r ++ ys))) else Refused (d + most_head) HeadTooLarge) (le_false k most_head (omega arith))
 
     sized : (t : Bool) → nat_le most_head (length r) ≡ t
         → (Settled (d + length r) (if t then Refused (d + most_head) HeadTooLarge else Unended) × (measured d (r ++ ys) (head_len (r ++ ys)) ≡ (if t then Refused (d + most_head) HeadTooLarge else Unended)))

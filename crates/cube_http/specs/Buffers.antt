@@ -27,8 +27,8 @@ pub record IsRead (head : List ℕ) (facts : HeadFacts) : Type 0 where
   pub tells : AreFacts head (guess head) facts
   pub small : facts.length ≤ 65536
 
--- there is room for a head and for a body
-pub record KeepsRoom (kept : Kept) : Type 0 where
+-- there is space for a head and for a body
+pub record KeepsCapacity (kept : Kept) : Type 0 where
   pub head : most_head ≤ vec_capacity kept.head
   pub body : 65536 ≤ vec_capacity kept.body
 
@@ -36,15 +36,15 @@ pub record KeepsRoom (kept : Kept) : Type 0 where
 pub record KeepsHead (kept : Kept) : Type 0 where
   pub goes_on : GoesOn kept.head.items
   pub empty : kept.body.items ≡ []
-  pub room : KeepsRoom kept
+  pub capacity : KeepsCapacity kept
 
 -- a head that was read, and the front of its body
 pub record KeepsBody (kept : Kept) : Type 0 where
   pub read : IsRead kept.head.items kept.facts
   pub unfinished : length kept.body.items < kept.facts.length
-  pub room : KeepsRoom kept
+  pub capacity : KeepsCapacity kept
 
 -- a head that was read, and any body
 pub record KeepsRequest (kept : Kept) : Type 0 where
   pub read : IsRead kept.head.items kept.facts
-  pub room : KeepsRoom kept
+  pub capacity : KeepsCapacity kept

@@ -3,7 +3,7 @@ ghost use Rattle.std.specs.Prelude.{false, ◌≡◌, ◌↔◌, ℕ, ◌<◌, �
 ghost use Rattle.cube_http.specs.Head.{at_end, rest};
 ghost use Rattle.cube_http.specs.Stream as stream;
 ghost use Rattle.cube_http.specs.Stream.Item.{Bad};
-ghost use Rattle.cube_http.specs.Buffers.{GoesOn, Stops, IsRead, KeepsHead, KeepsBody, KeepsRequest, KeepsRoom};
+ghost use Rattle.cube_http.specs.Buffers.{GoesOn, Stops, IsRead, KeepsHead, KeepsBody, KeepsRequest, KeepsCapacity};
 ghost use Rattle.cube_http.specs.Hearing.{Adds, Follows, Hears, HearsOn};
 ghost use Rattle.cube_http.specs.Checks.{closes};
 ghost use Rattle.cube_http.specs.Methods.{is_head, kind_of};
@@ -102,13 +102,13 @@ pub struct DeadConn {
 }
 
 impl Model for DeadConn {
-    ghost use Rattle.cube_http.specs.Buffers.{KeepsRoom};
+    ghost use Rattle.cube_http.specs.Buffers.{KeepsCapacity};
 
     ghost Value = { Unit {0} };
 
     ghost view = { λ _. tt };
 
-    ghost invariant = { λ c. KeepsRoom c.kept.value };
+    ghost invariant = { λ c. KeepsCapacity c.kept.value };
 }
 
 /// A connection, in one of its states.
@@ -172,12 +172,12 @@ fn ends_here(bytes: &[u8], last: u8) -> bool
 
 // Keeps one more byte of a head. Tells whether the head stops there.
 fn keep_byte(head: &mut Vec<u8>, byte: u8) -> bool
-    requires room { stream.most_head ≤ vec_capacity head.old }
+    requires capacity { stream.most_head ≤ vec_capacity head.old }
     requires goes_on { GoesOn head.old.items }
     requires begins { at_end (head.old.items ++ byte ∷ []) ≡ false }
     ensures kept { head.new.items ≡ head.old.items ++ byte ∷ [] }
     ensures stops { MatchBool result (Stops head.new.items) (GoesOn head.new.items) }
-    ensures room { stream.most_head ≤ vec_capacity head.new }
+    ensures capacity { stream.most_head ≤ vec_capacity head.new }
 {
     head.push_reserved(byte);
     ends_here(head, byte) || head.len() == MAX_HEAD
@@ -185,11 +185,11 @@ fn keep_byte(head: &mut Vec<u8>, byte: u8) -> bool
 
 // The same, but a byte of a line end before the head is dropped.
 fn push_byte(head: &mut Vec<u8>, byte: u8) -> bool
-    requires room { stream.most_head ≤ vec_capacity head.old }
+    requires capacity { stream.most_head ≤ vec_capacity head.old }
     requires goes_on { GoesOn head.old.items }
     ensures kept { head.new.items ≡ rest stream.is_break (head.old.items ++ byte ∷ []) }
     ensures stops { MatchBool result (Stops head.new.items) (GoesOn head.new.items) }
-    ensures room { stream.most_head ≤ vec_capacity head.new }
+    ensures capacity { stream.most_head ≤ vec_capacity head.new }
 {
     if head.is_empty() && is_break(byte) {
         return false;
@@ -199,11 +199,11 @@ fn push_byte(head: &mut Vec<u8>, byte: u8) -> bool
 
 // Keeps the bytes of a head up to where it stops. Tells how many of the piece these are, if it does.
 fn push_head(head: &mut Vec<u8>, piece: &[u8]) -> Option<usize>
-    requires room { stream.most_head ≤ vec_capacity head.old }
+    requires capacity { stream.most_head ≤ vec_capacity head.old }
     requires goes_on { GoesOn head.old.items }
     ensures stops { IfSome result (λ used. (0 < used) × (used ≤ length piece.now) × (head.new.items ≡ rest stream.is_break (head.old.items ++ take used piece.now)) × Stops head.new.items) }
     ensures more { IfNone result ((head.new.items ≡ rest stream.is_break (head.old.items ++ piece.now)) × GoesOn head.new.items) }
-    ensures room { stream.most_head ≤ vec_capacity head.new }
+    ensures capacity { stream.most_head ≤ vec_capacity head.new }
 {
     for (place, byte) in piece.iter().enumerate() {
         if push_byte(head, *byte) {
@@ -216,11 +216,11 @@ fn push_head(head: &mut Vec<u8>, piece: &[u8]) -> Option<usize>
 // The same: a piece of one byte needs no loop.
 #[inline(always)]
 fn push_piece(head: &mut Vec<u8>, piece: &[u8]) -> Option<usize>
-    requires room { stream.most_head ≤ vec_capacity head.old }
+    requires capacity { stream.most_head ≤ vec_capacity head.old }
     requires goes_on { GoesOn head.old.items }
     ensures stops { IfSome result (λ used. (0 < used) × (used ≤ length piece.now) × (head.new.items ≡ rest stream.is_break (head.old.items ++ take used piece.now)) × Stops head.new.items) }
     ensures more { IfNone result ((head.new.items ≡ rest stream.is_break (head.old.items ++ piece.now)) × GoesOn head.new.items) }
-    ensures room { stream.most_head ≤ vec_capacity head.new }
+    ensures capacity { stream.most_head ≤ vec_capacity head.new }
 {
     if piece.len() != 1 {
         return push_head(head, piece);
@@ -280,7 +280,7 @@ fn judge_kept(kept: &mut Kept) -> Result<(), Fixed>
 // What comes behind a head that stops.
 fn end_head(mut kept: Box<Kept>) -> Behind
     requires stops { Stops kept.value.head.items }
-    requires room { KeepsRoom kept.value }
+    requires capacity { KeepsCapacity kept.value }
     requires empty { kept.value.body.items ≡ [] }
     ensures { Follows kept.value.head.items result }
 {
@@ -296,7 +296,7 @@ fn push_body(kept: &mut Kept, piece: &[u8]) -> usize
     ensures used { result ≡ min (kept.old.facts.length - length kept.old.body.items) (length piece.now) }
     ensures body { kept.new.body.items ≡ kept.old.body.items ++ take result piece.now }
     ensures same { (kept.new.head ≡ kept.old.head) × (kept.new.facts ≡ kept.old.facts) }
-    ensures room { KeepsRoom kept.new }
+    ensures capacity { KeepsCapacity kept.new }
 {
     let used = (kept.facts.length - kept.body.len()).min(piece.len());
     match kept.body.extend_from_slice(&piece[..used]) {
@@ -366,7 +366,7 @@ fn hear_behind(behind: Behind, used: usize, piece: &[u8]) -> Fed
 #[inline(never)]
 fn hear_end(kept: Box<Kept>, used: usize, piece: &[u8]) -> Fed
     requires stops { Stops kept.value.head.items }
-    requires room { KeepsRoom kept.value }
+    requires capacity { KeepsCapacity kept.value }
     requires empty { kept.value.body.items ≡ [] }
     requires used { used ≤ length piece.now }
     ensures used { (used ≤ result.used) × (result.used ≤ length piece.now) }
@@ -397,7 +397,7 @@ fn hear_head(mut kept: Box<Kept>, piece: &[u8]) -> Fed
 
 // Drops all bytes that are kept.
 fn clear(kept: &mut Kept)
-    requires { KeepsRoom kept.old }
+    requires { KeepsCapacity kept.old }
     ensures { KeepsHead kept.new × (kept.new.head.items ≡ []) }
 {
     kept.head.clear();
@@ -406,7 +406,7 @@ fn clear(kept: &mut Kept)
 
 // A connection that has heard nothing, with these buffers.
 fn make_fresh(mut kept: Box<Kept>) -> HeadConn
-    requires { KeepsRoom kept.value }
+    requires { KeepsCapacity kept.value }
     ensures { result ≡ [] }
 {
     clear(&mut kept);

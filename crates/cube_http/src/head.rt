@@ -71,7 +71,7 @@ fn find_head(bytes: &[u8], headers: &mut [HeaderSpan]) -> Option<RequestSpans>
 
 // The same, by the function that reads a head.
 fn read_head(bytes: &[u8], headers: &mut [HeaderSpan]) -> Option<RequestSpans>
-    requires room { length headers.old ≡ 64 }
+    requires capacity { length headers.old ≡ 64 }
     requires starts { at_end bytes.now ≡ false }
     ensures value { MatchOption result (head_of bytes.now ≡ None) (SpansSome bytes.now headers.new (head_of bytes.now)) }
     ensures within { IfSome result (IsRequestWithin bytes.now headers.new) }

@@ -94,7 +94,7 @@ fn put(buf: &mut [u8], at: usize, text: &[u8]) -> usize
     requires { at + length text.now ≤ length buf.old }
     ensures end { result ≡ at + length text.now }
     ensures written { take result buf.new ≡ take at buf.old ++ text.now }
-    ensures room { length buf.new ≡ length buf.old }
+    ensures capacity { length buf.new ≡ length buf.old }
 {
     let end = at + text.len();
     buf[at..end].copy_from_slice(text);
@@ -130,10 +130,10 @@ pub fn status_of(reply: &Reply) -> u16
 // Writes the line of a status.
 fn put_status_line(buf: &mut [u8], status: u16) -> usize
     requires phrase { IsTrue (spec.has_phrase status) }
-    requires room { 48 ≤ length buf.old }
+    requires capacity { 48 ≤ length buf.old }
     ensures written { take result buf.new ≡ spec.status_line status }
     ensures short { result ≤ 48 }
-    ensures room { length buf.new ≡ length buf.old }
+    ensures capacity { length buf.new ≡ length buf.old }
 {
     let mut number = Buffer::new();
     let at = put(buf, 0, b"HTTP/1.1 ");
@@ -148,7 +148,7 @@ fn put_field(buf: &mut [u8], at: usize, name: &[u8], value: &[u8]) -> usize
     requires { at + length name.now + length value.now + 4 ≤ length buf.old }
     ensures end { result ≡ at + length name.now + length value.now + 4 }
     ensures written { take result buf.new ≡ take at buf.old ++ spec.field name.now value.now }
-    ensures room { length buf.new ≡ length buf.old }
+    ensures capacity { length buf.new ≡ length buf.old }
 {
     let at = put(buf, at, name);
     let at = put(buf, at, b": ");
@@ -160,7 +160,7 @@ fn put_field(buf: &mut [u8], at: usize, name: &[u8], value: &[u8]) -> usize
 /// it has; no head has more than 256.
 pub fn write_head(reply: &Reply, close: bool, buf: &mut [u8]) -> usize
     requires phrase { IsTrue (spec.has_phrase (spec.status_of reply.now)) }
-    requires room { 256 ≤ length buf.old }
+    requires capacity { 256 ≤ length buf.old }
     ensures written { take result buf.new ≡ spec.head_bytes reply.now close }
     ensures short { result ≤ 256 }
 {

@@ -1,5 +1,6 @@
 mod Records
 pub mod Told
 pub mod Trails
-pub mod Hands
+pub mod Leaving
+pub mod Outcomes
 pub mod Scrolled

@@ -1,4 +1,4 @@
--- One entry more at the end of a log, and the room that is owed behind it.
+-- One entry more at the end of a log, and the space that is owed behind it.
 use Rattle.std.proofs.Common.{◌≡◌, ℕ, ◌+◌, ◌≤◌, ◌==◌, ◌||◌, not, Bool, true, false, List, [], ◌∷◌, ◌++◌, length, take, drop, map, refl, sym, ◌∙◌, ap, arith, length-append, if◌then◌else◌}
 use Rattle.std.specs.List.{list_any}
 use Rattle.std.proofs.lemmas.Bool.Decides.{nat_tests}
@@ -38,7 +38,7 @@ inside_write bytes piece ws n h =
     let long : length bytes ≤ length (bytes ++ piece) = omega (arith, length-append bytes piece) in
     each_append (IsInside (length (bytes ++ piece))) ws (last n bytes piece ∷ []) (each_map (IsInside (length bytes)) (IsInside (length (bytes ++ piece))) ws (λ w i. omega (arith, i, long)) h) (omega (arith, length-append bytes piece), tt)
 
--- ---- the room that is owed
+-- ---- the space that is owed
 
 after_one : (act : LogEntry → Act) (conns : List ℕ) (log : List LogEntry) (e : LogEntry) → conns_after act conns (log ++ e ∷ []) ≡ acted (act e) (conns_after act conns log)
 after_one act conns [] e = refl

@@ -1,5 +1,6 @@
 -- Desks: what a server answers for, and what it does with an ask.
-use Rattle.std.specs.Prelude.{◌≡◌, ◌≢◌, ◌⊎◌, ℕ, ◌≤◌, Bool, true, false, IsTrue, List, [], ◌∷◌, ◌++◌, count_by}
+use Rattle.std.specs.Prelude.{◌≡◌, ◌≢◌, ◌⊎◌, ℕ, ◌≤◌, Bool, true, false, IsTrue, List, [], ◌∷◌, ◌++◌, count_by, if◌then◌else◌}
+use Rattle.std.specs.List.{list_any}
 use Rattle.cube_model.specs.declared.ask.Ask.{Ask}
 use Rattle.cube_model.specs.declared.outcome.Outcome.{Outcome}
 use Rattle.cube_model.specs.declared.outcome.Outcome.TheVariants.{Given, JournalFault, NoMemory}
@@ -30,6 +31,14 @@ is_fault NoMemory = false
 -- how often it did
 abbrev pub faults_in : List Outcome → ℕ
 faults_in outcomes = count_by is_fault outcomes
+
+-- it did for some ask
+abbrev pub has_fault : List Outcome → Bool
+has_fault outcomes = list_any is_fault outcomes
+
+-- the most calls of the store for an ask behind these outcomes: two, and two more where the journal failed for an earlier one
+abbrev pub most_calls : List Outcome → ℕ
+most_calls outcomes = if has_fault outcomes then 4 else 2
 
 -- An ask got one outcome, and the reply and the rooms of it. The journal failed only where the ask was to be kept, and where the
 -- store's count of faults rose.

@@ -1,4 +1,4 @@
--- The entries of a log as a wire in memory keeps them, and the room that it owes.
+-- The entries of a log as a wire in memory keeps them, and the space that it owes.
 use Rattle.std.specs.Prelude.{ℕ, ◌+◌, ◌-◌, ◌≤◌, ◌==◌, not, Bool, true, false, List, [], ◌∷◌, length, map, filter, vec_capacity}
 use Rattle.std.specs.Global.{Vec}
 use Rattle.cube_model.specs.Cubes.{Each}
@@ -28,7 +28,7 @@ entry bytes w = entry_of w.note (part bytes w.start w.len)
 abbrev pub IsInside : ℕ → Written → Type 0
 IsInside n w = w.start + w.len ≤ n
 
--- a log, and room for how many entries and bytes is left
+-- a log, and space for how many entries and bytes is left
 pub record Roll : Type 0 where
   pub log : List LogEntry
   pub entries_left : ℕ
@@ -44,7 +44,7 @@ pub record IsRoomy (entries : Vec Written) (bytes : Vec ℕ) (most_entries most_
   pub entries_room : most_entries ≤ vec_capacity entries
   pub bytes_room : most_bytes ≤ vec_capacity bytes
 
--- ---- the room that is owed
+-- ---- the space that is owed
 
 -- what an entry does to some connections: one comes in, one goes out, or they stay
 pub data Act : Type 0 where

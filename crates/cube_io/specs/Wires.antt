@@ -20,7 +20,7 @@ pub data LogEntry : Type 0 where
   Torn : ℕ → List ℕ → ℕ → LogEntry
   Shut : ℕ → LogEntry
 
--- What a wire is to play: events, and room for so many sends that go well and for so many bytes of them all; and whether it refused
+-- What a wire is to play: events, and space for so many sends that go well and for so many bytes of them all; and whether it refused
 -- to listen before.
 pub record Plan : Type 0 where
   pub events : List Arrival

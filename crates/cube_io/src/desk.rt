@@ -5,7 +5,7 @@ ghost use Rattle.cube_model.specs.declared.outcome.Outcome.{Outcome};
 ghost use Rattle.cube_model.specs.declared.outcome.Outcome.TheVariants as outcome;
 ghost use Rattle.cube_model.specs.declared.reply.Fixed.TheVariants as constant;
 ghost use Rattle.cube_model.specs.declared.reply.Reply.TheVariants as reply;
-ghost use Rattle.cube_io.specs.Desks.{Manner, IsConstant, Answered, ForeignStay, GivesRooms, LeavesAll, IsOneOf};
+ghost use Rattle.cube_io.specs.Desks.{Manner, IsConstant, Answered, most_calls, ForeignStay, GivesRooms, LeavesAll, IsOneOf};
 ghost use Rattle.cube_io.specs.States.{State, Gained};
 
 use crate::Store;
@@ -23,8 +23,8 @@ pub trait Desk<S: Store> {
     /// What became of the asks so far, in turn.
     ghost outcomes: { Self → List Outcome };
 
-    /// How many asks it has room for.
-    ghost room: { Self → ℕ };
+    /// How many asks it has space for.
+    ghost capacity: { Self → ℕ };
 
     /// The desk belongs to the store.
     ghost fits: { Self → S → Type 0 };
@@ -39,16 +39,22 @@ pub trait Desk<S: Store> {
     /// Answers an ask, and keeps it first where it adds to a history.
     fn answer(&mut self, alloc: Global, store: &mut S, ask: &Ask) -> Reply
         requires fits { fits self.old store.old }
-        requires room { 1 ≤ room self.old }
+        requires capacity { 1 ≤ capacity self.old }
         ensures answered { Answered (manner self.old) ask.now (rooms self.old) (rooms self.new) (outcomes self.old) (outcomes self.new) (S.state store.old).faults (S.state store.new).faults result }
         ensures manner { manner self.new ≡ manner self.old }
-        ensures room { room self.new + 1 ≡ room self.old }
+        ensures capacity { capacity self.new + 1 ≡ capacity self.old }
         ensures fits { fits self.new store.new }
         ensures told { (S.state store.new).told ≡ (S.state store.old).told }
         ensures names { IsTrue (S.state store.old).told → (S.state store.new).names ≡ (S.state store.old).names }
 
         // An ask that adds to no history leaves the store alone.
         ensures untouched { (manner self.old).next (rooms self.old) ask.now outcome.Given ≡ rooms self.old → store.new ≡ store.old }
+
+        // Want of memory leaves it alone too.
+        ensures memory { outcomes self.new ≡ outcomes self.old ++ outcome.NoMemory ∷ [] → store.new ≡ store.old }
+
+        // The store is called twice at most, and four times behind an ask for which the journal failed.
+        ensures calls { IsTrue (S.state store.old).told → (S.state store.new).calls ≤ (S.state store.old).calls + most_calls (outcomes self.old) }
 
         // No log is written but those that keep the rooms' histories.
         ensures others { ForeignStay (within self.old) (S.state store.old) (S.state store.new) }
@@ -72,19 +78,19 @@ pub trait Desk<S: Store> {
 
     /// Replies to an ask that found no memory before it reached the desk. It takes none.
     fn miss(&mut self) -> Reply
-        requires { 1 ≤ room self.old }
+        requires { 1 ≤ capacity self.old }
         ensures reply { result ≡ reply.Fixed constant.NoMemory }
         ensures outcomes { outcomes self.new ≡ outcomes self.old ++ outcome.NoMemory ∷ [] }
         ensures rooms { rooms self.new ≡ rooms self.old }
         ensures manner { manner self.new ≡ manner self.old }
-        ensures room { room self.new + 1 ≡ room self.old }
+        ensures capacity { capacity self.new + 1 ≡ capacity self.old }
         ensures fits { (store : S) → fits self.old store → fits self.new store }
         ensures exact_stays { (rooms : List Room) (log : ℕ) (state : State) → exact self.new rooms log state ↔ exact self.old rooms log state }
         ensures within_stays { (rooms : List Room) (log : ℕ) (state : State) → within self.new rooms log state ↔ within self.old rooms log state };
 
-    /// How many more asks it has room for.
+    /// How many more asks it has space for.
     fn left(&self) -> u64
-        ensures { result ≡ room self.now };
+        ensures { result ≡ capacity self.now };
 
     /// What failed gets its constant reply and leaves the rooms.
     ghost failures: { (desk : Self) → IsConstant (manner desk) };

@@ -2,7 +2,6 @@
 //! trait that counts its faults; what an object holds is told where it can be known.
 #![tactic(auto)]
 
-mod book;
 mod desk;
 mod faults;
 mod folder;
@@ -15,6 +14,7 @@ mod sink;
 mod source;
 mod store;
 mod wire;
+mod wire_log;
 
 pub use desk::Desk;
 pub use faults::{Failed, ReadFault};

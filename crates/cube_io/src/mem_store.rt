@@ -28,7 +28,7 @@ pub struct Failing {
     pub reach: Reach,
 }
 
-/// A store in memory. It tells what it holds. It fails at the calls that it is told, and where its room is used up.
+/// A store in memory. It tells what it holds. It fails at the calls that it is told, and where its space is used up.
 #[derive(Drop)]
 pub struct MemStore {
     begun: Vec<Text>,
@@ -39,9 +39,9 @@ pub struct MemStore {
 }
 
 impl MemStore {
-    /// A store whose logs begin with these contents, all of it on the disk, with room for so many calls and so many bytes
+    /// A store whose logs begin with these contents, all of it on the disk, with space for so many calls and so many bytes
     /// of appends and names. An append of an empty piece is no call.
-    pub fn with_room(
+    pub fn with_capacity(
         alloc: Global,
         contents: Vec<Text>,
         failing: Vec<Failing>,
@@ -56,7 +56,7 @@ impl MemStore {
     {
         Ok(MemStore {
             begun: contents,
-            record: Record::with_room(alloc, calls, bytes)?,
+            record: Record::with_capacity(alloc, calls, bytes)?,
             failing,
             attached: false,
             faults: 0,
@@ -89,7 +89,7 @@ fn fail(faults: &mut u64) -> Result<(), Failed>
     Err(Failed)
 }
 
-/// Remembers a call that did all of its work. It fails where there is no room.
+/// Remembers a call that did all of its work. It fails where there is no space.
 fn perform(calls: &mut Record, faults: &mut u64, change: Change) -> Result<(), Failed>
     ensures cause { HasCause faults.old faults.new result }
     ensures ok { OnOk result (calls.new ≡ calls.old ++ Did change ∷ []) }
@@ -101,7 +101,7 @@ fn perform(calls: &mut Record, faults: &mut u64, change: Change) -> Result<(), F
     }
 }
 
-/// Fails, and remembers the call where there is room.
+/// Fails, and remembers the call where there is space.
 fn refuse(calls: &mut Record, faults: &mut u64, change: Change) -> Result<(), Failed>
     ensures fails { IsErr result }
     ensures cause { HasCause faults.old faults.new result }
@@ -111,7 +111,7 @@ fn refuse(calls: &mut Record, faults: &mut u64, change: Change) -> Result<(), Fa
     fail(faults)
 }
 
-/// Remembers a call with its bytes. It fails where there is no room.
+/// Remembers a call with its bytes. It fails where there is no space.
 fn write(calls: &mut Record, faults: &mut u64, target: Target, piece: &[u8]) -> Result<(), Failed>
     ensures cause { HasCause faults.old faults.new result }
     ensures ok { OnOk result (calls.new ≡ calls.old ++ Wrote target piece.now ∷ []) }
@@ -123,7 +123,7 @@ fn write(calls: &mut Record, faults: &mut u64, target: Target, piece: &[u8]) -> 
     }
 }
 
-/// Fails, and puts the front of a piece at the end of a log where there is room.
+/// Fails, and puts the front of a piece at the end of a log where there is space.
 fn write_some(
     calls: &mut Record,
     faults: &mut u64,

@@ -5,9 +5,9 @@ ghost use Rattle.cube_io.specs.Scrolls.{entry_of, is_event};
 ghost use Rattle.cube_io.specs.Wires.{NextTells, FitsBuffer, arrival_of, no_plan};
 ghost use Rattle.cube_io.specs.Wires.LogEntry.{Heard};
 
-use crate::book::Book;
 use crate::record::{Record, Target};
 use crate::scroll::Note;
+use crate::wire_log::WireLog;
 use crate::{Event, Failed, Wire};
 use cube_model::{NoMemory, Text};
 use std::alloc::Global;
@@ -36,12 +36,12 @@ pub struct FailingSend {
 }
 
 /// A wire in memory. It plays its events, of which the last is the end, and tells its log. It fails at the calls that it is
-/// told, and where its room is used up.
+/// told, and where its space is used up.
 #[derive(Drop)]
 pub struct MemWire {
     plays: Vec<Play>,
     at: usize,
-    book: Book,
+    log: WireLog,
     heard: Record,
     failing_nexts: Vec<u64>,
     failing_sends: Vec<FailingSend>,
@@ -52,9 +52,9 @@ pub struct MemWire {
 }
 
 impl MemWire {
-    /// A wire that plays these events, with room for so many entries of its log and for so many bytes of them. A `next` with
+    /// A wire that plays these events, with space for so many entries of its log and for so many bytes of them. A `next` with
     /// one of the numbers fails, counted from 0, and so do these sends.
-    pub fn with_room(
+    pub fn with_capacity(
         alloc: Global,
         plays: Vec<Play>,
         failing_nexts: Vec<u64>,
@@ -71,8 +71,8 @@ impl MemWire {
         Ok(MemWire {
             plays,
             at: 0,
-            book: Book::with_room(alloc, entries, bytes)?,
-            heard: Record::with_room(alloc, ADDRESSES, ADDRESS_BYTES)?,
+            log: WireLog::with_capacity(alloc, entries, bytes)?,
+            heard: Record::with_capacity(alloc, ADDRESSES, ADDRESS_BYTES)?,
             failing_nexts,
             failing_sends,
             nexts: 0,
@@ -89,31 +89,31 @@ fn failing_of(failing: &[FailingSend], send: u64) -> Option<u64> {
     Some(found.bytes)
 }
 
-// Notes an event, where there is room.
-fn note(book: &mut Book, note: Note, event: Event, buf: &[u8]) -> Result<Event, Failed>
+// Notes an event, where there is space.
+fn note(log: &mut WireLog, note: Note, event: Event, buf: &[u8]) -> Result<Event, Failed>
     requires event { is_event note ≡ true }
     requires same { entry_of note [] ≡ Heard (arrival_of event buf.now) }
     ensures event { IfOk result (λ e. e ≡ event) }
-    ensures log { NextTells result buf.now book.old.scroll.log book.new.scroll.log }
+    ensures log { NextTells result buf.now log.old.scroll.log log.new.scroll.log }
 {
-    if book.hear(note, b"") {
+    if log.hear(note, b"") {
         Ok(event)
     } else {
         Err(Failed)
     }
 }
 
-// Notes a piece, where there is room, and puts it at the front of the buffer.
-fn note_piece(book: &mut Book, c: u32, bytes: &[u8], buf: &mut [u8]) -> Result<Event, Failed>
+// Notes a piece, where there is space, and puts it at the front of the buffer.
+fn note_piece(log: &mut WireLog, c: u32, bytes: &[u8], buf: &mut [u8]) -> Result<Event, Failed>
     requires { length buf.old ≡ 65536 }
     ensures fits { IfOk result (λ event. FitsBuffer event buf.new) }
-    ensures log { NextTells result buf.new book.old.scroll.log book.new.scroll.log }
+    ensures log { NextTells result buf.new log.old.scroll.log log.new.scroll.log }
 {
     let n = bytes.len();
     if n == 0 || n > buf.len() {
         return Err(Failed);
     }
-    if !book.hear(Note::Came(c), bytes) {
+    if !log.hear(Note::Came(c), bytes) {
         return Err(Failed);
     }
     buf[..n].copy_from_slice(bytes);
@@ -121,21 +121,21 @@ fn note_piece(book: &mut Book, c: u32, bytes: &[u8], buf: &mut [u8]) -> Result<E
 }
 
 // Plays an event.
-fn play_next(book: &mut Book, play: Option<&Play>, buf: &mut [u8]) -> Result<Event, Failed>
+fn play_next(log: &mut WireLog, play: Option<&Play>, buf: &mut [u8]) -> Result<Event, Failed>
     requires { length buf.old ≡ 65536 }
     ensures fits { IfOk result (λ event. FitsBuffer event buf.new) }
-    ensures log { NextTells result buf.new book.old.scroll.log book.new.scroll.log }
+    ensures log { NextTells result buf.new log.old.scroll.log log.new.scroll.log }
 {
     match play {
-        Some(Play::Opened(c)) => note(book, Note::Opened(*c), Event::Opened(*c), buf),
-        Some(Play::Piece(c, bytes)) => note_piece(book, *c, bytes.as_slice(), buf),
-        Some(Play::Closed(c)) => note(book, Note::Closed(*c), Event::Closed(*c), buf),
-        None => note(book, Note::End, Event::End, buf),
+        Some(Play::Opened(c)) => note(log, Note::Opened(*c), Event::Opened(*c), buf),
+        Some(Play::Piece(c, bytes)) => note_piece(log, *c, bytes.as_slice(), buf),
+        Some(Play::Closed(c)) => note(log, Note::Closed(*c), Event::Closed(*c), buf),
+        None => note(log, Note::End, Event::End, buf),
     }
 }
 
 impl Wire for MemWire {
-    ghost state = { λ w. record { faults = w.faults; send_faults = w.send_faults; told = true; log = w.book.scroll.log; heard = names_in w.heard; plan = no_plan } };
+    ghost state = { λ w. record { faults = w.faults; send_faults = w.send_faults; told = true; log = w.log.scroll.log; heard = names_in w.heard; plan = no_plan } };
 
     fn listen(&mut self, address: &Text, _idle: u32) -> Result<(), Failed> {
         match self.heard.write(Target::Names, address.as_slice()) {
@@ -153,7 +153,7 @@ impl Wire for MemWire {
         let played = if self.failing_nexts.contains(&call) {
             Err(Failed)
         } else {
-            play_next(&mut self.book, self.plays.get(self.at), buf)
+            play_next(&mut self.log, self.plays.get(self.at), buf)
         };
         match played {
             Ok(event) => {
@@ -170,7 +170,7 @@ impl Wire for MemWire {
     fn send(&mut self, c: u32, piece: &[u8]) -> Result<(), Failed> {
         let failing = failing_of(&self.failing_sends, self.sends);
         self.sends = self.sends.saturating_add(1);
-        if self.book.send(c, piece, failing) {
+        if self.log.send(c, piece, failing) {
             return Ok(());
         }
         self.send_faults = self.send_faults.saturating_add(1);
@@ -178,6 +178,6 @@ impl Wire for MemWire {
     }
 
     fn close(&mut self, c: u32) {
-        self.book.shut(c);
+        self.log.shut(c);
     }
 }

@@ -1,4 +1,4 @@
-// What a store in memory remembers of its calls, in room that was taken when it was made.
+// What a store in memory remembers of its calls, in space that was taken when it was made.
 ghost use Rattle.std.specs.Prelude.{◌≡◌, ◌≤◌, ◌+◌, ◌++◌, [], ◌∷◌, ℕ, length, take, drop, map, IfOk, OnOk, OnErr};
 ghost use Rattle.cube_model.specs.Cubes.{Each};
 ghost use Rattle.cube_io.specs.Mem.{Deed, deed, part, IsWithin, fresh, log_after, now_after};
@@ -39,7 +39,7 @@ pub enum Call {
     Wrote(Target, usize, usize),
 }
 
-/// There is no room for the call.
+/// There is no space for the call.
 #[derive(Clone, Copy, Debug, PartialEq, Eq)]
 pub struct Full;
 
@@ -113,7 +113,7 @@ fn play(text: &mut Vec<u8>, bytes: &[u8], calls: &[Call], log: u32) -> Result<()
     Ok(())
 }
 
-/// Puts a call at the end, where there is room.
+/// Puts a call at the end, where there is space.
 fn push_call(calls: &mut Vec<Call>, most: usize, call: Call) -> Result<(), Full>
     ensures ok { OnOk result (calls.new.items ≡ calls.old.items ++ call ∷ []) }
     ensures err { OnErr result (calls.new.items ≡ calls.old.items) }
@@ -124,7 +124,7 @@ fn push_call(calls: &mut Vec<Call>, most: usize, call: Call) -> Result<(), Full>
     Ok(())
 }
 
-/// Puts bytes at the end, where there is room.
+/// Puts bytes at the end, where there is space.
 fn push_bytes(bytes: &mut Vec<u8>, most: usize, piece: &[u8]) -> Result<(), Full>
     ensures ok { OnOk result (bytes.new.items ≡ bytes.old.items ++ piece.now) }
     ensures err { OnErr result (bytes.new.items ≡ bytes.old.items) }
@@ -136,8 +136,8 @@ fn push_bytes(bytes: &mut Vec<u8>, most: usize, piece: &[u8]) -> Result<(), Full
 }
 
 impl Record {
-    /// No calls, with room for so many and for so many bytes of them.
-    pub fn with_room(alloc: Global, calls: usize, bytes: usize) -> Result<Record, NoMemory>
+    /// No calls, with space for so many and for so many bytes of them.
+    pub fn with_capacity(alloc: Global, calls: usize, bytes: usize) -> Result<Record, NoMemory>
         ensures { IfOk result (λ made. made ≡ []) }
     {
         Ok(Record {

@@ -1,4 +1,4 @@
-// What a wire in memory keeps of its log, in room that was taken when it was made.
+// What a wire in memory keeps of its log, in space that was taken when it was made.
 ghost use Rattle.std.specs.Prelude.{◌≡◌, ◌<◌, ◌≤◌, ◌+◌, ◌-◌, ◌++◌, [], ◌∷◌, length, map, slice_get, vec_len, vec_capacity, Some, IfOk};
 ghost use Rattle.cube_io.specs.Scrolls.{entry_of};
 
@@ -74,8 +74,8 @@ fn write(entries: &mut Vec<Written>, bytes: &mut Vec<u8>, note: Note, piece: &[u
 }
 
 impl Scroll {
-    /// No entry, with room for so many and for so many bytes of them.
-    pub fn with_room(alloc: Global, entries: usize, bytes: usize) -> Result<Scroll, NoMemory>
+    /// No entry, with space for so many and for so many bytes of them.
+    pub fn with_capacity(alloc: Global, entries: usize, bytes: usize) -> Result<Scroll, NoMemory>
         ensures { IfOk result (λ made. (made.log ≡ []) × (made.entries_left ≡ entries) × (made.bytes_left ≡ bytes)) }
     {
         Ok(Scroll {

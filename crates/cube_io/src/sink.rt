@@ -20,26 +20,30 @@ pub trait Sink {
         ensures cause { HasCause (state self.old).faults (state self.new).faults result };
 }
 
-/// A sink into memory of fixed room. It fails at the puts with these numbers, counted from 0, and where the room is
+/// A sink into memory of fixed space. It fails at the puts with these numbers, counted from 0, and where the room is
 /// used up.
 #[derive(Drop)]
 pub struct MemSink {
     bytes: Vec<u8>,
-    room: usize,
+    capacity: usize,
     failing: Vec<u64>,
     calls: u64,
     faults: u64,
 }
 
 impl MemSink {
-    /// An empty sink, with room for so many bytes.
-    pub fn with_room(alloc: Global, room: usize, failing: Vec<u64>) -> Result<Self, NoMemory>
+    /// An empty sink, with space for so many bytes.
+    pub fn with_capacity(
+        alloc: Global,
+        capacity: usize,
+        failing: Vec<u64>,
+    ) -> Result<Self, NoMemory>
         ensures written { IfOk result (λ sink. (⟦<MemSink as Sink>⟧.state sink).written ≡ Some []) }
         ensures faults { IfOk result (λ sink. (⟦<MemSink as Sink>⟧.state sink).faults ≡ 0) }
     {
         Ok(MemSink {
-            bytes: Vec::with_capacity(alloc, room)?,
-            room,
+            bytes: Vec::with_capacity(alloc, capacity)?,
+            capacity,
             failing,
             calls: 0,
             faults: 0,
@@ -64,7 +68,7 @@ impl Sink for MemSink {
         let call = self.calls;
         self.calls = self.calls.saturating_add(1);
         if self.failing.contains(&call)
-            || piece.len() > self.room.saturating_sub(self.bytes.len())
+            || piece.len() > self.capacity.saturating_sub(self.bytes.len())
             || self.bytes.extend_from_slice(piece).is_err()
         {
             self.faults = self.faults.saturating_add(1);

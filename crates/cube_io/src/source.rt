@@ -79,7 +79,7 @@ impl Source for MemSource {
 
 // Copies as many bytes to the front as fit, and at most so many, and says how many.
 fn copy_front(rest: &[u8], buf: &mut [u8], most: usize) -> usize
-    requires room { 0 < length buf.old }
+    requires capacity { 0 < length buf.old }
     requires some { 0 < most }
     ensures bound { result ≤ length buf.new }
     ensures front { rest.now ≡ take result buf.new ++ drop result rest.now }

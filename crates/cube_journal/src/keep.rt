@@ -111,7 +111,7 @@ impl Journal {
         requires fits { IsTrue (S.state store.old).told → Fits ((S.state store.old).logs self.old.log).state self.old }
         requires line { IsLine line.now }
         requires short { length line.now ≤ 2 ^ 14 }
-        requires room { self.old.kept ≤ 2 ^ 40 }
+        requires capacity { self.old.kept ≤ 2 ^ 40 }
 
         ensures cause { HasCause (S.state store.old).faults (S.state store.new).faults result }
         ensures works { Works (S.state store.old) (S.state store.new) (if self.old.failed then 4 else 2) }
@@ -125,6 +125,7 @@ impl Journal {
         ensures ok { IsTrue (S.state store.old).told → OnOk result
             (((S.state store.new).logs self.old.log).state ≡ settled (((S.state store.old).logs self.old.log).state.safe ++ line.now)) }
         ensures longer { OnOk result (self.new.kept ≡ self.old.kept + length line.now) }
+        ensures quiet { OnOk result (self.new.failed ≡ false) }
         ensures err { IsTrue (S.state store.old).told → OnErr result
             (KeepsSafe line.now ((S.state store.old).logs self.old.log).state ((S.state store.new).logs self.old.log).state) }
         ensures same { OnErr result (self.new.kept ≡ self.old.kept) }
@@ -159,7 +160,7 @@ impl Journal {
     pub fn keep<S: Store>(&mut self, store: &mut S, line: &Line) -> Result<(), Failed>
         requires attached { IsTrue (S.state store.old).attached }
         requires fits { IsTrue (S.state store.old).told → Fits ((S.state store.old).logs self.old.log).state self.old }
-        requires room { self.old.kept ≤ 2 ^ 40 }
+        requires capacity { self.old.kept ≤ 2 ^ 40 }
 
         ensures cause { HasCause (S.state store.old).faults (S.state store.new).faults result }
         ensures works { Works (S.state store.old) (S.state store.new) (if self.old.failed then 4 else 2) }
@@ -173,6 +174,7 @@ impl Journal {
         ensures ok { IsTrue (S.state store.old).told → OnOk result
             (((S.state store.new).logs self.old.log).state ≡ settled (((S.state store.old).logs self.old.log).state.safe ++ line.now)) }
         ensures longer { OnOk result (self.new.kept ≡ self.old.kept + length line.now) }
+        ensures quiet { OnOk result (self.new.failed ≡ false) }
         ensures err { IsTrue (S.state store.old).told → OnErr result
             (KeepsSafe line.now ((S.state store.old).logs self.old.log).state ((S.state store.new).logs self.old.log).state) }
         ensures same { OnErr result (self.new.kept ≡ self.old.kept) }

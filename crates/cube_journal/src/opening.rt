@@ -81,7 +81,7 @@ fn ended_len(bytes: &[u8]) -> usize
 }
 
 /// Cuts away what stands behind the ended lines, which have this length.
-fn settle<S: Store>(store: &mut S, log: u32, bytes: &[u8], end: usize) -> Result<(), Failed>
+fn cut_back<S: Store>(store: &mut S, log: u32, bytes: &[u8], end: usize) -> Result<(), Failed>
     requires attached { IsTrue (S.state store.old).attached }
     requires settled { IsTrue (S.state store.old).told → ((S.state store.old).logs log).state ≡ settled bytes.now }
     requires within { end ≤ length bytes.now }
@@ -161,7 +161,7 @@ fn repair<S: Store>(store: &mut S, log: u32, bytes: &[u8], head: &[u8]) -> Resul
             Err(failed) => Err(failed),
         }
     } else {
-        match settle(store, log, bytes, end) {
+        match cut_back(store, log, bytes, end) {
             Ok(()) => Ok(end),
             Err(failed) => Err(failed),
         }

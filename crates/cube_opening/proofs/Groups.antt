@@ -12,7 +12,7 @@ use Rattle.std.proofs.lemmas.Bool.Decides.{nat_tests}
 use Rattle.cube_groups.specs.declared.group.GroupFile.{GroupFile}
 use Rattle.cube_io.specs.Seen.{FolderState, Seen, seen}
 use Rattle.cube_opening.specs.Opening.{AskedFor, AskedUpTo, EndsAt, FileSays}
-use Rattle.cube_opening.specs.Reports.{NoRoom}
+use Rattle.cube_opening.specs.Reports.{NoMessage}
 use Rattle.cube_opening.specs.Ruling.{group_policy_said, IsRuledBy, AreRuledBy, AreGroups, HaveNames, EndsAtOne, EndsAtRules, groups_said, one_group}
 use Rattle.cube_opening.specs.declared.cube_files.Rules.{Rules}
 use Rattle.cube_opening.specs.declared.cube_files.Rules.TheVariants.{One, Groups as Listed}
@@ -30,7 +30,7 @@ front_of (x ∷ xs) f some is = ap₂ (λ (y : GroupFile) (ys : List GroupFile).
 -- ---- how a run ends at them
 
 -- behind files that were read, for want of memory
-pub none_left : {F : Type 0} (s : Dims) (earlier : List (List ℕ)) (fs : List GroupFile) (folder : Seen FolderState F) (r : Report) → AskedFor earlier folder → NoRoom r → EndsAtOne s earlier fs folder r
+pub none_left : {F : Type 0} (s : Dims) (earlier : List (List ℕ)) (fs : List GroupFile) (folder : Seen FolderState F) (r : Report) → AskedFor earlier folder → NoMessage r → EndsAtOne s earlier fs folder r
 none_left s earlier [] folder r asked none = (none, asked)
 none_left s earlier (f ∷ fs) folder r asked none = inl (record { unopened = inl none; asked = inr (asked, inl none.0) })
 

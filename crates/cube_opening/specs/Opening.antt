@@ -15,7 +15,7 @@ use Rattle.cube_facts.specs.Words as facts
 use Rattle.cube_journal.specs.Digests.{digest_of}
 use Rattle.cube_policy.specs.PolicyFile.{policy_of}
 use Rattle.cube_policy.specs.Words as policy
-use Rattle.cube_opening.specs.Reports.{IsReport, NoRoom}
+use Rattle.cube_opening.specs.Reports.{IsReport, NoMessage}
 use Rattle.cube_opening.specs.declared.cube_files.CubeFiles.{CubeFiles}
 use Rattle.cube_opening.specs.declared.report.Report.{Report}
 
@@ -65,7 +65,7 @@ unreadable_text name = codes "cannot read " ++ name ++ codes "\n"
 -- How a run ends at a file of this kind whose bytes it was to read: memory ran out, or the file was not read, or it is too long.
 abbrev pub Unread : {F : Type 0} → List ℕ → List ℕ → Seen FolderState F → Report → Type 0
 Unread kind name folder r =
-    NoRoom r
+    NoMessage r
     ⊎ IsReport 7 (codes "no memory\n") r
     ⊎ (IsReport 5 (unreadable_text name) r × Rose folder.before.faults folder.after.faults)
     ⊎ (IsReport 3 (kind ++ codes ": limit file 67108864\n") r × IfSome folder.before.files (λ known. IsSomeAnd (file_of known name) (λ bytes. max_file < length bytes)))
@@ -73,7 +73,7 @@ Unread kind name folder r =
 -- How a run ends at a file: memory ran out, or the file was not read, or it is refused.
 abbrev pub Unopened : {X F : Type 0} → (List ℕ → Result X (List ℕ)) → List ℕ → Seen FolderState F → Report → Type 0
 Unopened said name folder r =
-    NoRoom r
+    NoMessage r
     ⊎ IsReport 7 (codes "no memory\n") r
     ⊎ (IsReport 5 (unreadable_text name) r × Rose folder.before.faults folder.after.faults)
     ⊎ (IsReport 3 r.text r × IfSome folder.before.files (λ known. FileSays said name known (Err r.text)))

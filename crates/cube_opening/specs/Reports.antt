@@ -10,8 +10,8 @@ abbrev pub IsReport : ℕ → List ℕ → Report → Type 0
 IsReport status text r = (r.status ≡ status) × (r.outcomes ≡ []) × (r.text ≡ text)
 
 -- there was no memory for the text of a report
-abbrev pub NoRoom : Report → Type 0
-NoRoom r = IsReport 7 [] r
+abbrev pub NoMessage : Report → Type 0
+NoMessage r = IsReport 7 [] r
 
 -- all was done, or memory ran out
 abbrev pub IsDone : Report → Type 0
@@ -22,4 +22,4 @@ abbrev pub Prints : {O : Type 0} → List ℕ → Seen SinkState O → Report �
 Prints text out r =
     (IsReport 0 [] r × Appends out.before.written out.after.written text)
     ⊎ (IsReport 6 (codes "output failed\n") r × AppendsPrefix out.before.written out.after.written text)
-    ⊎ (NoRoom r × (out.after.written ≡ out.before.written))
+    ⊎ (NoMessage r × (out.after.written ≡ out.before.written))

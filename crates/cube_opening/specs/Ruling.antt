@@ -11,7 +11,7 @@ use Rattle.cube_groups.specs.Words as groups
 use Rattle.cube_groups.specs.declared.group.GroupFile.{GroupFile}
 use Rattle.cube_io.specs.Seen.{FolderState, Seen}
 use Rattle.cube_opening.specs.Opening.{fault_text, faulted, unless_long, policy_said_as, FileSays, AskedFor, EndsAt, EndsUnfounded, MakesCore}
-use Rattle.cube_opening.specs.Reports.{NoRoom}
+use Rattle.cube_opening.specs.Reports.{NoMessage}
 use Rattle.cube_opening.specs.declared.cube_files.Rules.{Rules}
 use Rattle.cube_opening.specs.declared.cube_files.Rules.TheVariants.{One, Groups}
 use Rattle.cube_opening.specs.declared.cube_files.RuledFiles.{RuledFiles}
@@ -74,7 +74,7 @@ ruled_names cube fs = (cube.dims ∷ cube.facts ∷ list_names cube.rules) ++ po
 -- at the policy file of one of the groups, behind the files of those names, where the policies of the groups before it are accepted; or
 -- behind them all, for want of memory
 abbrev pub EndsAtOne : {F : Type 0} → Dims → List (List ℕ) → List GroupFile → Seen FolderState F → Report → Type 0
-EndsAtOne s earlier [] folder r = NoRoom r × AskedFor earlier folder
+EndsAtOne s earlier [] folder r = NoMessage r × AskedFor earlier folder
 EndsAtOne s earlier (f ∷ fs) folder r =
     EndsAt earlier (group_policy_said s f.name) f.policy folder r
     ⊎ (((policy : Policy) × IfSome folder.before.files (λ known. FileSays (group_policy_said s f.name) f.policy known (Ok policy))) × EndsAtOne s (earlier ++ f.policy ∷ []) fs folder r)

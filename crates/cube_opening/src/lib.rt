@@ -11,5 +11,5 @@ pub use cube_files::{CubeFiles, RuledFiles, Rules};
 pub use opening::{
     Guarded, Opened, Unsealed, open_flat, open_guarded, open_unsealed, read_bytes, refuse,
 };
-pub use report::{Report, Room, no_room, refuse_line, spent_room, with_text};
+pub use report::{Message, Report, no_message, refuse_line, spent_message, with_text};
 pub use ruling::{Ruled, RuledGroup, RuledGroups, called, open_ruled};

@@ -9,12 +9,12 @@ ghost use Rattle.cube_facts.specs.declared.fault.FactsFault.TheVariants as facts
 ghost use Rattle.cube_policy.specs.Words as policy_words;
 ghost use Rattle.cube_policy.specs.declared.fault.PolicyFault.TheVariants as policy_faults;
 ghost use Rattle.cube_model.specs.Policies.{IsPolicy};
-ghost use Rattle.cube_opening.specs.Reports.{IsReport, NoRoom};
+ghost use Rattle.cube_opening.specs.Reports.{IsReport, NoMessage};
 ghost use Rattle.cube_journal.specs.Digests.{digest_of as digest_in};
 ghost use Rattle.cube_opening.specs.Opening.{fault_text, unreadable_text as unreadable_words, dims_said, facts_said, policy_said_as, flat_said, FileSays, Unread, AskedFor, AskedUpTo, EndsAt, GotBehind, Reads, MakesCore, IsDigestOf, EndsUnfounded, Make, IsDigest, EndsUnopened, names_of};
 
 use crate::cube_files::CubeFiles;
-use crate::report::{Report, Room, no_room, with_text};
+use crate::report::{Message, Report, no_message, with_text};
 use crate::statuses;
 use cube_core::Core;
 use cube_dims::{DimsFault, read_dims};
@@ -37,8 +37,8 @@ fn unreadable_text(alloc: Global, name: &Text) -> Result<Text, NoMemory>
 /// A file that was read.
 #[derive(Drop)]
 pub struct Opened<T> {
-    /// The room for the text of a report, still empty.
-    pub room: Room,
+    /// The message of a report, still empty.
+    pub message: Message,
     /// What the file holds.
     pub value: T,
 }
@@ -89,43 +89,46 @@ fn digest_if(sealed: bool, bytes: &[u8]) -> Option<Digest>
 /// Reads the bytes of a file of a kind, as `dims`, which is named where the file is too long.
 pub fn read_bytes<F: Folder>(
     alloc: Global,
-    room: Room,
+    message: Message,
     kind: &[u8],
     name: &Text,
     files: &mut F,
 ) -> Result<Opened<Text>, Report>
-    requires room { room ≡ [] }
+    requires message { message ≡ [] }
     requires kind { length kind.now ≤ 40 }
-    ensures ok { IfOk result (λ opened. (opened.room ≡ []) × IfSome (F.state files.old).files (λ known. file_of known name.now ≡ Some opened.value) × (length opened.value ≤ max_file)) }
+    ensures ok { IfOk result (λ opened. (opened.message ≡ []) × IfSome (F.state files.old).files (λ known. file_of known name.now ≡ Some opened.value) × (length opened.value ≤ max_file)) }
     ensures err { IfErr result (Unread kind.now name.now (seen F.state files.old files.new)) }
     ensures asks_ok { OnOk result (AskedFor (name.now ∷ []) (seen F.state files.old files.new)) }
     ensures asks_err { IfErr result (AskedUpTo [] name.now (seen F.state files.old files.new)) }
     ensures reads { Reads (seen F.state files.old files.new) result }
 {
     let Ok(unreadable) = unreadable_text(alloc, name) else {
-        return Err(no_room(alloc));
+        return Err(no_message(alloc));
     };
     match files.read_file(alloc, name) {
-        Ok(value) => Ok(Opened { room, value }),
+        Ok(value) => Ok(Opened { message, value }),
         Err(ReadFault::Failed) => Err(with_text(alloc, statuses::READ_FAILED, unreadable)),
         Err(ReadFault::TooLong) => Err(
-            room.with(kind)
+            message
+                .with(kind)
                 .with(b": limit file 67108864\n")
                 .close(alloc, statuses::FILE_REFUSED),
         ),
         Err(ReadFault::NoMemory) => Err(
-            room.with(b"no memory\n").close(alloc, statuses::NO_MEMORY),
+            message
+                .with(b"no memory\n")
+                .close(alloc, statuses::NO_MEMORY),
         ),
     }
 }
 
 /// The report on a fault of a file of a kind, in these words.
 pub fn refuse(alloc: Global, kind: &[u8], words: &Text) -> Report
-    ensures { NoRoom result ⊎ IsReport 3 (fault_text kind.now words.now) result }
+    ensures { NoMessage result ⊎ IsReport 3 (fault_text kind.now words.now) result }
 {
     match refused_text(alloc, kind, words) {
         Ok(text) => with_text(alloc, statuses::FILE_REFUSED, text),
-        Err(_) => no_room(alloc),
+        Err(_) => no_message(alloc),
     }
 }
 
@@ -139,43 +142,49 @@ fn refused_text(alloc: Global, kind: &[u8], words: &Text) -> Result<Text, NoMemo
     Ok(text)
 }
 
-fn refuse_dims(alloc: Global, room: Room, fault: DimsFault) -> Report
-    requires { room ≡ [] }
-    ensures { NoRoom result ⊎ IsReport 7 (codes "no memory\n") result ⊎ ((fault ≢ dims_faults.NoMemory) × IsReport 3 (fault_text (codes "dims") (dims_words.fault_words fault)) result) }
+fn refuse_dims(alloc: Global, message: Message, fault: DimsFault) -> Report
+    requires { message ≡ [] }
+    ensures { NoMessage result ⊎ IsReport 7 (codes "no memory\n") result ⊎ ((fault ≢ dims_faults.NoMemory) × IsReport 3 (fault_text (codes "dims") (dims_words.fault_words fault)) result) }
 {
     match fault {
-        DimsFault::NoMemory => room.with(b"no memory\n").close(alloc, statuses::NO_MEMORY),
+        DimsFault::NoMemory => message
+            .with(b"no memory\n")
+            .close(alloc, statuses::NO_MEMORY),
         other => match cube_dims::fault_text(alloc, &other) {
             Ok(words) => refuse(alloc, b"dims", &words),
-            Err(_) => no_room(alloc),
+            Err(_) => no_message(alloc),
         },
     }
 }
 
 // The report on a fault of a fact file.
-fn refuse_facts(alloc: Global, room: Room, fault: FactsFault) -> Report
-    requires { room ≡ [] }
-    ensures { NoRoom result ⊎ IsReport 7 (codes "no memory\n") result ⊎ ((fault ≢ facts_faults.NoMemory) × IsReport 3 (fault_text (codes "facts") (facts_words.fault_words fault)) result) }
+fn refuse_facts(alloc: Global, message: Message, fault: FactsFault) -> Report
+    requires { message ≡ [] }
+    ensures { NoMessage result ⊎ IsReport 7 (codes "no memory\n") result ⊎ ((fault ≢ facts_faults.NoMemory) × IsReport 3 (fault_text (codes "facts") (facts_words.fault_words fault)) result) }
 {
     match fault {
-        FactsFault::NoMemory => room.with(b"no memory\n").close(alloc, statuses::NO_MEMORY),
+        FactsFault::NoMemory => message
+            .with(b"no memory\n")
+            .close(alloc, statuses::NO_MEMORY),
         other => match cube_facts::fault_text(alloc, &other) {
             Ok(words) => refuse(alloc, b"facts", &words),
-            Err(_) => no_room(alloc),
+            Err(_) => no_message(alloc),
         },
     }
 }
 
 // The report on a fault of a policy file of a kind.
-fn refuse_policy(alloc: Global, room: Room, kind: &[u8], fault: PolicyFault) -> Report
-    requires { room ≡ [] }
-    ensures { NoRoom result ⊎ IsReport 7 (codes "no memory\n") result ⊎ ((fault ≢ policy_faults.NoMemory) × IsReport 3 (fault_text kind.now (policy_words.fault_words fault)) result) }
+fn refuse_policy(alloc: Global, message: Message, kind: &[u8], fault: PolicyFault) -> Report
+    requires { message ≡ [] }
+    ensures { NoMessage result ⊎ IsReport 7 (codes "no memory\n") result ⊎ ((fault ≢ policy_faults.NoMemory) × IsReport 3 (fault_text kind.now (policy_words.fault_words fault)) result) }
 {
     match fault {
-        PolicyFault::NoMemory => room.with(b"no memory\n").close(alloc, statuses::NO_MEMORY),
+        PolicyFault::NoMemory => message
+            .with(b"no memory\n")
+            .close(alloc, statuses::NO_MEMORY),
         other => match cube_policy::fault_text(alloc, &other) {
             Ok(words) => refuse(alloc, kind, &words),
-            Err(_) => no_room(alloc),
+            Err(_) => no_message(alloc),
         },
     }
 }
@@ -183,57 +192,66 @@ fn refuse_policy(alloc: Global, room: Room, kind: &[u8], fault: PolicyFault) -> 
 // Reads the dimension file.
 fn open_dims<F: Folder>(
     alloc: Global,
-    room: Room,
+    message: Message,
     name: &Text,
     files: &mut F,
 ) -> Result<Opened<Dims>, Report>
-    requires { room ≡ [] }
-    ensures ok { IfOk result (λ opened. (opened.room ≡ []) × IfSome (F.state files.old).files (λ known. FileSays dims_said name.now known (Ok opened.value))) }
+    requires { message ≡ [] }
+    ensures ok { IfOk result (λ opened. (opened.message ≡ []) × IfSome (F.state files.old).files (λ known. FileSays dims_said name.now known (Ok opened.value))) }
     ensures err { IfErr result (EndsAt [] dims_said name.now (seen F.state files.old files.new)) }
     ensures asks { OnOk result (AskedFor (name.now ∷ []) (seen F.state files.old files.new)) }
     ensures reads { Reads (seen F.state files.old files.new) result }
 {
-    let opened = match read_bytes(alloc, room, b"dims", name, files) {
+    let opened = match read_bytes(alloc, message, b"dims", name, files) {
         Ok(opened) => opened,
         Err(report) => return Err(report),
     };
     match read_dims(alloc, opened.value.as_slice()) {
         Ok(value) => Ok(Opened {
-            room: opened.room,
+            message: opened.message,
             value,
         }),
-        Err(fault) => Err(refuse_dims(alloc, opened.room, fault)),
+        Err(fault) => Err(refuse_dims(alloc, opened.message, fault)),
     }
 }
 
 // A core of what was read, whose making wants no check.
-fn make_core(alloc: Global, room: Room, dims: Dims, bytes: &[u8]) -> Result<Opened<Core>, Report>
-    requires { room ≡ [] }
-    ensures ok { IfOk result (λ opened. (opened.room ≡ []) × (length bytes.now ≤ max_file → facts_said dims bytes.now ≡ Ok opened.value)) }
+fn make_core(
+    alloc: Global,
+    message: Message,
+    dims: Dims,
+    bytes: &[u8],
+) -> Result<Opened<Core>, Report>
+    requires { message ≡ [] }
+    ensures ok { IfOk result (λ opened. (opened.message ≡ []) × (length bytes.now ≤ max_file → facts_said dims bytes.now ≡ Ok opened.value)) }
     ensures dims { IfOk result (λ opened. opened.value.dims ≡ dims) }
-    ensures err { IfErr result (λ r. NoRoom r ⊎ IsReport 7 (codes "no memory\n") r ⊎ (IsReport 3 r.text r × (length bytes.now ≤ max_file → facts_said dims bytes.now ≡ Err r.text))) }
+    ensures err { IfErr result (λ r. NoMessage r ⊎ IsReport 7 (codes "no memory\n") r ⊎ (IsReport 3 r.text r × (length bytes.now ≤ max_file → facts_said dims bytes.now ≡ Err r.text))) }
 {
     let (shape, cube) = match read_facts(alloc, &dims, bytes) {
         Ok(filled) => filled,
-        Err(fault) => return Err(refuse_facts(alloc, room, fault)),
+        Err(fault) => return Err(refuse_facts(alloc, message, fault)),
     };
     match Core::new(alloc, dims, shape, cube) {
-        Ok(value) => Ok(Opened { room, value }),
-        Err(_) => Err(room.with(b"no memory\n").close(alloc, statuses::NO_MEMORY)),
+        Ok(value) => Ok(Opened { message, value }),
+        Err(_) => Err(
+            message
+                .with(b"no memory\n")
+                .close(alloc, statuses::NO_MEMORY),
+        ),
     }
 }
 
 // Reads the fact file under dimensions and measures.
 fn open_facts<F: Folder>(
     alloc: Global,
-    room: Room,
+    message: Message,
     name: &Text,
     dims: Dims,
     sealed: bool,
     files: &mut F,
 ) -> Result<Opened<Founded>, Report>
-    requires { room ≡ [] }
-    ensures ok { IfOk result (λ opened. (opened.room ≡ []) × IfSome (F.state files.old).files (λ known. FileSays (facts_said dims) name.now known (Ok opened.value.core))) }
+    requires { message ≡ [] }
+    ensures ok { IfOk result (λ opened. (opened.message ≡ []) × IfSome (F.state files.old).files (λ known. FileSays (facts_said dims) name.now known (Ok opened.value.core))) }
     ensures dims { IfOk result (λ opened. opened.value.core.dims ≡ dims) }
     ensures digest { IfOk result (λ opened. IfSome opened.value.facts (IsDigestOf name.now (F.state files.old))) }
     ensures sealed { IfOk result (λ opened. is_some opened.value.facts ≡ sealed) }
@@ -241,14 +259,19 @@ fn open_facts<F: Folder>(
     ensures asks { OnOk result (AskedFor (name.now ∷ []) (seen F.state files.old files.new)) }
     ensures reads { Reads (seen F.state files.old files.new) result }
 {
-    let opened = match read_bytes(alloc, room, b"facts", name, files) {
+    let opened = match read_bytes(alloc, message, b"facts", name, files) {
         Ok(opened) => opened,
         Err(report) => return Err(report),
     };
     let facts = digest_if(sealed, opened.value.as_slice());
-    match make_core(alloc, opened.room, dims, opened.value.as_slice()) {
-        Ok(Opened { room, value: core }) => Ok(Opened {
-            room,
+    match make_core(alloc, opened.message, dims, opened.value.as_slice()) {
+        Ok(
+            Opened {
+                message,
+                value: core,
+            },
+        ) => Ok(Opened {
+            message,
             value: Founded { core, facts },
         }),
         Err(report) => Err(report),
@@ -258,93 +281,93 @@ fn open_facts<F: Folder>(
 /// Reads a flat fact file.
 pub fn open_flat<F: Folder>(
     alloc: Global,
-    room: Room,
+    message: Message,
     name: &Text,
     files: &mut F,
 ) -> Result<Opened<Flat>, Report>
-    requires { room ≡ [] }
-    ensures ok { IfOk result (λ opened. (opened.room ≡ []) × IfSome (F.state files.old).files (λ known. FileSays flat_said name.now known (Ok opened.value))) }
+    requires { message ≡ [] }
+    ensures ok { IfOk result (λ opened. (opened.message ≡ []) × IfSome (F.state files.old).files (λ known. FileSays flat_said name.now known (Ok opened.value))) }
     ensures err { IfErr result (EndsAt [] flat_said name.now (seen F.state files.old files.new)) }
     ensures asks { OnOk result (AskedFor (name.now ∷ []) (seen F.state files.old files.new)) }
     ensures reads { Reads (seen F.state files.old files.new) result }
 {
-    let opened = match read_bytes(alloc, room, b"facts", name, files) {
+    let opened = match read_bytes(alloc, message, b"facts", name, files) {
         Ok(opened) => opened,
         Err(report) => return Err(report),
     };
     match read_flat(alloc, opened.value.as_slice()) {
         Ok(value) => Ok(Opened {
-            room: opened.room,
+            message: opened.message,
             value,
         }),
-        Err(fault) => Err(refuse_facts(alloc, opened.room, fault)),
+        Err(fault) => Err(refuse_facts(alloc, opened.message, fault)),
     }
 }
 
 /// Reads a policy file under dimensions and measures, which is named as a kind where it is refused.
 pub(crate) fn open_policy<F: Folder>(
     alloc: Global,
-    room: Room,
+    message: Message,
     kind: &[u8],
     name: &Text,
     dims: &Dims,
     files: &mut F,
 ) -> Result<Opened<Policy>, Report>
-    requires room { room ≡ [] }
+    requires message { message ≡ [] }
     requires kind { length kind.now ≤ 40 }
-    ensures ok { IfOk result (λ opened. (opened.room ≡ []) × IfSome (F.state files.old).files (λ known. FileSays (policy_said_as kind.now dims.now) name.now known (Ok opened.value))) }
+    ensures ok { IfOk result (λ opened. (opened.message ≡ []) × IfSome (F.state files.old).files (λ known. FileSays (policy_said_as kind.now dims.now) name.now known (Ok opened.value))) }
     ensures rules { IfOk result (λ opened. IsPolicy dims.now opened.value) }
     ensures err { IfErr result (EndsAt [] (policy_said_as kind.now dims.now) name.now (seen F.state files.old files.new)) }
     ensures asks { OnOk result (AskedFor (name.now ∷ []) (seen F.state files.old files.new)) }
     ensures reads { Reads (seen F.state files.old files.new) result }
 {
-    let opened = match read_bytes(alloc, room, kind, name, files) {
+    let opened = match read_bytes(alloc, message, kind, name, files) {
         Ok(opened) => opened,
         Err(report) => return Err(report),
     };
     match read_policy(alloc, dims, opened.value.as_slice()) {
         Ok(value) => Ok(Opened {
-            room: opened.room,
+            message: opened.message,
             value,
         }),
-        Err(fault) => Err(refuse_policy(alloc, opened.room, kind, fault)),
+        Err(fault) => Err(refuse_policy(alloc, opened.message, kind, fault)),
     }
 }
 
 /// Reads the dimension file and the fact file, in turn.
 pub(crate) fn open_founded<F: Folder>(
     alloc: Global,
-    room: Room,
+    message: Message,
     dims_name: &Text,
     facts_name: &Text,
     sealed: bool,
     files: &mut F,
 ) -> Result<Opened<Founded>, Report>
-    requires { room ≡ [] }
-    ensures ok { IfOk result (λ opened. (opened.room ≡ []) × IfSome (F.state files.old).files (MakesCore dims_name.now facts_name.now opened.value.core)) }
+    requires { message ≡ [] }
+    ensures ok { IfOk result (λ opened. (opened.message ≡ []) × IfSome (F.state files.old).files (MakesCore dims_name.now facts_name.now opened.value.core)) }
     ensures digest { IfOk result (λ opened. IfSome opened.value.facts (IsDigestOf facts_name.now (F.state files.old))) }
     ensures sealed { IfOk result (λ opened. is_some opened.value.facts ≡ sealed) }
     ensures err { IfErr result (EndsUnfounded dims_name.now facts_name.now (seen F.state files.old files.new)) }
     ensures behind { OnOk result (GotBehind (dims_name.now ∷ facts_name.now ∷ []) (seen F.state files.old files.new)) }
     ensures reads { Reads (seen F.state files.old files.new) result }
 {
-    let (room, dims) = match open_dims(alloc, room, dims_name, files) {
-        Ok(opened) => (opened.room, opened.value),
+    let (message, dims) = match open_dims(alloc, message, dims_name, files) {
+        Ok(opened) => (opened.message, opened.value),
         Err(report) => return Err(report),
     };
-    open_facts(alloc, room, facts_name, dims, sealed, files)
+    open_facts(alloc, message, facts_name, dims, sealed, files)
 }
 
 // Reads the dimension file, the fact file and the policy file, in turn.
 fn open_parts<F: Folder>(
     alloc: Global,
-    room: Room,
+    message: Message,
     cube: &CubeFiles,
     sealed: bool,
     files: &mut F,
 ) -> Result<Opened<Parts>, Report>
-    requires { room ≡ [] }
-    ensures ok { IfOk result (λ opened. (opened.room ≡ []) × Make cube.now (F.state files.old) opened.value.core opened.value.policy) }
+    requires { message ≡ [] }
+    ensures ok { IfOk result (λ opened. (opened.message ≡ []) × Make cube.now (F.state files.old) opened.value.core opened.value.policy) }
     ensures rules { IfOk result (λ opened. IsPolicy opened.value.core.dims opened.value.policy) }
     ensures digest { IfOk result (λ opened. IfSome opened.value.facts (IsDigest cube.now (F.state files.old))) }
     ensures sealed { IfOk result (λ opened. is_some opened.value.facts ≡ sealed) }
@@ -352,20 +375,27 @@ fn open_parts<F: Folder>(
     ensures behind { OnOk result (GotBehind (names_of cube.now) (seen F.state files.old files.new)) }
     ensures reads { Reads (seen F.state files.old files.new) result }
 {
-    let (room, founded) = match open_founded(alloc, room, &cube.dims, &cube.facts, sealed, files) {
-        Ok(opened) => (opened.room, opened.value),
+    let (message, founded) = match open_founded(
+        alloc,
+        message,
+        &cube.dims,
+        &cube.facts,
+        sealed,
+        files,
+    ) {
+        Ok(opened) => (opened.message, opened.value),
         Err(report) => return Err(report),
     };
     let Founded { core, facts } = founded;
-    let opened = open_policy(alloc, room, b"policy", &cube.policy, core.dims(), files);
+    let opened = open_policy(alloc, message, b"policy", &cube.policy, core.dims(), files);
     match opened {
         Ok(
             Opened {
-                room,
+                message,
                 value: policy,
             },
         ) => Ok(Opened {
-            room,
+            message,
             value: Parts {
                 core,
                 policy,
@@ -379,20 +409,20 @@ fn open_parts<F: Folder>(
 /// Reads the dimension file, the fact file and the policy file, in turn, and takes the digest of the fact file.
 pub fn open_guarded<F: Folder>(
     alloc: Global,
-    room: Room,
+    message: Message,
     cube: &CubeFiles,
     files: &mut F,
 ) -> Result<Opened<Guarded>, Report>
-    requires { room ≡ [] }
-    ensures ok { IfOk result (λ opened. (opened.room ≡ []) × Make cube.now (F.state files.old) opened.value.core opened.value.policy) }
+    requires { message ≡ [] }
+    ensures ok { IfOk result (λ opened. (opened.message ≡ []) × Make cube.now (F.state files.old) opened.value.core opened.value.policy) }
     ensures rules { IfOk result (λ opened. IsPolicy opened.value.core.dims opened.value.policy) }
     ensures digest { IfOk result (λ opened. IsDigest cube.now (F.state files.old) opened.value.facts) }
     ensures err { IfErr result (EndsUnopened cube.now (seen F.state files.old files.new)) }
     ensures behind { OnOk result (GotBehind (names_of cube.now) (seen F.state files.old files.new)) }
     ensures reads { Reads (seen F.state files.old files.new) result }
 {
-    let (room, parts) = match open_parts(alloc, room, cube, true, files) {
-        Ok(opened) => (opened.room, opened.value),
+    let (message, parts) = match open_parts(alloc, message, cube, true, files) {
+        Ok(opened) => (opened.message, opened.value),
         Err(report) => return Err(report),
     };
     let Parts {
@@ -402,7 +432,7 @@ pub fn open_guarded<F: Folder>(
     } = parts;
     match facts {
         Some(facts) => Ok(Opened {
-            room,
+            message,
             value: Guarded {
                 core,
                 policy,
@@ -416,23 +446,23 @@ pub fn open_guarded<F: Folder>(
 /// Reads the three files in turn, and no digest is taken.
 pub fn open_unsealed<F: Folder>(
     alloc: Global,
-    room: Room,
+    message: Message,
     cube: &CubeFiles,
     files: &mut F,
 ) -> Result<Opened<Unsealed>, Report>
-    requires { room ≡ [] }
-    ensures ok { IfOk result (λ opened. (opened.room ≡ []) × Make cube.now (F.state files.old) opened.value.core opened.value.policy) }
+    requires { message ≡ [] }
+    ensures ok { IfOk result (λ opened. (opened.message ≡ []) × Make cube.now (F.state files.old) opened.value.core opened.value.policy) }
     ensures rules { IfOk result (λ opened. IsPolicy opened.value.core.dims opened.value.policy) }
     ensures err { IfErr result (EndsUnopened cube.now (seen F.state files.old files.new)) }
     ensures behind { OnOk result (GotBehind (names_of cube.now) (seen F.state files.old files.new)) }
     ensures reads { Reads (seen F.state files.old files.new) result }
 {
-    let (room, parts) = match open_parts(alloc, room, cube, false, files) {
-        Ok(opened) => (opened.room, opened.value),
+    let (message, parts) = match open_parts(alloc, message, cube, false, files) {
+        Ok(opened) => (opened.message, opened.value),
         Err(report) => return Err(report),
     };
     Ok(Opened {
-        room,
+        message,
         value: Unsealed {
             core: parts.core,
             policy: parts.policy,

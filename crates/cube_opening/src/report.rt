@@ -1,6 +1,6 @@
-// How a run ended, and the room for the text that says so.
+// How a run ended, and the text that says so.
 ghost use Rattle.std.specs.Prelude.{◌≡◌, ◌⊎◌, ◌≤◌, ◌+◌, ◌++◌, [], length, decimal, codes, IfOk};
-ghost use Rattle.cube_opening.specs.Reports.{IsReport, NoRoom};
+ghost use Rattle.cube_opening.specs.Reports.{IsReport, NoMessage};
 
 use crate::statuses;
 use cube_model::{Items, NoMemory, Outcomes, Text};
@@ -17,8 +17,8 @@ pub struct Report {
 }
 
 /// The report of a run that finds no memory for its text.
-pub fn no_room(alloc: Global) -> Report
-    ensures { NoRoom result }
+pub fn no_message(alloc: Global) -> Report
+    ensures { NoMessage result }
 {
     Report {
         status: statuses::NO_MEMORY,
@@ -48,23 +48,23 @@ fn refused_line(alloc: Global, before: &[u8], line: &Text) -> Result<Text, NoMem
 
 /// The report on what is refused by a line, behind the words that say what it is, as `cell: `.
 pub fn refuse_line(alloc: Global, before: &[u8], line: &Text) -> Report
-    ensures { IsReport 3 (before.now ++ line.now) result ⊎ NoRoom result }
+    ensures { IsReport 3 (before.now ++ line.now) result ⊎ NoMessage result }
 {
     match refused_line(alloc, before, line) {
         Ok(text) => with_text(alloc, statuses::FILE_REFUSED, text),
-        Err(_) => no_room(alloc),
+        Err(_) => no_message(alloc),
     }
 }
 
-const ROOM: usize = 128;
+const MESSAGE: usize = 128;
 
-/// Room for 128 bytes of a report's text, filled in part.
+/// The text of a report, for which 128 bytes were taken when it was made.
 #[derive(Drop)]
-pub struct Room {
+pub struct Message {
     bytes: Vec<u8>,
 }
 
-impl Model for Room {
+impl Model for Message {
     ghost use Rattle.std.specs.Prelude.{ℕ, List, ◌≤◌};
     ghost use Rattle.std.specs.Vec.{vec_capacity};
 
@@ -75,30 +75,30 @@ impl Model for Room {
     ghost invariant = { λ r. 128 ≤ vec_capacity r.bytes };
 }
 
-impl Room {
-    /// Room that is empty.
-    pub fn new(alloc: Global) -> Result<Room, NoMemory>
-        ensures { IfOk result (λ room. room ≡ []) }
+impl Message {
+    /// An empty message.
+    pub fn new(alloc: Global) -> Result<Message, NoMemory>
+        ensures { IfOk result (λ message. message ≡ []) }
     {
-        Ok(Room {
-            bytes: Vec::with_capacity(alloc, ROOM)?,
+        Ok(Message {
+            bytes: Vec::with_capacity(alloc, MESSAGE)?,
         })
     }
 
-    /// The room with a text put at the end.
-    pub fn with(self, text: &[u8]) -> Room
+    /// The message with a text put at the end.
+    pub fn with(self, text: &[u8]) -> Message
         requires { length self + length text.now ≤ 128 }
         ensures { result ≡ self ++ text.now }
     {
         let mut bytes = self.bytes;
         match bytes.extend_from_slice(text) {
-            Ok(()) => Room { bytes },
+            Ok(()) => Message { bytes },
             Err(_) => unreachable!(),
         }
     }
 
-    /// The room with a number put at the end, which takes 20 bytes at most.
-    pub fn with_number(self, number: u64) -> Room
+    /// The message with a number put at the end, which takes 20 bytes at most.
+    pub fn with_number(self, number: u64) -> Message
         requires { length self + 20 ≤ 128 }
         ensures text { result ≡ self ++ decimal number }
         ensures few { length result ≤ length self + 20 }
@@ -128,11 +128,12 @@ impl Room {
 }
 
 /// The text on a run that took as much as is taken at most.
-pub fn spent_room(room: Room, requests: u64, events: u64) -> Room
-    requires { room ≡ [] }
+pub fn spent_message(message: Message, requests: u64, events: u64) -> Message
+    requires { message ≡ [] }
     ensures { result ≡ codes "spent: " ++ decimal requests ++ codes " requests, " ++ decimal events ++ codes " events\n" }
 {
-    room.with(b"spent: ")
+    message
+        .with(b"spent: ")
         .with_number(requests)
         .with(b" requests, ")
         .with_number(events)

@@ -9,14 +9,14 @@ ghost use Rattle.cube_groups.specs.Words as groups_words;
 ghost use Rattle.cube_groups.specs.declared.fault.GroupsFault.TheVariants as groups_faults;
 ghost use Rattle.cube_groups.specs.declared.group.GroupFile.{GroupFile};
 ghost use Rattle.cube_opening.specs.Opening.{fault_text, FileSays, AskedFor, EndsAt, GotBehind, IsDigestOf, Reads};
-ghost use Rattle.cube_opening.specs.Reports.{IsReport, NoRoom};
+ghost use Rattle.cube_opening.specs.Reports.{IsReport, NoMessage};
 ghost use Rattle.cube_opening.specs.Ruling.{groups_said, called as called_as, group_policy_said, one_group, Lists, IsRuledBy, AreRuledBy, HaveNames, AreGroups, list_names, policy_names, ruled_names, EndsAtOne, EndsAtRules, EndsUnruled, IsRead, MakeGroups};
 ghost use Rattle.cube_opening.specs.declared.cube_files.Rules.TheVariants as orders;
 ghost use Rattle.cube_opening.specs.declared.ruling.RuledGroup.{RuledGroup};
 
 use crate::cube_files::{RuledFiles, Rules};
 use crate::opening::{Founded, Opened, open_founded, open_policy, read_bytes, refuse};
-use crate::report::{Report, Room, no_room};
+use crate::report::{Message, Report, no_message};
 use crate::statuses;
 use cube_core::Core;
 use cube_groups::{GroupFile, GroupList, GroupsFault, read_groups};
@@ -61,15 +61,17 @@ pub fn called(alloc: Global, kind: &[u8], name: &Text) -> Result<Text, NoMemory>
 }
 
 // The report on a fault of a groups file.
-fn refuse_groups(alloc: Global, room: Room, fault: GroupsFault) -> Report
-    requires { room ≡ [] }
-    ensures { NoRoom result ⊎ IsReport 7 (codes "no memory\n") result ⊎ ((fault ≢ groups_faults.NoMemory) × IsReport 3 (fault_text (codes "groups") (groups_words.fault_words fault)) result) }
+fn refuse_groups(alloc: Global, message: Message, fault: GroupsFault) -> Report
+    requires { message ≡ [] }
+    ensures { NoMessage result ⊎ IsReport 7 (codes "no memory\n") result ⊎ ((fault ≢ groups_faults.NoMemory) × IsReport 3 (fault_text (codes "groups") (groups_words.fault_words fault)) result) }
 {
     match fault {
-        GroupsFault::NoMemory => room.with(b"no memory\n").close(alloc, statuses::NO_MEMORY),
+        GroupsFault::NoMemory => message
+            .with(b"no memory\n")
+            .close(alloc, statuses::NO_MEMORY),
         other => match cube_groups::fault_text(alloc, &other) {
             Ok(words) => refuse(alloc, b"groups", &words),
-            Err(_) => no_room(alloc),
+            Err(_) => no_message(alloc),
         },
     }
 }
@@ -77,60 +79,60 @@ fn refuse_groups(alloc: Global, room: Room, fault: GroupsFault) -> Report
 // Reads a groups file.
 fn open_list<F: Folder>(
     alloc: Global,
-    room: Room,
+    message: Message,
     name: &Text,
     files: &mut F,
 ) -> Result<Opened<GroupList>, Report>
-    requires { room ≡ [] }
-    ensures ok { IfOk result (λ opened. (opened.room ≡ []) × IfSome (F.state files.old).files (λ known. FileSays groups_said name.now known (Ok opened.value))) }
+    requires { message ≡ [] }
+    ensures ok { IfOk result (λ opened. (opened.message ≡ []) × IfSome (F.state files.old).files (λ known. FileSays groups_said name.now known (Ok opened.value))) }
     ensures rules { IfOk result (λ opened. listing.AreGroups opened.value) }
     ensures err { IfErr result (EndsAt [] groups_said name.now (seen F.state files.old files.new)) }
     ensures asks { OnOk result (AskedFor (name.now ∷ []) (seen F.state files.old files.new)) }
     ensures reads { Reads (seen F.state files.old files.new) result }
 {
-    let opened = match read_bytes(alloc, room, b"groups", name, files) {
+    let opened = match read_bytes(alloc, message, b"groups", name, files) {
         Ok(opened) => opened,
         Err(report) => return Err(report),
     };
     match read_groups(alloc, opened.value.as_slice()) {
         Ok(value) => Ok(Opened {
-            room: opened.room,
+            message: opened.message,
             value,
         }),
-        Err(fault) => Err(refuse_groups(alloc, opened.room, fault)),
+        Err(fault) => Err(refuse_groups(alloc, opened.message, fault)),
     }
 }
 
 // Reads the policy file of a group.
 fn open_group<F: Folder>(
     alloc: Global,
-    room: Room,
+    message: Message,
     group: &GroupFile,
     dims: &Dims,
     files: &mut F,
 ) -> Result<Opened<RuledGroup>, Report>
-    requires room { room ≡ [] }
+    requires message { message ≡ [] }
     requires short { length group.now.name ≤ 32 }
-    ensures ok { IfOk result (λ opened. (opened.room ≡ []) × (opened.value.name ≡ group.now.name) × IfSome (F.state files.old).files (λ known. IsRuledBy dims.now known group.now opened.value)) }
+    ensures ok { IfOk result (λ opened. (opened.message ≡ []) × (opened.value.name ≡ group.now.name) × IfSome (F.state files.old).files (λ known. IsRuledBy dims.now known group.now opened.value)) }
     ensures rules { IfOk result (λ opened. IsPolicy dims.now opened.value.policy) }
     ensures err { IfErr result (EndsAt [] (group_policy_said dims.now group.now.name) group.now.policy (seen F.state files.old files.new)) }
     ensures asks { OnOk result (AskedFor (group.now.policy ∷ []) (seen F.state files.old files.new)) }
     ensures reads { Reads (seen F.state files.old files.new) result }
 {
     let Ok(name) = Text::from_bytes(alloc, group.name.as_slice()) else {
-        return Err(no_room(alloc));
+        return Err(no_message(alloc));
     };
     let Ok(kind) = called(alloc, b"policy", &group.name) else {
-        return Err(no_room(alloc));
+        return Err(no_message(alloc));
     };
-    match open_policy(alloc, room, kind.as_slice(), &group.policy, dims, files) {
+    match open_policy(alloc, message, kind.as_slice(), &group.policy, dims, files) {
         Ok(
             Opened {
-                room,
+                message,
                 value: policy,
             },
         ) => Ok(Opened {
-            room,
+            message,
             value: RuledGroup { name, policy },
         }),
         Err(report) => Err(report),
@@ -140,15 +142,15 @@ fn open_group<F: Folder>(
 // Reads the policy files of the groups that are left, behind those that were read.
 fn open_rest<F: Folder>(
     alloc: Global,
-    room: Room,
+    message: Message,
     list: &[GroupFile],
     dims: &Dims,
     files: &mut F,
     groups: RuledGroups,
 ) -> Result<Opened<RuledGroups>, Report>
-    requires room { room ≡ [] }
+    requires message { message ≡ [] }
     requires short { Each (λ f. length f.name ≤ 32) list.now }
-    ensures room { IfOk result (λ opened. opened.room ≡ []) }
+    ensures message { IfOk result (λ opened. opened.message ≡ []) }
     ensures ok { IfOk result (λ opened. (more : List RuledGroup) × (opened.value ≡ groups ++ more) × HaveNames list.now more × Each (λ g. IsPolicy dims.now g.policy) more × IfSome (F.state files.old).files (λ known. AreRuledBy dims.now known list.now more)) }
     ensures err { IfErr result (EndsAtOne dims.now [] list.now (seen F.state files.old files.new)) }
     ensures asks { OnOk result (AskedFor (policy_names list.now) (seen F.state files.old files.new)) }
@@ -156,18 +158,18 @@ fn open_rest<F: Folder>(
 {
     let [group, rest @ ..] = list else {
         return Ok(Opened {
-            room,
+            message,
             value: groups,
         });
     };
-    let (room, ruled) = match open_group(alloc, room, group, dims, files) {
-        Ok(opened) => (opened.room, opened.value),
+    let (message, ruled) = match open_group(alloc, message, group, dims, files) {
+        Ok(opened) => (opened.message, opened.value),
         Err(report) => return Err(report),
     };
     let mut groups = groups;
     match groups.push(ruled) {
-        Ok(()) => open_rest(alloc, room, rest, dims, files, groups),
-        Err(_) => Err(no_room(alloc)),
+        Ok(()) => open_rest(alloc, message, rest, dims, files, groups),
+        Err(_) => Err(no_message(alloc)),
     }
 }
 
@@ -187,64 +189,78 @@ fn list_one(alloc: Global, policy: &Text) -> Result<GroupList, NoMemory>
 // Reads the policy file of all users.
 fn open_one<F: Folder>(
     alloc: Global,
-    room: Room,
+    message: Message,
     policy: &Text,
     dims: &Dims,
     files: &mut F,
 ) -> Result<Opened<RuledGroups>, Report>
-    requires { room ≡ [] }
-    ensures room { IfOk result (λ opened. opened.room ≡ []) }
+    requires { message ≡ [] }
+    ensures message { IfOk result (λ opened. opened.message ≡ []) }
     ensures ok { IfOk result (λ opened. IsRead (orders.One policy.now) dims.now (one_group policy.now) opened.value (seen F.state files.old files.new)) }
     ensures rules { IfOk result (λ opened. AreGroups dims.now opened.value) }
     ensures err { IfErr result (EndsAtRules dims.now [] (orders.One policy.now) (seen F.state files.old files.new)) }
     ensures reads { Reads (seen F.state files.old files.new) result }
 {
     let Ok(list) = list_one(alloc, policy) else {
-        return Err(no_room(alloc));
+        return Err(no_message(alloc));
     };
-    open_rest(alloc, room, list.as_slice(), dims, files, Items::new(alloc))
+    open_rest(
+        alloc,
+        message,
+        list.as_slice(),
+        dims,
+        files,
+        Items::new(alloc),
+    )
 }
 
 // Reads a groups file and the policy files that it lists.
 fn open_listed<F: Folder>(
     alloc: Global,
-    room: Room,
+    message: Message,
     name: &Text,
     dims: &Dims,
     files: &mut F,
 ) -> Result<Opened<RuledGroups>, Report>
-    requires { room ≡ [] }
-    ensures room { IfOk result (λ opened. opened.room ≡ []) }
+    requires { message ≡ [] }
+    ensures message { IfOk result (λ opened. opened.message ≡ []) }
     ensures ok { IfOk result (λ opened. (fs : List GroupFile) × IsRead (orders.Groups name.now) dims.now fs opened.value (seen F.state files.old files.new)) }
     ensures rules { IfOk result (λ opened. AreGroups dims.now opened.value) }
     ensures err { IfErr result (EndsAtRules dims.now [] (orders.Groups name.now) (seen F.state files.old files.new)) }
     ensures reads { Reads (seen F.state files.old files.new) result }
 {
-    let (room, list) = match open_list(alloc, room, name, files) {
-        Ok(opened) => (opened.room, opened.value),
+    let (message, list) = match open_list(alloc, message, name, files) {
+        Ok(opened) => (opened.message, opened.value),
         Err(report) => return Err(report),
     };
-    open_rest(alloc, room, list.as_slice(), dims, files, Items::new(alloc))
+    open_rest(
+        alloc,
+        message,
+        list.as_slice(),
+        dims,
+        files,
+        Items::new(alloc),
+    )
 }
 
 // Reads the files that rule the users.
 fn open_rules<F: Folder>(
     alloc: Global,
-    room: Room,
+    message: Message,
     rules: &Rules,
     dims: &Dims,
     files: &mut F,
 ) -> Result<Opened<RuledGroups>, Report>
-    requires { room ≡ [] }
-    ensures room { IfOk result (λ opened. opened.room ≡ []) }
+    requires { message ≡ [] }
+    ensures message { IfOk result (λ opened. opened.message ≡ []) }
     ensures ok { IfOk result (λ opened. (fs : List GroupFile) × IsRead rules.now dims.now fs opened.value (seen F.state files.old files.new)) }
     ensures rules { IfOk result (λ opened. AreGroups dims.now opened.value) }
     ensures err { IfErr result (EndsAtRules dims.now [] rules.now (seen F.state files.old files.new)) }
     ensures reads { Reads (seen F.state files.old files.new) result }
 {
     match rules {
-        Rules::One(policy) => open_one(alloc, room, policy, dims, files),
-        Rules::Groups(name) => open_listed(alloc, room, name, dims, files),
+        Rules::One(policy) => open_one(alloc, message, policy, dims, files),
+        Rules::Groups(name) => open_listed(alloc, message, name, dims, files),
     }
 }
 
@@ -252,32 +268,39 @@ fn open_rules<F: Folder>(
 /// of each group in its order.
 pub fn open_ruled<F: Folder>(
     alloc: Global,
-    room: Room,
+    message: Message,
     cube: &RuledFiles,
     files: &mut F,
 ) -> Result<Opened<Ruled>, Report>
-    requires { room ≡ [] }
-    ensures room { IfOk result (λ opened. opened.room ≡ []) }
+    requires { message ≡ [] }
+    ensures message { IfOk result (λ opened. opened.message ≡ []) }
     ensures ok { IfOk result (λ opened. (fs : List GroupFile) × MakeGroups cube.now (F.state files.old) opened.value.core fs opened.value.groups × GotBehind (ruled_names cube.now fs) (seen F.state files.old files.new)) }
     ensures rules { IfOk result (λ opened. AreGroups opened.value.core.dims opened.value.groups) }
     ensures digest { IfOk result (λ opened. IsDigestOf cube.now.facts (F.state files.old) opened.value.facts) }
     ensures err { IfErr result (EndsUnruled cube.now (seen F.state files.old files.new)) }
     ensures reads { Reads (seen F.state files.old files.new) result }
 {
-    let (room, founded) = match open_founded(alloc, room, &cube.dims, &cube.facts, true, files) {
-        Ok(opened) => (opened.room, opened.value),
+    let (message, founded) = match open_founded(
+        alloc,
+        message,
+        &cube.dims,
+        &cube.facts,
+        true,
+        files,
+    ) {
+        Ok(opened) => (opened.message, opened.value),
         Err(report) => return Err(report),
     };
     let Founded { core, facts } = founded;
     let Some(facts) = facts else { unreachable!() };
-    match open_rules(alloc, room, &cube.rules, core.dims(), files) {
+    match open_rules(alloc, message, &cube.rules, core.dims(), files) {
         Ok(
             Opened {
-                room,
+                message,
                 value: groups,
             },
         ) => Ok(Opened {
-            room,
+            message,
             value: Ruled {
                 core,
                 groups,

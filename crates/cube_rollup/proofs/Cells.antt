@@ -25,7 +25,7 @@ use Rattle.cube_core.specs.Rows.{ArePlaces}
 use Rattle.cube_core.proofs.Grouped.{rows_all}
 use Rattle.cube_core.proofs.Tallied.{total_bound}
 use Rattle.cube_core.proofs.Totals.{IsMore, sum_more, facts_less, from_increasing, few_at_places, value_bound, place_below as item_below, ArePlaces-filter}
-use Rattle.cube_rollup.specs.Cuboids.{Cuboid, cell_keys, covered_at, summed_cell, first_point, StandsFor, sums_of, whole, takes_all, first_of_row, AreRowsOf}
+use Rattle.cube_rollup.specs.Cuboids.{Cuboid, cell_keys, covered_at, summed_cell, first_point, IsCuboidOf, sums_of, whole, takes_all, first_of_row, AreRowsOf}
 use Rattle.cube_core.specs.Tallies.{AreBounded, summed_row}
 use Rattle.cube_rollup.proofs.Sums.{at_key, partition_all, gather-pos, over-pos, over_alike, sum_by-ones, pos_same, filter_true}
 use Rattle.cube_rollup.proofs.Unions.{cells_of, first_place, is_first, has_cell, cell_sum, CanAnswer, rows_from_cells}
@@ -82,7 +82,7 @@ each_map P f (x ∷ xs) h = (h x (inl refl), each_map P f xs (λ y m. h y (inr m
 pub no_policy : Policy
 no_policy = record { methods = []; objects = [] }
 
-pub points_of : (c : Core) (s : Cuboid) → StandsFor c s → ArePoints (plains c.dims) s.points
+pub points_of : (c : Core) (s : Cuboid) → IsCuboidOf c s → ArePoints (plains c.dims) s.points
 points_of c s h =
     let g : Public = shown c no_policy in
     let few = h.rules.few_points in
@@ -95,7 +95,7 @@ points_of c s h =
       few = omega (arith, few, n, size);
     }
 
-pub as_many : (c : Core) (s : Cuboid) → StandsFor c s → length s.points ≡ length s.cells
+pub as_many : (c : Core) (s : Cuboid) → IsCuboidOf c s → length s.points ≡ length s.cells
 as_many c s h =
     let g : Public = shown c no_policy in
     ap length (h.points no_policy) ∙ length-map (cell_keys g s.levels) (first_point g s.levels)
@@ -163,7 +163,7 @@ cells_pointed : (c : Core) (levels : List ℕ) (r : Request) (p : Policy) → ro
 cells_pointed c levels r p = refl
 
 -- the rows of the cells of a cuboid that stands for a core, with their sums, are the answer
-pub answer_is : (c : Core) (s : Cuboid) (d : Dims) (points : List (List ℕ)) (r : Request) (p : Policy) (all : List Row) → StandsFor c s → c.dims ≡ d → points ≡ s.points → asks s.measure r ≡ true → fits (plains d) r.group r.picks ≡ true → is_finer s.levels (grain r) ≡ true
+pub answer_is : (c : Core) (s : Cuboid) (d : Dims) (points : List (List ℕ)) (r : Request) (p : Policy) (all : List Row) → IsCuboidOf c s → c.dims ≡ d → points ≡ s.points → asks s.measure r ≡ true → fits (plains d) r.group r.picks ≡ true → is_finer s.levels (grain r) ≡ true
     → all ≡ rows (shown (pointed d points) p) r → map (summed_row (sums_of s.cells)) all ≡ answer (world c p) r
 answer_is c s d points r p all h same_dims same_points asked fit finer is =
     let g : Public = shown c p in
@@ -259,8 +259,8 @@ same_points c p levels (k ∷ ks) = ap (λ (l : List (List ℕ)). first_point (s
 
 -- what is made of the rows of all places stands for the core
 pub stands : (c : Core) (m : ℕ) (levels : List ℕ) (r : Request) (all : List Row) (s : Cuboid) → IsCore c → are_levels (plains c.dims) levels ≡ true → m < length c.dims.measures → r ≡ whole m levels → ((p : Policy) → all ≡ rows (shown c p) r)
-    → s ≡ record { levels = levels; measure = m; cells = map (summed_row (get_or c.cube m [])) all; points = map (first_of_row c) all } → StandsFor c s
-stands c m levels r all s ok e l request is made = subst (StandsFor c) (sym made) (record {
+    → s ≡ record { levels = levels; measure = m; cells = map (summed_row (get_or c.cube m [])) all; points = map (first_of_row c) all } → IsCuboidOf c s
+stands c m levels r all s ok e l request is made = subst (IsCuboidOf c) (sym made) (record {
   rules = ok;
   levels = e;
   measure = l;
@@ -269,7 +269,7 @@ stands c m levels r all s ok e l request is made = subst (StandsFor c) (sym made
 })
 
 -- the cells of a cuboid that stands for a core, as they stand, are the answer to a request that takes them all
-pub kept_is : (c : Core) (s : Cuboid) (r : Request) (p : Policy) → StandsFor c s → asks s.measure r ≡ true → takes_all s.levels r ≡ true → s.cells ≡ answer (world c p) r
+pub kept_is : (c : Core) (s : Cuboid) (r : Request) (p : Policy) → IsCuboidOf c s → asks s.measure r ≡ true → takes_all s.levels r ≡ true → s.cells ≡ answer (world c p) r
 kept_is c s r p h asked taken =
     let g : Public = shown c p in
     let w : World = world c p in
@@ -280,7 +280,7 @@ kept_is c s r p h asked taken =
     ∙ ap (map (summed_row (values w s.measure))) (sym (all_rows g r parts.1))
     ∙ sym (answer_rows w r (values w s.measure) (ap (summed w) (what_is s.measure r.what asked)))
 
-pub few_cells : (c : Core) (s : Cuboid) → StandsFor c s → length s.cells ≤ 65536
+pub few_cells : (c : Core) (s : Cuboid) → IsCuboidOf c s → length s.cells ≤ 65536
 few_cells c s h =
     let g : Public = shown c no_policy in
     let few = h.rules.few_points in
@@ -289,7 +289,7 @@ few_cells c s h =
     omega (arith, few, n, size)
 
 -- the sums of a cuboid that stands for a core fit
-pub bounded : (c : Core) (s : Cuboid) → StandsFor c s → AreBounded (sums_of s.cells)
+pub bounded : (c : Core) (s : Cuboid) → IsCuboidOf c s → AreBounded (sums_of s.cells)
 bounded c s h = subst AreBounded (sym (ap sums_of (h.cells no_policy) ∙ sums_are (world c no_policy) s.measure s.levels ks)) (record {
   facts = map facts_in ks;
   long = length-map ks facts_in ∙ sym (length-map ks (cell_sum g vs s.levels));

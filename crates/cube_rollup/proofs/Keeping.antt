@@ -13,7 +13,7 @@ use Rattle.cube_model.specs.Protection.{method}
 use Rattle.cube_model.specs.Requests.{asks, is_measure}
 use Rattle.cube_model.specs.Verdicts.{source}
 use Rattle.cube_model.proofs.Histories.{source-skip}
-use Rattle.cube_rollup.specs.Cuboids.{Cuboid, StandsFor}
+use Rattle.cube_rollup.specs.Cuboids.{Cuboid, IsCuboidOf}
 use Rattle.cube_rollup.specs.Rollups.{Rollups, entered, source_by, kept_at, IsCuboidAt, AreKept, entry_of, RollupsStand}
 
 -- a history with nothing behind it
@@ -33,7 +33,7 @@ skipped : (c : Core) (p : Policy) (h : List Entry) (r : Request) (m : ℕ) (k : 
 skipped c p h r m k off is = subst (λ (s : Option (List ℕ)). IsCuboidAt c m (source_by (method (shown c p) m) s) k) (sym (source-skip h (Asked r) m off)) is
 
 -- A request on a lattice measure waits, and the cuboid at the source that it makes is held.
-pub held : (c : Core) (p : Policy) (h : List Entry) (r : Request) (m : ℕ) (ls : List ℕ) (k : Cuboid) (old : Rollups) → AreKept c p h old.kept → asks m r ≡ true → m < length p.methods → kept_at (shown c p) (h ++ Asked r ∷ []) m ≡ Some ls → k.levels ≡ ls → k.measure ≡ m → StandsFor c k
+pub held : (c : Core) (p : Policy) (h : List Entry) (r : Request) (m : ℕ) (ls : List ℕ) (k : Cuboid) (old : Rollups) → AreKept c p h old.kept → asks m r ≡ true → m < length p.methods → kept_at (shown c p) (h ++ Asked r ∷ []) m ≡ Some ls → k.levels ≡ ls → k.measure ≡ m → IsCuboidOf c k
     → RollupsStand c p h (Some r) (record { kept = old.kept; next = Some k })
 held c p h r m ls k old now a lt at levels measure stands = record {
   now = now;

@@ -36,18 +36,18 @@ summed_cell w m levels key = record { key = key; sum = total (values w m) (cover
 abbrev pub first_point : Public → List ℕ → List ℕ → List ℕ
 first_point g levels key = point g (slice_index_or (covered_at g levels key) 0 0)
 
--- The cuboid stands for the core: its cells are the nonempty cells of the core at its levels, in lexicographic order of
+-- The cuboid is one of the core: its cells are the nonempty cells of the core at its levels, in lexicographic order of
 -- their keys, each with the plain sum of its measure over the places that it covers, and beside it the first point of these.
-pub record StandsFor (c : Core) (s : Cuboid) : Type 0 where
+pub record IsCuboidOf (c : Core) (s : Cuboid) : Type 0 where
   pub rules : IsCore c
   pub levels : are_levels (plains c.dims) s.levels ≡ true
   pub measure : s.measure < length c.dims.measures
   pub cells : (p : Policy) → s.cells ≡ map (summed_cell (world c p) s.measure s.levels) (cell_keys (shown c p) s.levels)
   pub points : (p : Policy) → s.points ≡ map (first_point (shown c p) s.levels) (cell_keys (shown c p) s.levels)
 
--- the cuboid stands for some core with these dimensions and measures
+-- the cuboid is one of some core with these dimensions and measures
 abbrev pub StandsWith : Dims → Cuboid → Type 0
-StandsWith s cuboid = (c : Core) × (c.dims ≡ s) × StandsFor c cuboid
+StandsWith s cuboid = (c : Core) × (c.dims ≡ s) × IsCuboidOf c cuboid
 
 abbrev pub sums_of : List AnswerRow → List ℤ
 sums_of cells = map (λ cell. cell.sum) cells

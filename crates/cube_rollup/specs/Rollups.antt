@@ -10,7 +10,7 @@ use Rattle.cube_model.specs.Cores.{Core, shown}
 use Rattle.cube_model.specs.Cubes.{Public}
 use Rattle.cube_model.specs.Protection.{method}
 use Rattle.cube_model.specs.Verdicts.{source}
-use Rattle.cube_rollup.specs.Cuboids.{Cuboid, StandsFor, cell_keys}
+use Rattle.cube_rollup.specs.Cuboids.{Cuboid, IsCuboidOf, cell_keys}
 
 -- the cuboids that are kept, by measure, and one that takes its place among them once the request that waits has entered
 pub record Rollups : Type 0 where
@@ -43,7 +43,7 @@ abbrev pub IsCuboidAt : Core → ℕ → Option (List ℕ) → Option Cuboid →
 IsCuboidAt c m None None = ⊤
 IsCuboidAt c m None (Some k) = ⊥
 IsCuboidAt c m (Some ls) None = ⊥
-IsCuboidAt c m (Some ls) (Some k) = (k.levels ≡ ls) × (k.measure ≡ m) × StandsFor c k
+IsCuboidAt c m (Some ls) (Some k) = (k.levels ≡ ls) × (k.measure ≡ m) × IsCuboidOf c k
 
 -- for each measure the cuboid that is kept for it by a history
 pub record AreKept (c : Core) (p : Policy) (h : List Entry) (ks : List (Option Cuboid)) : Type 0 where

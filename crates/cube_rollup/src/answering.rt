@@ -10,7 +10,7 @@ ghost use Rattle.cube_model.specs.Requests as requests;
 ghost use Rattle.cube_model.specs.Requests.{asks, fits, grain, total};
 ghost use Rattle.cube_model.specs.declared.policy.Policy.{Policy};
 ghost use Rattle.cube_rollup.specs.Cuboids as said;
-ghost use Rattle.cube_rollup.specs.Cuboids.{sums_of, StandsFor, StandsWith};
+ghost use Rattle.cube_rollup.specs.Cuboids.{sums_of, IsCuboidOf, StandsWith};
 ghost use Rattle.cube_core.specs.Grouping.{pointed, ArePoints};
 ghost use Rattle.cube_core.specs.Tallies.{row_of_tally, summed_row};
 
@@ -90,7 +90,7 @@ impl Cuboid {
         requires fits { fits (plains dims.now) request.now.group request.now.picks ≡ true }
         requires finer { is_finer self.now.levels (grain request.now) ≡ true }
         requires stands { StandsWith dims.now self.now }
-        ensures answer { IfOk result (λ answer. (core : Core) (p : Policy) → core.dims ≡ dims.now → StandsFor core self.now → answer ≡ requests.answer (world core p) request.now) }
+        ensures answer { IfOk result (λ answer. (core : Core) (p : Policy) → core.dims ≡ dims.now → IsCuboidOf core self.now → answer ≡ requests.answer (world core p) request.now) }
         ensures steps { steps.new ≤ steps.old + length self.now.cells }
     {
         let _bounds = self.cells();
@@ -118,7 +118,7 @@ impl Cuboid {
         requires fits { fits (plains dims.now) request.now.group request.now.picks ≡ true }
         requires finer { is_finer self.now.levels (grain request.now) ≡ true }
         requires stands { StandsWith dims.now self.now }
-        ensures answer { IfOk result (λ found. IfSome found (λ tallies. (core : Core) (p : Policy) → core.dims ≡ dims.now → StandsFor core self.now → flat_map (row_of_tally (pointed dims.now self.now.points) request.now) tallies.items ≡ requests.answer (world core p) request.now)) }
+        ensures answer { IfOk result (λ found. IfSome found (λ tallies. (core : Core) (p : Policy) → core.dims ≡ dims.now → IsCuboidOf core self.now → flat_map (row_of_tally (pointed dims.now self.now.points) request.now) tallies.items ≡ requests.answer (world core p) request.now)) }
         ensures marks { IfOk result (λ found. IfSome found (λ tallies. AllByRecursion (λ tally. tally.mark ≤ length self.now.points) tallies.items)) }
         ensures points { ArePoints (plains dims.now) self.now.points }
         ensures steps { steps.new ≤ steps.old + length self.now.cells }
@@ -136,7 +136,7 @@ impl Cuboid {
     #[tactic(auto, using(crate::proofs::Cells::kept_is))]
     pub fn kept_answer<L: Ledger>(&self, request: &Request, steps: &mut Steps<L>) -> Option<&Answer>
         requires measure { asks self.now.measure request.now ≡ true }
-        ensures answer { IfSome (option_copied result) (λ answer. (core : Core) (p : Policy) → StandsFor core self.now → answer ≡ requests.answer (world core p) request.now) }
+        ensures answer { IfSome (option_copied result) (λ answer. (core : Core) (p : Policy) → IsCuboidOf core self.now → answer ≡ requests.answer (world core p) request.now) }
         ensures some { is_some result ≡ said.takes_all self.now.levels request.now }
         ensures steps { steps.new ≤ steps.old + length self.now.cells }
         ensures none { ForNone (option_copied result) (steps.new ≡ steps.old) }

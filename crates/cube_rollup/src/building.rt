@@ -4,7 +4,7 @@ ghost use Rattle.std.specs.List.{sum_by, AllByRecursion};
 ghost use Rattle.cube_core.specs.Rows.{ArePlaces};
 ghost use Rattle.cube_model.specs.Cubes.{are_levels};
 ghost use Rattle.cube_model.specs.Dims.{plains};
-ghost use Rattle.cube_rollup.specs.Cuboids.{first_of_row, sums_of, AreRowsOf, StandsFor};
+ghost use Rattle.cube_rollup.specs.Cuboids.{first_of_row, sums_of, AreRowsOf, IsCuboidOf};
 ghost use Rattle.cube_core.specs.Tallies.{summed_row};
 
 use crate::Cuboid;
@@ -82,7 +82,7 @@ impl Cuboid {
         requires measure { measure < length core.now.dims.measures }
         ensures levels { IfOk result (λ cuboid. cuboid.levels ≡ levels.now) }
         ensures measure { IfOk result (λ cuboid. cuboid.measure ≡ measure) }
-        ensures stands { IfOk result (λ cuboid. StandsFor core.now cuboid) }
+        ensures stands { IfOk result (λ cuboid. IsCuboidOf core.now cuboid) }
         ensures steps { steps.new ≤ steps.old + length core.now.shape.points }
     {
         let _rules = core.dims();

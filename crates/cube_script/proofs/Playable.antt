@@ -12,7 +12,7 @@ use Rattle.cube_model.specs.Cubes.{Each}
 use Rattle.cube_io.proofs.Trails.{each_append}
 use Rattle.cube_io.specs.Wires.{Arrival}
 use Rattle.cube_io.specs.Wires.Arrival.{Opened, Closed, End}
-use Rattle.cube_script.specs.Rooms.{IsPlayable}
+use Rattle.cube_script.specs.Capacity.{IsPlayable}
 use Rattle.cube_script.specs.Scripts.{connection_of, bytes_of, came_of, event_of, words, lines, with_event, events_of, script_of}
 
 -- ---- a line

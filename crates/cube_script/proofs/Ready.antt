@@ -1,4 +1,4 @@
--- One call more of a wire that plays a script: its log, and the room behind it.
+-- One call more of a wire that plays a script: its log, and the space behind it.
 use Rattle.std.proofs.Common.{◌≡◌, ◌<◌, ◌≤◌, ℕ, zero, suc, ◌+◌, ◌-◌, ◌^◌, Bool, true, false, ◌&&◌, ◌||◌, List, [], ◌∷◌, ◌++◌, length, take, drop, Option, Some, None, Result, Err, inl, inr, ◌⊎◌, refl, sym, ◌∙◌, ap, subst, arith, add-one, append-nil, append_assoc, unwrap_or, if◌then◌else◌, sum_by, count_by}
 use Rattle.std.specs.Prelude.{slice_get, ◌↔◌, nat_le, nat_lt}
 use Rattle.std.proofs.Math.Bool.{or-false}
@@ -17,12 +17,12 @@ use Rattle.cube_io.specs.Wires.{Arrival as arrival}
 use Rattle.cube_io.specs.Wires.LogEntry.{Heard, Sent, Torn, Shut}
 use Rattle.cube_io.specs.declared.scroll.Note.TheVariants as note
 use Rattle.cube_io.proofs.Scrolled.{event_owes, sent_owes, torn_pays, shut_pays}
-use Rattle.cube_script.specs.Playing.{Overran, passes_room_by, IsPlaying, started, is_torn, has_torn, is_sent, sent_size, is_settled}
-use Rattle.cube_script.specs.declared.script_wire.SendRoom.{SendRoom}
+use Rattle.cube_script.specs.Playing.{Overran, passes_capacity_by, IsPlaying, started, is_torn, has_torn, is_sent, sent_size, is_settled}
+use Rattle.cube_script.specs.declared.script_wire.SendCapacity.{SendCapacity}
 use Rattle.cube_script.specs.declared.play.ScriptFault.{ScriptFault}
 use Rattle.cube_script.specs.declared.play.ScriptFault.TheVariants.{Line, NoMemory}
 use Rattle.cube_script.specs.Plays.{Refuses}
-use Rattle.cube_script.specs.Rooms.{IsPlayable, entries_owed, entries_for, bytes_for, Kept, IsReady, IsListening}
+use Rattle.cube_script.specs.Capacity.{IsPlayable, entries_owed, entries_for, bytes_for, Kept, IsReady, IsListening}
 
 -- ---- one entry more
 
@@ -63,15 +63,15 @@ no_way e = cc
 -- ---- why a send failed
 
 -- where none did there is nothing to say
-none_overran : (b : Bool) (most : SendRoom) (log : List LogEntry) → b ≡ has_torn log → b ≡ false → has_torn log ≡ true → Overran most log
+none_overran : (b : Bool) (most : SendCapacity) (log : List LogEntry) → b ≡ has_torn log → b ≡ false → has_torn log ≡ true → Overran most log
 none_overran b most log is none some = absurd (no_way (sym some ∙ sym is ∙ none))
 
--- the first that would pass the room
-first_overran : (most : SendRoom) (log log' : List LogEntry) (c size : ℕ) → log' ≡ log ++ Torn c [] size ∷ [] → has_torn log ≡ false → passes_room_by most log size ≡ true → Overran most log'
+-- the first that would pass the space
+first_overran : (most : SendCapacity) (log log' : List LogEntry) (c size : ℕ) → log' ≡ log ++ Torn c [] size ∷ [] → has_torn log ≡ false → passes_capacity_by most log size ≡ true → Overran most log'
 first_overran most log log' c size grows none passes = record { before = log; conn = c; size = size; behind = []; whole = grows; first = none; passes = passes; unsent = refl; unheard = refl }
 
 -- behind it an entry more that notes neither a send that went well nor an event
-still_overran : (most : SendRoom) (log log' : List LogEntry) (e : LogEntry) → log' ≡ log ++ e ∷ [] → is_sent e ≡ false → event_in e ≡ None → Overran most log → Overran most log'
+still_overran : (most : SendCapacity) (log log' : List LogEntry) (e : LogEntry) → log' ≡ log ++ e ∷ [] → is_sent e ≡ false → event_in e ≡ None → Overran most log → Overran most log'
 still_overran most log log' e grows unsent unheard o = record {
   before = o.before;
   conn = o.conn;
@@ -84,14 +84,14 @@ still_overran most log log' e grows unsent unheard o = record {
   unheard = filter_map-append event_in o.behind (e ∷ []) ∙ rw (unheard, o.unheard) refl;
 }
 
--- a send that failed: an earlier one did, or it would pass the room
-torn_overran : (b : Bool) (most : SendRoom) (log log' : List LogEntry) (c size : ℕ) → b ≡ has_torn log → (has_torn log ≡ true → Overran most log) → (b || passes_room_by most log size) ≡ true → log' ≡ log ++ Torn c [] size ∷ [] → Overran most log'
+-- a send that failed: an earlier one did, or it would pass the space
+torn_overran : (b : Bool) (most : SendCapacity) (log log' : List LogEntry) (c size : ℕ) → b ≡ has_torn log → (has_torn log ≡ true → Overran most log) → (b || passes_capacity_by most log size) ≡ true → log' ≡ log ++ Torn c [] size ∷ [] → Overran most log'
 torn_overran true most log log' c size is was fails grows = still_overran most log log' (Torn c [] size) grows refl refl (was (sym is))
 torn_overran false most log log' c size is was fails grows = first_overran most log log' c size grows (sym is) fails
 
 -- what the wire keeps tells that a send fails
-pub fails_behind : (b : Bool) (most : SendRoom) (log : List LogEntry) (len : ℕ) → b ≡ true → (b || passes_room_by most log len) ≡ true
-fails_behind b most log len broke = ap (λ (t : Bool). t || passes_room_by most log len) broke
+pub fails_behind : (b : Bool) (most : SendCapacity) (log : List LogEntry) (len : ℕ) → b ≡ true → (b || passes_capacity_by most log len) ≡ true
+fails_behind b most log len broke = ap (λ (t : Bool). t || passes_capacity_by most log len) broke
 
 second_of : (a b c : Bool) → b ≡ true → (a || (b || c)) ≡ true
 second_of true b c is = refl
@@ -102,12 +102,12 @@ third_of true b c is = refl
 third_of false true c is = refl
 third_of false false c is = is
 
-pub fails_sends : (script : List Arrival) (k : Kept) (len : ℕ) → IsReady script k → k.left.sends ≡ 0 → (k.overrun || passes_room_by k.most k.roll.log len) ≡ true
+pub fails_sends : (script : List Arrival) (k : Kept) (len : ℕ) → IsReady script k → k.left.sends ≡ 0 → (k.overrun || passes_capacity_by k.most k.roll.log len) ≡ true
 fails_sends script k len r none =
     let full : k.most.sends ≤ count_by is_sent k.roll.log = omega (arith, r.sends, none) in
     second_of k.overrun (nat_le k.most.sends (count_by is_sent k.roll.log)) (nat_lt k.most.bytes (sum_by sent_size k.roll.log + len)) (le-leb k.most.sends (count_by is_sent k.roll.log) full)
 
-pub fails_bytes : (script : List Arrival) (k : Kept) (len : ℕ) → IsReady script k → k.left.bytes < len → (k.overrun || passes_room_by k.most k.roll.log len) ≡ true
+pub fails_bytes : (script : List Arrival) (k : Kept) (len : ℕ) → IsReady script k → k.left.bytes < len → (k.overrun || passes_capacity_by k.most k.roll.log len) ≡ true
 fails_bytes script k len r small =
     let full : k.most.bytes + 1 ≤ sum_by sent_size k.roll.log + len = omega (arith, r.sent, small) in
     third_of k.overrun (nat_le k.most.sends (count_by is_sent k.roll.log)) (nat_lt k.most.bytes (sum_by sent_size k.roll.log + len)) (le-leb (suc k.most.bytes) (sum_by sent_size k.roll.log + len) (omega (arith, full)))
@@ -137,12 +137,12 @@ arrival_owes (arrival.Came c bytes) log = event_owes (note.Came c) bytes log ref
 arrival_owes (arrival.Closed c) log = event_owes (note.Closed c) [] log refl
 arrival_owes arrival.End log = event_owes note.End [] log refl
 
--- ---- the room behind a call
+-- ---- the space behind a call
 
-pub next_room : (script : List Arrival) (k : Kept) (e : Arrival)
+pub next_owes : (script : List Arrival) (k : Kept) (e : Arrival)
     → IsReady script k → slice_get script k.taken ≡ Some e
     → (IsPlayable e) × (0 < k.roll.entries_left) × (bytes_for e ≤ k.roll.bytes_left) × (k.owed + entries_owed e < 2 ^ 64)
-next_room script k e r at =
+next_owes script k e r at =
     let n = sum_next entries_for script k.taken e at in
     let b = sum_next bytes_for script k.taken e at in
     (playable_at script k.taken e r.playable at, omega (arith, n, r.entries), omega (arith, b, r.bytes), omega (arith, n, r.entries, r.small))
@@ -207,14 +207,14 @@ ready_sent script k c piece roll' r well some fits log entries bytes =
       steady = λ none dry more. r.steady (sym stays ∙ none) dry more;
     }
 
-pub torn_room : (script : List Arrival) (k : Kept) (c : ℕ)
+pub torn_owes : (script : List Arrival) (k : Kept) (c : ℕ)
     → IsReady script k → IsSound c k.roll.log → (0 < k.owed) × (0 < k.roll.entries_left)
-torn_room script k c r sound =
+torn_owes script k c r sound =
     let pays = torn_pays c [] 0 k.roll.log sound in
     (omega (arith, pays, r.enough), omega (arith, pays, r.enough, r.entries))
 
 pub ready_torn : (script : List Arrival) (k : Kept) (c len sf' : ℕ) (roll' : Roll)
-    → IsReady script k → IsSound c k.roll.log → (k.overrun || passes_room_by k.most k.roll.log len) ≡ true → 0 < sf'
+    → IsReady script k → IsSound c k.roll.log → (k.overrun || passes_capacity_by k.most k.roll.log len) ≡ true → 0 < sf'
     → roll'.log ≡ k.roll.log ++ Torn c [] len ∷ [] → roll'.entries_left + 1 ≡ k.roll.entries_left → roll'.bytes_left + 0 ≡ k.roll.bytes_left
     → IsReady script (record k { roll = roll'; owed = k.owed - 1; overrun = true; send_faults = sf' })
 ready_torn script k c len sf' roll' r sound fails rose log entries bytes =
@@ -241,9 +241,9 @@ ready_torn script k c len sf' roll' r sound fails rose log entries bytes =
       steady = λ none dry more. absurd (no_way (sym now ∙ none));
     }
 
-pub shut_room : (script : List Arrival) (k : Kept) (c : ℕ)
+pub shut_owes : (script : List Arrival) (k : Kept) (c : ℕ)
     → IsReady script k → IsOpen c k.roll.log → (0 < k.owed) × (0 < k.roll.entries_left)
-shut_room script k c r opens =
+shut_owes script k c r opens =
     let pays = shut_pays c k.roll.log opens in
     (omega (arith, pays, r.enough), omega (arith, pays, r.enough, r.entries))
 
@@ -366,7 +366,7 @@ playing script k heard r =
 
 -- ---- the beginning
 
-pub ready_start : (script events : List Arrival) (roll : Roll) (most : SendRoom) → script ≡ events ++ arrival.End ∷ [] → Each IsPlayable script → roll.log ≡ [] → roll.entries_left ≡ sum_by entries_for script + most.sends → roll.bytes_left ≡ sum_by bytes_for script + most.bytes → roll.entries_left < 2 ^ 64
+pub ready_start : (script events : List Arrival) (roll : Roll) (most : SendCapacity) → script ≡ events ++ arrival.End ∷ [] → Each IsPlayable script → roll.log ≡ [] → roll.entries_left ≡ sum_by entries_for script + most.sends → roll.bytes_left ≡ sum_by bytes_for script + most.bytes → roll.entries_left < 2 ^ 64
     → IsReady script (record { taken = 0; roll = roll; owed = 0; left = most; most = most; overrun = false; spilled = false; faults = 0; send_faults = 0 })
 ready_start script events roll most is each none entries bytes small = record {
   ends = (events, is);
@@ -400,6 +400,6 @@ overrun_is script k r = by k.overrun r.torn r.sound r.broken
 
 -- ---- the answer to a script
 
-pub refused : (fault : ScriptFault) (said : Result (List Arrival) ℕ) (most : SendRoom) → Refuses fault said → (fault ≡ NoMemory) ⊎ (started said most ≡ Err fault)
+pub refused : (fault : ScriptFault) (said : Result (List Arrival) ℕ) (most : SendCapacity) → Refuses fault said → (fault ≡ NoMemory) ⊎ (started said most ≡ Err fault)
 refused (Line n) said most h = inr (ap (λ (r : Result (List Arrival) ℕ). started r most) h)
 refused NoMemory said most h = inl refl

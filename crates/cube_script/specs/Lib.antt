@@ -1,5 +1,5 @@
 pub mod Heads
 pub mod Playing
 pub mod Plays
-pub mod Rooms
+pub mod Capacity
 pub mod Scripts

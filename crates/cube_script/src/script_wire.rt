@@ -7,14 +7,14 @@ ghost use Rattle.cube_io.specs.Content.{AppendsPrefix};
 ghost use Rattle.cube_io.specs.Told.{AsksFor};
 ghost use Rattle.cube_io.specs.Wires.{FitsBuffer, IsOpen, IsSound, SendTells, NextTells, arrival_of, render, events_in};
 ghost use Rattle.cube_io.specs.Wires.LogEntry.{Heard, Sent, Torn, Shut};
-ghost use Rattle.cube_script.specs.Playing.{Playing, IsPlaying, IsFresh, started, has_torn, next_of, is_refused, has_room_for};
+ghost use Rattle.cube_script.specs.Playing.{Playing, IsPlaying, IsFresh, started, has_torn, next_of, is_refused, has_capacity_for};
 ghost use Rattle.cube_script.specs.Scripts.{script_of};
 ghost use Rattle.cube_script.specs.declared.play.ScriptFault.TheVariants.{NoMemory};
 
+use crate::capacity::{capacity_for, entries_owed, next_play, play_event};
 use crate::play::{Play, ScriptFault};
 use crate::read::read_script;
 use crate::render::put_log;
-use crate::room::{entries_owed, next_play, play_event, room_for};
 use cube_io::{Event, Failed, Note, Scroll, Sink, Wire};
 use cube_model::Text;
 use std::alloc::Global;
@@ -28,7 +28,7 @@ pub const MAX_SENT_BYTES: usize = 268_435_456;
 
 /// Room for sends that go well.
 #[derive(Clone, Copy, Debug, PartialEq, Eq)]
-pub struct SendRoom {
+pub struct SendCapacity {
     /// How many of them.
     pub sends: usize,
     /// How many bytes of them all.
@@ -40,20 +40,20 @@ const ADDRESSES: usize = 8;
 
 const ADDRESS_BYTES: usize = 1_024;
 
-/// A wire that plays a script: its events in order, and then once the end. It tells its log, and keeps all of it in room that is
+/// A wire that plays a script: its events in order, and then once the end. It tells its log, and keeps all of it in space that is
 /// taken when it is made.
 ///
-/// A send that would pass the room for sends fails, and no other does that is the first to fail. Nothing of it goes out; the log says
+/// A send that would pass the space for sends fails, and no other does that is the first to fail. Nothing of it goes out; the log says
 /// how long its piece was. Behind it every send and every `next` fails. A `next` behind the end fails too, and so does a `listen` at a
-/// ninth address, or at more than 1,024 bytes of addresses. There is always room for a close.
+/// ninth address, or at more than 1,024 bytes of addresses. There is always space for a close.
 #[derive(Drop)]
 pub struct ScriptWire {
     plays: Vec<Play>,
     at: usize,
     scroll: Scroll,
     owed: usize,
-    left: SendRoom,
-    most: SendRoom,
+    left: SendCapacity,
+    most: SendCapacity,
     overrun: bool,
     addresses: Scroll,
     spilled: bool,
@@ -65,7 +65,7 @@ impl Model for ScriptWire {
     ghost use Rattle.std.specs.Prelude.{map};
     ghost use Rattle.cube_script.specs.Playing.{Playing};
     ghost use Rattle.cube_script.specs.Plays.{played};
-    ghost use Rattle.cube_script.specs.Rooms.{IsReady, IsListening, address_in};
+    ghost use Rattle.cube_script.specs.Capacity.{IsReady, IsListening, address_in};
 
     ghost Value = { Playing };
 
@@ -82,42 +82,42 @@ impl ScriptWire {
         ensures plays { Answers NoMemory result (started (script_of script.now) (record { sends = MAX_SENDS; bytes = MAX_SENT_BYTES })) }
         ensures fresh { IfOk result (λ wire. IsFresh (⟦<ScriptWire as Wire>⟧.state wire)) }
     {
-        let most = SendRoom {
+        let most = SendCapacity {
             sends: MAX_SENDS,
             bytes: MAX_SENT_BYTES,
         };
-        ScriptWire::with_room(alloc, script, most)
+        ScriptWire::with_capacity(alloc, script, most)
     }
 
-    /// The same wire, with this room for sends.
-    pub fn with_room(
+    /// The same wire, with this space for sends.
+    pub fn with_capacity(
         alloc: Global,
         script: &Text,
-        most: SendRoom,
+        most: SendCapacity,
     ) -> Result<ScriptWire, ScriptFault>
         ensures plays { Answers NoMemory result (started (script_of script.now) most) }
         ensures fresh { IfOk result (λ wire. IsFresh (⟦<ScriptWire as Wire>⟧.state wire)) }
     {
         let mut plays = read_script(alloc, script.as_slice())?;
         plays.push(Play::End)?;
-        let Some((events, pieces)) = room_for(&plays) else {
+        let Some((events, pieces)) = capacity_for(&plays) else {
             return Err(ScriptFault::NoMemory);
         };
         let Some(entries) = events.checked_add(most.sends) else {
             return Err(ScriptFault::NoMemory);
         };
-        let Some(room) = pieces.checked_add(most.bytes) else {
+        let Some(capacity) = pieces.checked_add(most.bytes) else {
             return Err(ScriptFault::NoMemory);
         };
         Ok(ScriptWire {
             plays,
             at: 0,
-            scroll: Scroll::with_room(alloc, entries, room)?,
+            scroll: Scroll::with_capacity(alloc, entries, capacity)?,
             owed: 0,
             left: most,
             most,
             overrun: false,
-            addresses: Scroll::with_room(alloc, ADDRESSES, ADDRESS_BYTES)?,
+            addresses: Scroll::with_capacity(alloc, ADDRESSES, ADDRESS_BYTES)?,
             spilled: false,
             faults: 0,
             send_faults: 0,
@@ -160,7 +160,7 @@ impl Wire for ScriptWire {
         ensures sends { self.new.send_faults ≡ self.old.send_faults }
         ensures log { self.new.log ≡ self.old.log }
         ensures heard { AsksFor result self.old.heard self.new.heard address.now }
-        ensures room { is_ok result ≡ has_room_for self.old address.now }
+        ensures capacity { is_ok result ≡ has_capacity_for self.old address.now }
         ensures ok { OnOk result (self.new ≡ record self.old { heard = self.old.heard ++ address.now ∷ [] }) }
         ensures err { OnErr result (self.new ≡ record self.old { spilled = true; faults = min (self.old.faults + 1) (2 ^ 64 - 1) }) }
     {

@@ -35,7 +35,7 @@ less_one : (a b : ℕ) → b + 1 ≡ a → a - 1 ≡ b
 less_one a b e = omega (arith, e)
 
 pub asked_deals : (c : ℕ) (q : Request) (ask : Ask) (o : Outcome) (r : Reply) (old new : DeskState) (log log' : List LogEntry) (live : Bool)
-    → new.outcomes ≡ old.outcomes ++ o ∷ [] → r ≡ old.manner.reply old.rooms ask o → new.rooms ≡ old.manner.next old.rooms ask o → new.room + 1 ≡ old.room
+    → new.outcomes ≡ old.outcomes ++ o ∷ [] → r ≡ old.manner.reply old.rooms ask o → new.rooms ≡ old.manner.next old.rooms ask o → new.capacity + 1 ≡ old.capacity
     → (o ≡ JournalFault → old.manner.next old.rooms ask Given ≢ old.rooms) → Replies c q r log log' live
     → Deals c (wanted_by old.manner (Asked ask) c q) old new log log' live
 asked_deals c q ask o r old new log log' live gained er en one fresh s =
@@ -48,10 +48,10 @@ asked_deals c q ask o r old new log log' live gained er en one fresh s =
       starved = [];
       shown = s.shown;
       runs = λ os ss bs cs.
-          ap (λ (z : Reply). answered c q z (turn (course next (old.room - 1) os (s.sends ++ ss) bs (cs ++ handled ∷ []) log) true)) (sym er)
-          ∙ s.runs (course next (old.room - 1) os [] bs (cs ++ handled ∷ []) []) ss
-          ∙ ap (λ (n : ℕ). turn (course next n os ss bs (cs ++ handled ∷ []) log') live) (less_one old.room new.room one)
-          ∙ ap (λ (z : List Room). turn (course z new.room os ss bs (cs ++ handled ∷ []) log') live) (sym en);
+          ap (λ (z : Reply). answered c q z (turn (course next (old.capacity - 1) os (s.sends ++ ss) bs (cs ++ handled ∷ []) log) true)) (sym er)
+          ∙ s.runs (course next (old.capacity - 1) os [] bs (cs ++ handled ∷ []) []) ss
+          ∙ ap (λ (n : ℕ). turn (course next n os ss bs (cs ++ handled ∷ []) log') live) (less_one old.capacity new.capacity one)
+          ∙ ap (λ (z : List Room). turn (course z new.capacity os ss bs (cs ++ handled ∷ []) log') live) (sym en);
     }
 
 pub constant_deals : (c : ℕ) (q : Request) (f : Fixed) (desk : DeskState) (log log' : List LogEntry) (live : Bool)
@@ -62,7 +62,7 @@ constant_deals c q f desk log log' live s = record {
   sends = s.sends;
   starved = false ∷ [];
   shown = s.shown;
-  runs = λ os ss bs cs. s.runs (course desk.rooms desk.room os [] bs cs []) ss ∙ ap (λ (z : List Call). turn (course desk.rooms desk.room os ss bs z log') live) (sym (append-nil cs));
+  runs = λ os ss bs cs. s.runs (course desk.rooms desk.capacity os [] bs cs []) ss ∙ ap (λ (z : List Call). turn (course desk.rooms desk.capacity os ss bs z log') live) (sym (append-nil cs));
 }
 
 pub starved_deals : (c : ℕ) (q : Request) (f : Fixed) (old new : DeskState) (log log' : List LogEntry) (live : Bool) → OneMiss old new → Replies c q (reply.Fixed constant.NoMemory) log log' live
@@ -74,17 +74,17 @@ starved_deals c q f old new log log' live one s = record {
   starved = true ∷ [];
   shown = s.shown;
   runs = λ os ss bs cs.
-      s.runs (course old.rooms (old.room - 1) os [] bs cs []) ss
-      ∙ ap (λ (n : ℕ). turn (course old.rooms n os ss bs cs log') live) (less_one old.room new.room one.room)
-      ∙ ap (λ (z : List Room). turn (course z new.room os ss bs cs log') live) (sym one.rooms)
-      ∙ ap (λ (z : List Call). turn (course new.rooms new.room os ss bs z log') live) (sym (append-nil cs));
+      s.runs (course old.rooms (old.capacity - 1) os [] bs cs []) ss
+      ∙ ap (λ (n : ℕ). turn (course old.rooms n os ss bs cs log') live) (less_one old.capacity new.capacity one.capacity)
+      ∙ ap (λ (z : List Room). turn (course z new.capacity os ss bs cs log') live) (sym one.rooms)
+      ∙ ap (λ (z : List Call). turn (course new.rooms new.capacity os ss bs z log') live) (sym (append-nil cs));
 }
 
 -- a request that found no memory before it reached the desk
 pub missed_deals : (w : Wanted) (c : ℕ) (q : Request) (old new : DeskState) (log log' : List LogEntry) (live : Bool) → IsConstant old.manner → OneMiss old new → Replies c q (reply.Fixed constant.NoMemory) log log' live
     → Deals c (wanted_by old.manner w c q) old new log log' live
 missed_deals (Asked ask) c q old new log log' live k one s =
-    asked_deals c q ask NoMemory (reply.Fixed constant.NoMemory) old new log log' live one.added (sym (k.memory old.rooms ask).0) (one.rooms ∙ sym (k.memory old.rooms ask).1) one.room (λ e. cc) s
+    asked_deals c q ask NoMemory (reply.Fixed constant.NoMemory) old new log log' live one.added (sym (k.memory old.rooms ask).0) (one.rooms ∙ sym (k.memory old.rooms ask).1) one.capacity (λ e. cc) s
 missed_deals (Constant f) c q old new log log' live k one s = starved_deals c q f old new log log' live one s
 
 -- ---- items
@@ -97,14 +97,14 @@ speech_deals c op desk log log' live s = record {
   sends = s.sends;
   starved = [];
   shown = s.shown;
-  runs = λ os ss bs cs. s.runs (course desk.rooms desk.room os [] bs cs []) ss ∙ ap (λ (z : List Call). turn (course desk.rooms desk.room os ss bs z log') live) (sym (append-nil cs));
+  runs = λ os ss bs cs. s.runs (course desk.rooms desk.capacity os [] bs cs []) ss ∙ ap (λ (z : List Call). turn (course desk.rooms desk.capacity os ss bs z log') live) (sym (append-nil cs));
 }
 
 more_asks : (asks : ℕ) → 1 ≤ asks → nat_lt 0 asks ≡ true
 more_asks asks h = grind (arith, nat_tests)
 
 -- one item
-pub one_dealt : (m : Manner) (c : ℕ) (i : Item) (old new : DeskState) (log log' : List LogEntry) (live : Bool) → 1 ≤ old.room
+pub one_dealt : (m : Manner) (c : ℕ) (i : Item) (old new : DeskState) (log log' : List LogEntry) (live : Bool) → 1 ≤ old.capacity
     → Deals c (dealt_with m c i) old new log log' live → Deals c (dealt_all m c (i ∷ [])) old new log log' live
 one_dealt m c i old new log log' live some d = record {
   talks = d.talks;
@@ -112,15 +112,15 @@ one_dealt m c i old new log log' live some d = record {
   sends = d.sends;
   starved = d.starved;
   shown = d.shown;
-  runs = λ os ss bs cs. rw (more_asks old.room some) (d.runs os ss bs cs);
+  runs = λ os ss bs cs. rw (more_asks old.capacity some) (d.runs os ss bs cs);
 }
 
-pub body_dealt : (m : Manner) (c : ℕ) (waits : Bool) (desk : DeskState) (log log' : List LogEntry) (live : Bool) → 1 ≤ desk.room
+pub body_dealt : (m : Manner) (c : ℕ) (waits : Bool) (desk : DeskState) (log log' : List LogEntry) (live : Bool) → 1 ≤ desk.capacity
     → Speaks c (body_said c waits) log log' live → Deals c (dealt_all m c (said_in_body waits)) desk desk log log' live
 body_dealt m c true desk log log' live some s = one_dealt m c Continue desk desk log log' live some (speech_deals c (dealt_with m c Continue) desk log log' live s)
 body_dealt m c false desk log log' live some s = speech_deals c (λ t. t) desk log log' live s
 
-pub dead_dealt : (m : Manner) (c : ℕ) (h : Sound) (desk : DeskState) (log log' : List LogEntry) (live : Bool) → 1 ≤ desk.room
+pub dead_dealt : (m : Manner) (c : ℕ) (h : Sound) (desk : DeskState) (log log' : List LogEntry) (live : Bool) → 1 ≤ desk.capacity
     → Speaks c (dead_said c h) log log' live → Deals c (dealt_all m c (said_to_dead h)) desk desk log log' live
 dead_dealt m c sound.More desk log log' live some s = speech_deals c (λ t. t) desk log log' live s
 dead_dealt m c sound.Continue desk log log' live some s = speech_deals c (λ t. t) desk log log' live s

@@ -11,7 +11,7 @@ use Rattle.cube_model.specs.Rooms.{Room}
 use Rattle.cube_io.specs.Desks.{Manner, Answered, ForeignStay, GivesRooms, LeavesAll, IsOneOf, is_fault, faults_in}
 use Rattle.cube_io.specs.Seen.{StoreState}
 use Rattle.cube_io.specs.States.{State, Log, Gained, settled}
-use Rattle.cube_io.proofs.Hands.{leaves_all_map, leaves_all_none, leaves_all_then}
+use Rattle.cube_io.proofs.Leaving.{leaves_all_map, leaves_all_none, leaves_all_then}
 use Rattle.cube_io.proofs.Trails.{gained_none, gained_then, gained_map}
 use Rattle.cube_server.specs.Logs.{Call}
 use Rattle.cube_server.specs.Seen.{DeskState}
@@ -186,7 +186,7 @@ is_or_not NoMemory = inr (λ e. cc)
 pub record OneAnswer (ask : Ask) (reply : Reply) (w w' x x' : List Room → ℕ → State → Type 0) (a b : DeskState) (s t : StoreState) : Type 0 where
   pub answered : Answered a.manner ask a.rooms b.rooms a.outcomes b.outcomes s.faults t.faults reply
   pub manner : b.manner ≡ a.manner
-  pub room : b.room + 1 ≡ a.room
+  pub capacity : b.capacity + 1 ≡ a.capacity
   pub told : t.told ≡ s.told
   pub names : IsTrue s.told → t.names ≡ s.names
   pub within_stays : (r : List Room) (log : ℕ) (state : State) → w' r log state ↔ w r log state
@@ -234,8 +234,8 @@ endures_answer ask reply w w' x x' a b s t one = by (is_or_not one.answered.outc
         let rose = (one.answered.failed is).0 in
         record {
           manner = one.manner;
-          counted = one_more out a.outcomes b.outcomes a.room b.room one.answered.added one.room;
-          fewer = omega (arith, one.room);
+          counted = one_more out a.outcomes b.outcomes a.capacity b.capacity one.answered.added one.capacity;
+          fewer = omega (arith, one.capacity);
           told = one.told;
           names = one.names;
           asked = called;
@@ -256,8 +256,8 @@ endures_answer ask reply w w' x x' a b s t one = by (is_or_not one.answered.outc
         let same : t.faults ≡ s.faults = one.answered.steady other in
         record {
           manner = one.manner;
-          counted = one_more out a.outcomes b.outcomes a.room b.room one.answered.added one.room;
-          fewer = omega (arith, one.room);
+          counted = one_more out a.outcomes b.outcomes a.capacity b.capacity one.answered.added one.capacity;
+          fewer = omega (arith, one.capacity);
           told = one.told;
           names = one.names;
           asked = called;
@@ -278,7 +278,7 @@ endures_answer ask reply w w' x x' a b s t one = by (is_or_not one.answered.outc
 pub record OneMiss (a b : DeskState) : Type 0 where
   pub manner : b.manner ≡ a.manner
   pub rooms : b.rooms ≡ a.rooms
-  pub room : b.room + 1 ≡ a.room
+  pub capacity : b.capacity + 1 ≡ a.capacity
   pub added : b.outcomes ≡ a.outcomes ++ NoMemory ∷ []
 
 abbrev pub called_missed : (a b : DeskState) → OneMiss a b → Called a b
@@ -290,8 +290,8 @@ endures_miss w w' x x' a b s one ws xs =
     let c : faults_in b.outcomes ≡ faults_in a.outcomes = ap faults_in one.added ∙ count_more a.outcomes NoMemory ∙ omega arith in
     record {
       manner = one.manner;
-      counted = one_more NoMemory a.outcomes b.outcomes a.room b.room one.added one.room;
-      fewer = omega (arith, one.room);
+      counted = one_more NoMemory a.outcomes b.outcomes a.capacity b.capacity one.added one.capacity;
+      fewer = omega (arith, one.capacity);
       told = refl;
       names = λ h. refl;
       asked = called_missed a b one;

@@ -30,7 +30,7 @@ quiet_meets op lines conns conns' desk log k o same = record {
   sends = [];
   starved = [];
   shown = sym (append-nil (sends_in log));
-  runs = λ n os ss bs cs. same (run conns n (course desk.rooms desk.room os ss bs cs log)) refl ∙ ap (λ (z : List Call). run conns' n (course desk.rooms desk.room os ss bs z log)) (sym (append-nil cs));
+  runs = λ n os ss bs cs. same (run conns n (course desk.rooms desk.capacity os ss bs cs log)) refl ∙ ap (λ (z : List Call). run conns' n (course desk.rooms desk.capacity os ss bs z log)) (sym (append-nil cs));
 }
 
 -- what is known where one was taken out
@@ -63,21 +63,21 @@ unknown_closed m c old new conns desk log none same k o =
 
 -- ---- opened
 
--- the test whether there is room
-abbrev room_for : ℕ → List (ℕ × List ℕ) → Bool
-room_for c conns = is_open c conns || nat_lt (length conns) most_conns
+-- the test whether there is space
+abbrev capacity_for : ℕ → List (ℕ × List ℕ) → Bool
+capacity_for c conns = is_open c conns || nat_lt (length conns) most_conns
 
 or_true : (a b : Bool) → b ≡ true → (a || b) ≡ true
 or_true true b e = refl
 or_true false b e = e
 
 new_conn : (m : Manner) (c : ℕ) (new : List Line) (e : Ear) (conns : List (ℕ × List ℕ)) (desk : DeskState) (log : List LogEntry)
-    → room_for c conns ≡ true → AreKept new (without c conns) → has c new ≡ false → AreOpen new log → IsSound c log → kept_bytes e ≡ []
+    → capacity_for c conns ≡ true → AreKept new (without c conns) → has c new ≡ false → AreOpen new log → IsSound c log → kept_bytes e ≡ []
     → Meets (met m (Opened c)) (new ++ line c e ∷ []) conns desk desk log log
-new_conn m c new e conns desk log room k none o here fresh =
+new_conn m c new e conns desk log capacity k none o here fresh =
     quiet_meets (met m (Opened c)) (new ++ line c e ∷ []) conns (without c conns ++ (c, []) ∷ []) desk log
     (put_kept c e [] new (without c conns) k (rw fresh keeps_none)) (put_open c e new log none o here)
-    (λ r is. let t : room_for c r.conns ≡ true = rw is room in rw t (ap (λ (z : List (ℕ × List ℕ)). record r { conns = without c z ++ (c, []) ∷ [] }) is))
+    (λ r is. let t : capacity_for c r.conns ≡ true = rw is capacity in rw t (ap (λ (z : List (ℕ × List ℕ)). record r { conns = without c z ++ (c, []) ∷ [] }) is))
 
 pub opened_meets : (m : Manner) (c : ℕ) (old new last : List Line) (e : Ear) (conns : List (ℕ × List ℕ)) (desk : DeskState) (log : List LogEntry)
     → IsAnew c old new → last ≡ new ++ line c e ∷ [] → kept_bytes e ≡ [] → AreKept old conns → AreOpenBut c old log → IsSound c log
@@ -89,18 +89,18 @@ opened_meets m c old new last e conns desk log (inl (was, t)) l fresh k o here =
 opened_meets m c old new last e conns desk log (inr (none, few, same)) l fresh k o here =
     let n = none_kept c old conns none k in
     let many = as_many old conns k in
-    let room : nat_lt (length conns) 64 ≡ true = grind (arith, nat_tests, many, few) in
+    let capacity : nat_lt (length conns) 64 ≡ true = grind (arith, nat_tests, many, few) in
     let kept : AreKept old (without c conns) = rw n.1 k in
-    rw (l, same) (new_conn m c old e conns desk log (or_true (is_open c conns) (nat_lt (length conns) 64) room) kept none (all_open c old log none o) here fresh)
+    rw (l, same) (new_conn m c old e conns desk log (or_true (is_open c conns) (nat_lt (length conns) 64) capacity) kept none (all_open c old log none o) here fresh)
 
--- there was no room
+-- there was no space
 pub busy_meets : (m : Manner) (c : ℕ) (old new : List Line) (conns : List (ℕ × List ℕ)) (desk : DeskState) (log log' : List LogEntry) (live : Bool)
     → has c old ≡ false → length old ≡ 64 → new ≡ old → AreKept old conns → AreOpenBut c old log → Speaks c (replied c (reply.Fixed constant.Busy) true false) log log' live
     → Meets (met m (Opened c)) new conns desk desk log log'
 busy_meets m c old new conns desk log log' live none full same k o s =
     let n = none_kept c old conns none k in
     let many = as_many old conns k in
-    let room : nat_lt (length conns) 64 ≡ false = grind (arith, nat_tests, many, full) in
+    let capacity : nat_lt (length conns) 64 ≡ false = grind (arith, nat_tests, many, full) in
     record {
       conns' = conns;
       kept = λ some. rw same k;
@@ -111,7 +111,7 @@ busy_meets m c old new conns desk log log' live none full same k o s =
       starved = [];
       shown = s.shown;
       runs = λ i os ss bs cs.
-          rw (n.0, room) (ap (λ (t : Turn). run conns i t.course) (s.runs (course desk.rooms desk.room os [] bs cs []) ss) ∙ ap (λ (z : List Call). run conns i (course desk.rooms desk.room os ss bs z log')) (sym (append-nil cs)));
+          rw (n.0, capacity) (ap (λ (t : Turn). run conns i t.course) (s.runs (course desk.rooms desk.capacity os [] bs cs []) ss) ∙ ap (λ (z : List Call). run conns i (course desk.rooms desk.capacity os ss bs z log')) (sym (append-nil cs)));
     }
 
 -- ---- a piece came
@@ -128,7 +128,7 @@ left_conns live c text conns = without c conns ++ (if live then (c, text) ∷ []
 
 came_meets : (m : Manner) (c : ℕ) (piece : List ℕ) (live : Bool) (last : List Line) (conns : List (ℕ × List ℕ)) (x y : DeskState) (u v : List LogEntry) → is_open c conns ≡ true
     → Deals c (dealt_all m c (behind (length (came_on c conns)) (came_on c conns ++ piece))) x y u v live
-    → (0 < y.room → AreKept last (left_conns live c (came_on c conns ++ piece) conns)) → AreOpen last v → Meets (met m (Came c piece)) last conns x y u v
+    → (0 < y.capacity → AreKept last (left_conns live c (came_on c conns ++ piece) conns)) → AreOpen last v → Meets (met m (Came c piece)) last conns x y u v
 came_meets m c piece live last conns x y u v is d k opens = record {
   conns' = left_conns live c (came_on c conns ++ piece) conns;
   kept = k;
@@ -139,7 +139,7 @@ came_meets m c piece live last conns x y u v is d k opens = record {
   starved = d.starved;
   shown = d.shown;
   runs = λ n os ss bs cs.
-      rw is (ap (kept c (came_on c conns ++ piece) (run conns n (course x.rooms x.room (d.asked.added ++ os) (d.sends ++ ss) (d.starved ++ bs) cs u))) (d.runs os ss bs cs));
+      rw is (ap (kept c (came_on c conns ++ piece) (run conns n (course x.rooms x.capacity (d.asked.added ++ os) (d.sends ++ ss) (d.starved ++ bs) cs u))) (d.runs os ss bs cs));
 }
 
 -- the connection stays open

@@ -52,8 +52,8 @@ pub record Progress (m : Manner) (c : ℕ) (stream piece rest bytes : List ℕ) 
   pub starved : List Bool
   pub shown : sends_in log' ≡ sends_in log ++ sends
   pub runs : (os : List Outcome) (ss : List (Option ℕ)) (bs : List Bool) (cs : List Call)
-      → dealt_all m c (behind (length stream) (stream ++ piece)) (turn (course old.rooms old.room (asked.added ++ os) (sends ++ ss) (starved ++ bs) cs log) true)
-      ≡ dealt_all m c (behind (length (stream ++ past)) (stream ++ piece)) (turn (course new.rooms new.room os ss bs (cs ++ asked.calls) log') true)
+      → dealt_all m c (behind (length stream) (stream ++ piece)) (turn (course old.rooms old.capacity (asked.added ++ os) (sends ++ ss) (starved ++ bs) cs log) true)
+      ≡ dealt_all m c (behind (length (stream ++ past)) (stream ++ piece)) (turn (course new.rooms new.capacity os ss bs (cs ++ asked.calls) log') true)
 
 pub progress_start : (m : Manner) (c : ℕ) (stream piece bytes : List ℕ) (desk : DeskState) (log : List LogEntry) → Keeps stream bytes → Progress m c stream piece piece bytes desk desk log log
 progress_start m c stream piece bytes desk log k = record {
@@ -89,16 +89,16 @@ next_said stream past t rest piece h n split one =
 onward : (m : Manner) (c : ℕ) (stream piece t rest bytes : List ℕ) (h : Heard) (n : Conn) (a x y : DeskState) (log u v : List LogEntry) (live : Bool)
     → (g : Progress m c stream piece (t ++ rest) bytes a x log u) → OneHeard (stream ++ g.past) t h n → (d : Deals c (dealt_all m c (said h n)) x y u v live)
     → (os : List Outcome) (ss : List (Option ℕ)) (bs : List Bool) (cs : List Call)
-    → dealt_all m c (behind (length stream) (stream ++ piece)) (turn (course a.rooms a.room ((g.asked.added ++ d.asked.added) ++ os) ((g.sends ++ d.sends) ++ ss) ((g.starved ++ d.starved) ++ bs) cs log) true)
-    ≡ dealt_all m c (behind (length (stream ++ (g.past ++ t))) (stream ++ piece)) (turn (course y.rooms y.room os ss bs (cs ++ (g.asked.calls ++ d.asked.calls)) v) live)
+    → dealt_all m c (behind (length stream) (stream ++ piece)) (turn (course a.rooms a.capacity ((g.asked.added ++ d.asked.added) ++ os) ((g.sends ++ d.sends) ++ ss) ((g.starved ++ d.starved) ++ bs) cs log) true)
+    ≡ dealt_all m c (behind (length (stream ++ (g.past ++ t))) (stream ++ piece)) (turn (course y.rooms y.capacity os ss bs (cs ++ (g.asked.calls ++ d.asked.calls)) v) live)
 onward m c stream piece t rest bytes h n a x y log u v live g one d os ss bs cs =
     let after = behind (length (stream ++ (g.past ++ t))) (stream ++ piece) in
     rw (append_assoc g.asked.added d.asked.added os, append_assoc g.sends d.sends ss, append_assoc g.starved d.starved bs) (
     g.runs (d.asked.added ++ os) (d.sends ++ ss) (d.starved ++ bs) cs
-    ∙ ap (λ (l : List Item). dealt_all m c l (turn (course x.rooms x.room (d.asked.added ++ os) (d.sends ++ ss) (d.starved ++ bs) (cs ++ g.asked.calls) u) true)) (next_said stream g.past t rest piece h n g.split one)
-    ∙ dealt_more m c (said h n) after (turn (course x.rooms x.room (d.asked.added ++ os) (d.sends ++ ss) (d.starved ++ bs) (cs ++ g.asked.calls) u) true)
+    ∙ ap (λ (l : List Item). dealt_all m c l (turn (course x.rooms x.capacity (d.asked.added ++ os) (d.sends ++ ss) (d.starved ++ bs) (cs ++ g.asked.calls) u) true)) (next_said stream g.past t rest piece h n g.split one)
+    ∙ dealt_more m c (said h n) after (turn (course x.rooms x.capacity (d.asked.added ++ os) (d.sends ++ ss) (d.starved ++ bs) (cs ++ g.asked.calls) u) true)
     ∙ ap (dealt_all m c after) (d.runs os ss bs (cs ++ g.asked.calls))
-    ∙ ap (λ (l : List Call). dealt_all m c after (turn (course y.rooms y.room os ss bs l v) live)) (append_assoc cs g.asked.calls d.asked.calls)
+    ∙ ap (λ (l : List Call). dealt_all m c after (turn (course y.rooms y.capacity os ss bs l v) live)) (append_assoc cs g.asked.calls d.asked.calls)
     )
 
 pub one_more : (m : Manner) (c : ℕ) (stream piece t rest bytes bytes' : List ℕ) (h : Heard) (n : Conn) (a x y : DeskState) (log u v : List LogEntry)
@@ -132,11 +132,11 @@ piece_closed m c stream piece t rest bytes h n a x y log u v same g one d talks 
   shown = d.shown ∙ ap (λ (l : List (Option ℕ)). l ++ d.sends) g.shown ∙ append_assoc (sends_in log) g.sends d.sends;
   runs = λ os ss bs cs.
       onward m c stream piece t rest bytes h n a x y log u v false g one d os ss bs cs
-      ∙ stopped m c (behind (length (stream ++ (g.past ++ t))) (stream ++ piece)) (turn (course y.rooms y.room os ss bs (cs ++ (g.asked.calls ++ d.asked.calls)) v) false) refl;
+      ∙ stopped m c (behind (length (stream ++ (g.past ++ t))) (stream ++ piece)) (turn (course y.rooms y.capacity os ss bs (cs ++ (g.asked.calls ++ d.asked.calls)) v) false) refl;
 }
 
 -- the asks are used up
-pub piece_spent : (m : Manner) (c : ℕ) (stream piece rest bytes : List ℕ) (a x : DeskState) (log u : List LogEntry) → Progress m c stream piece rest bytes a x log u → Talks c log u true → x.room ≡ 0
+pub piece_spent : (m : Manner) (c : ℕ) (stream piece rest bytes : List ℕ) (a x : DeskState) (log u : List LogEntry) → Progress m c stream piece rest bytes a x log u → Talks c log u true → x.capacity ≡ 0
     → Deals c (dealt_all m c (behind (length stream) (stream ++ piece))) a x log u true
 piece_spent m c stream piece rest bytes a x log u g talks none = record {
   talks = talks;
@@ -145,7 +145,7 @@ piece_spent m c stream piece rest bytes a x log u g talks none = record {
   starved = g.starved;
   shown = g.shown;
   runs = λ os ss bs cs.
-      g.runs os ss bs cs ∙ stopped m c (behind (length (stream ++ g.past)) (stream ++ piece)) (turn (course x.rooms x.room os ss bs (cs ++ g.asked.calls) u) true) (ap (nat_lt 0) none);
+      g.runs os ss bs cs ∙ stopped m c (behind (length (stream ++ g.past)) (stream ++ piece)) (turn (course x.rooms x.capacity os ss bs (cs ++ g.asked.calls) u) true) (ap (nat_lt 0) none);
 }
 
 -- all of it was heard
@@ -161,8 +161,8 @@ piece_heard m c stream piece bytes a x log u g talks =
         shown = g.shown;
         runs = λ os ss bs cs.
             g.runs os ss bs cs
-            ∙ ap (λ (l : List ℕ). dealt_all m c (behind (length (stream ++ l)) (stream ++ piece)) (turn (course x.rooms x.room os ss bs (cs ++ g.asked.calls) u) true)) (sym all)
-            ∙ ap (λ (l : List Item). dealt_all m c l (turn (course x.rooms x.room os ss bs (cs ++ g.asked.calls) u) true)) (behind_all (stream ++ piece));
+            ∙ ap (λ (l : List ℕ). dealt_all m c (behind (length (stream ++ l)) (stream ++ piece)) (turn (course x.rooms x.capacity os ss bs (cs ++ g.asked.calls) u) true)) (sym all)
+            ∙ ap (λ (l : List Item). dealt_all m c l (turn (course x.rooms x.capacity os ss bs (cs ++ g.asked.calls) u) true)) (behind_all (stream ++ piece));
       },
       rw all g.keeps,
     )

@@ -41,13 +41,13 @@ going conns events rooms asks os ss bs cs log some more =
 pub record Stands (start now : DeskState) (events0 events : ℕ) (log : List LogEntry) (lines : List Line) : Type 0 where
   pub manner : now.manner ≡ start.manner
   pub conns : List (ℕ × List ℕ)
-  pub kept : 0 < now.room → AreKept lines conns
+  pub kept : 0 < now.capacity → AreKept lines conns
   pub live : AreOpen lines log
   pub unended : has_end log ≡ false
   pub asked : Called start now
   pub starved : List Bool
   pub runs : (os : List Outcome) (ss : List (Option ℕ)) (bs : List Bool)
-      → run_of start.manner start.rooms (events_in log) (luck_of (stated_at start events0) (asked.added ++ os) (sends_in log ++ ss) (starved ++ bs)) ≡ run conns events (course now.rooms now.room os ss bs asked.calls log)
+      → run_of start.manner start.rooms (events_in log) (luck_of (stated_at start events0) (asked.added ++ os) (sends_in log ++ ss) (starved ++ bs)) ≡ run conns events (course now.rooms now.capacity os ss bs asked.calls log)
 
 pub stands_start : (desk : DeskState) (events : ℕ) (log : List LogEntry) (lines : List Line) → log ≡ [] → lines ≡ [] → Stands desk desk events events log lines
 unfolding run_of
@@ -77,17 +77,17 @@ any_more (x ∷ es) e none last = by (is_end x) none (λ n. any_more es e n last
     by false n more = more n
 
 -- the run so far, with one event more
-run_once : (start now : DeskState) (events0 events : ℕ) (log : List LogEntry) (lines : List Line) (e : Arrival) → (s : Stands start now events0 events log lines) → 0 < events → 0 < now.room
+run_once : (start now : DeskState) (events0 events : ℕ) (log : List LogEntry) (lines : List Line) (e : Arrival) → (s : Stands start now events0 events log lines) → 0 < events → 0 < now.capacity
     → (os : List Outcome) (ss : List (Option ℕ)) (bs : List Bool) → run_of start.manner start.rooms (events_in log ++ e ∷ []) (luck_of (stated_at start events0) (s.asked.added ++ os) (sends_in log ++ ss) (s.starved ++ bs))
-    ≡ met start.manner e (run s.conns (events - 1) (course now.rooms now.room os ss bs s.asked.calls (log ++ Heard e ∷ [])))
+    ≡ met start.manner e (run s.conns (events - 1) (course now.rooms now.capacity os ss bs s.asked.calls (log ++ Heard e ∷ [])))
 unfolding run_of
 run_once start now events0 events log lines e s some more os ss bs =
     run_more start.manner (events_in log) e (begin start.rooms (luck_of (stated_at start events0) (s.asked.added ++ os) (sends_in log ++ ss) (s.starved ++ bs)))
     ∙ ap (once start.manner e) (s.runs os ss bs)
-    ∙ ap (λ (b : Bool). if b then run s.conns events (course now.rooms now.room os ss bs s.asked.calls log) else met start.manner e (took e (run s.conns events (course now.rooms now.room os ss bs s.asked.calls log)))) (going s.conns events now.rooms now.room os ss bs s.asked.calls log some more)
+    ∙ ap (λ (b : Bool). if b then run s.conns events (course now.rooms now.capacity os ss bs s.asked.calls log) else met start.manner e (took e (run s.conns events (course now.rooms now.capacity os ss bs s.asked.calls log)))) (going s.conns events now.rooms now.capacity os ss bs s.asked.calls log some more)
 
 pub stands_more : (start x y : DeskState) (events0 events : ℕ) (u v : List LogEntry) (lines lines' : List Line)
-    → (s : Stands start x events0 events u lines) → y.manner ≡ x.manner → 0 < events → 0 < x.room → Takes lines' s.conns x y u v
+    → (s : Stands start x events0 events u lines) → y.manner ≡ x.manner → 0 < events → 0 < x.capacity → Takes lines' s.conns x y u v
     → Stands start y events0 (events - 1) v lines'
 stands_more start x y events0 events u v lines lines' s same some more t =
     let d = t.meets in
@@ -104,7 +104,7 @@ stands_more start x y events0 events u v lines lines' s same some more t =
       runs = λ os ss bs.
           rw (ev, sh, append_assoc s.asked.added d.asked.added os, append_assoc (sends_in u) d.sends ss, append_assoc s.starved d.starved bs) (
           run_once start x events0 events u lines t.event s some more (d.asked.added ++ os) (d.sends ++ ss) (d.starved ++ bs)
-          ∙ ap (λ (m : Manner). met m t.event (run s.conns (events - 1) (course x.rooms x.room (d.asked.added ++ os) (d.sends ++ ss) (d.starved ++ bs) s.asked.calls (u ++ Heard t.event ∷ [])))) (sym s.manner)
+          ∙ ap (λ (m : Manner). met m t.event (run s.conns (events - 1) (course x.rooms x.capacity (d.asked.added ++ os) (d.sends ++ ss) (d.starved ++ bs) s.asked.calls (u ++ Heard t.event ∷ [])))) (sym s.manner)
           ∙ d.runs (events - 1) os ss bs s.asked.calls
           );
     }
@@ -112,7 +112,7 @@ stands_more start x y events0 events u v lines lines' s same some more t =
 -- ---- its ends
 
 serves_by : (start now : DeskState) (events0 events : ℕ) (log : List LogEntry) (conns : List (ℕ × List ℕ)) (starved : List Bool) (asked : Called start now)
-    → run_of start.manner start.rooms (events_in log) (luck_of (stated_at start events0) asked.added (sends_in log) starved) ≡ run conns events (course now.rooms now.room [] [] [] asked.calls log) → Serves start now events0 log
+    → run_of start.manner start.rooms (events_in log) (luck_of (stated_at start events0) asked.added (sends_in log) starved) ≡ run conns events (course now.rooms now.capacity [] [] [] asked.calls log) → Serves start now events0 log
 serves_by start now events0 events log conns starved asked runs = record {
   outcomes = asked.added;
   starved = starved;
@@ -131,7 +131,7 @@ stands_done start now events0 events log log' lines s same = rw same (
     )
 
 -- the end came
-pub stands_end : (start now : DeskState) (events0 events : ℕ) (log log' : List LogEntry) (lines : List Line) → Stands start now events0 events log lines → 0 < events → 0 < now.room → log' ≡ log ++ Heard End ∷ []
+pub stands_end : (start now : DeskState) (events0 events : ℕ) (log log' : List LogEntry) (lines : List Line) → Stands start now events0 events log lines → 0 < events → 0 < now.capacity → log' ≡ log ++ Heard End ∷ []
     → Serves start now events0 log'
 stands_end start now events0 events log log' lines s some more e =
     let runs = run_once start now events0 events log lines End s some more [] [] [] in
@@ -153,7 +153,7 @@ pub record Onward (start y : DeskState) (events0 events : ℕ) (u v : List LogEn
   pub longer : length (events_in v) ≡ length (events_in u) + 1
 
 pub onward : (start x y : DeskState) (events0 taken : ℕ) (u v : List LogEntry) (lines lines' : List Line)
-    → Stands start x events0 (events0 - taken) u lines → y.manner ≡ x.manner → taken < events0 → 0 < x.room → ((conns : List (ℕ × List ℕ)) → AreKept lines conns → Takes lines' conns x y u v)
+    → Stands start x events0 (events0 - taken) u lines → y.manner ≡ x.manner → taken < events0 → 0 < x.capacity → ((conns : List (ℕ × List ℕ)) → AreKept lines conns → Takes lines' conns x y u v)
     → Onward start y events0 (events0 - (taken + 1)) u v lines'
 onward start x y events0 taken u v lines lines' s same few some takes =
     let t = takes s.conns (s.kept some) in

@@ -52,7 +52,7 @@ pub record Called (old new : DeskState) : Type 0 where
   pub matched : filter found_memory added ≡ filter found_memory (map (λ c. c.outcome) calls)
   pub fresh : FailedFresh old.manner old.rooms calls
 
--- What asks do to a desk and to a store. The desk's manner stays, and each ask takes room for one and leaves one outcome. The store
+-- What asks do to a desk and to a store. The desk's manner stays, and each ask takes space for one and leaves one outcome. The store
 -- tells what it told and was asked for no name. Where `within` held of the rooms at entry, it holds at each state that a log gains of the
 -- rooms that some of the asks leave, and at exit of the last rooms. Beyond what a crash could leave before, it leaves the history of such
 -- rooms, or that with the request of the ask in hand. Where `exact` held and the journal failed in no ask, it holds at exit. The count
@@ -60,8 +60,8 @@ pub record Called (old new : DeskState) : Type 0 where
 -- no room's history stayed.
 pub record Endures (within within' exact exact' : List Room → ℕ → State → Type 0) (old new : DeskState) (store store' : StoreState) : Type 0 where
   pub manner : new.manner ≡ old.manner
-  pub counted : new.room + length new.outcomes ≡ old.room + length old.outcomes
-  pub fewer : new.room ≤ old.room
+  pub counted : new.capacity + length new.outcomes ≡ old.capacity + length old.outcomes
+  pub fewer : new.capacity ≤ old.capacity
   pub told : store'.told ≡ store.told
   pub names : IsTrue store.told → store'.names ≡ store.names
   pub asked : Called old new

@@ -57,7 +57,7 @@ pub record IsTakenOut (c : ℕ) (ear : Ear) (old new : List Line) : Type 0 where
   pub was : old ≡ front ++ record { number = c; ear = ear } ∷ after
   pub now : new ≡ front ++ after
 
--- a connection of the number is to be new: one was taken out, or there was none and there is room
+-- a connection of the number is to be new: one was taken out, or there was none and there is space
 abbrev pub IsAnew : ℕ → List Line → List Line → Type 0
 IsAnew c old new = ((ear : Ear) × IsTakenOut c ear old new) ⊎ ((has c old ≡ false) × (length old < 64) × (new ≡ old))
 
@@ -66,8 +66,8 @@ abbrev pub AreOpen : List Line → List LogEntry → Type 0
 AreOpen [] log = ⊤
 AreOpen (l ∷ lines) log = IsSound l.number log × (has l.number lines ≡ false) × AreOpen lines log
 
--- There is room for all connections; so many are lent out.
-pub record HasRoom (lines : Lines) (lent : ℕ) : Type 0 where
+-- There is space for all connections; so many are lent out.
+pub record HasCapacity (lines : Lines) (lent : ℕ) : Type 0 where
   pub few : vec_len lines.lines + vec_len lines.spare + lent ≡ 64
   pub lines_room : 64 ≤ vec_capacity lines.lines
   pub spare_room : 64 ≤ vec_capacity lines.spare

@@ -76,7 +76,7 @@ pub record Deals (c : ℕ) (op : Turn → Turn) (old new : DeskState) (log log' 
   pub starved : List Bool
   pub shown : sends_in log' ≡ sends_in log ++ sends
   pub runs : (os : List Outcome) (ss : List (Option ℕ)) (bs : List Bool) (cs : List Call)
-      → op (turn (course old.rooms old.room (asked.added ++ os) (sends ++ ss) (starved ++ bs) cs log) true) ≡ turn (course new.rooms new.room os ss bs (cs ++ asked.calls) log') live
+      → op (turn (course old.rooms old.capacity (asked.added ++ os) (sends ++ ss) (starved ++ bs) cs log) true) ≡ turn (course new.rooms new.capacity os ss bs (cs ++ asked.calls) log') live
 
 -- the reply to what a request wants: where it goes out, the request was dealt with
 abbrev pub MakesReply : Wanted → DeskState → DeskState → Reply → Type 0
@@ -87,7 +87,7 @@ MakesReply w old new r =
 -- that an open connection keeps what goes on as the stream with the piece does.
 pub record HearsPiece (c : ℕ) (stream piece : List ℕ) (old new : DeskState) (log log' : List LogEntry) (left : Left) : Type 0 where
   pub deals : Deals c (dealt_all old.manner c (behind (length stream) (stream ++ piece))) old new log log' (is_on left)
-  pub goes : 0 < new.room → OnGoes left (stream ++ piece)
+  pub goes : 0 < new.capacity → OnGoes left (stream ++ piece)
 
 -- what is sent where the client may wait for leave
 abbrev pub body_said : ℕ → Bool → Turn → Turn
@@ -103,7 +103,7 @@ dead_said c (heard.Bad fixed) t = replied c (reply.Fixed fixed) true false t
 -- a step of the definition at an event: which connections are open behind it is told too
 pub record Meets (op : Run → Run) (lines' : List Line) (conns : List (ℕ × List ℕ)) (old new : DeskState) (log log' : List LogEntry) : Type 0 where
   pub conns' : List (ℕ × List ℕ)
-  pub kept : 0 < new.room → AreKept lines' conns'
+  pub kept : 0 < new.capacity → AreKept lines' conns'
   pub live : AreOpen lines' log'
   pub quiet : events_in log' ≡ events_in log
   pub asked : Called old new
@@ -111,7 +111,7 @@ pub record Meets (op : Run → Run) (lines' : List Line) (conns : List (ℕ × L
   pub starved : List Bool
   pub shown : sends_in log' ≡ sends_in log ++ sends
   pub runs : (n : ℕ) (os : List Outcome) (ss : List (Option ℕ)) (bs : List Bool) (cs : List Call)
-      → op (run conns n (course old.rooms old.room (asked.added ++ os) (sends ++ ss) (starved ++ bs) cs log)) ≡ run conns' n (course new.rooms new.room os ss bs (cs ++ asked.calls) log')
+      → op (run conns n (course old.rooms old.capacity (asked.added ++ os) (sends ++ ss) (starved ++ bs) cs log)) ≡ run conns' n (course new.rooms new.capacity os ss bs (cs ++ asked.calls) log')
 
 -- the same, whatever came on the connections that were open before
 abbrev pub MeetsAll : (Run → Run) → List Line → List Line → DeskState → DeskState → List LogEntry → List LogEntry → Type 0
@@ -126,13 +126,13 @@ pub record Stated : Type 0 where
 abbrev pub luck_of : Stated → List Outcome → List (Option ℕ) → List Bool → Luck
 luck_of stated outcomes sends starved = record { asks = stated.asks; events = stated.events; outcomes = outcomes; sends = sends; starved = starved }
 
--- as many asks as the desk has room for
+-- as many asks as the desk has space for
 abbrev pub stated_at : DeskState → ℕ → Stated
-stated_at desk events = record { asks = desk.room; events = events }
+stated_at desk events = record { asks = desk.capacity; events = events }
 
 -- The log of a whole call that takes so many events at most. It is the log of the definition for the rooms at entry, the events that it
 -- shows, and the stated numbers, the outcomes that were gained, the sends as the log shows them, and what constant replies starved. No
--- outcome is left over, the rooms are those at the end of the definition's run, and as many asks are left as the desk has room for. The
+-- outcome is left over, the rooms are those at the end of the definition's run, and as many asks are left as the desk has space for. The
 -- journal failed only for asks that would have added to a history.
 pub record Serves (old new : DeskState) (events : ℕ) (log : List LogEntry) : Type 0 where
   pub outcomes : List Outcome
@@ -141,7 +141,7 @@ pub record Serves (old new : DeskState) (events : ℕ) (log : List LogEntry) : T
   pub told : log ≡ log_of old.manner old.rooms (events_in log) (luck_of (stated_at old events) outcomes (sends_in log) starved)
   pub ended : new.rooms ≡ end_of old.manner old.rooms (events_in log) (luck_of (stated_at old events) outcomes (sends_in log) starved)
   pub none_left : (run_of old.manner old.rooms (events_in log) (luck_of (stated_at old events) outcomes (sends_in log) starved)).course.outcomes ≡ []
-  pub asks_left : (run_of old.manner old.rooms (events_in log) (luck_of (stated_at old events) outcomes (sends_in log) starved)).course.asks ≡ new.room
+  pub asks_left : (run_of old.manner old.rooms (events_in log) (luck_of (stated_at old events) outcomes (sends_in log) starved)).course.asks ≡ new.capacity
   pub fresh : FailedFresh old.manner old.rooms (calls_of old.manner old.rooms (events_in log) (luck_of (stated_at old events) outcomes (sends_in log) starved))
 
 abbrev pub is_end : Arrival → Bool
@@ -167,6 +167,6 @@ TakesAll lines lines' old new log log' = (conns : List (ℕ × List ℕ)) → Ar
 -- What is said by the fault that ends a call of at most so many events: the wire failed before the stated asks and events were used up;
 -- or one of these was, and both were counted.
 abbrev pub IsCounted : ServeFault → Bool → DeskState → DeskState → ℕ → List LogEntry → Type 0
-IsCounted fault.WireFailed told old new events log = (0 < new.room) × (IsTrue told → length (events_in log) < events)
+IsCounted fault.WireFailed told old new events log = (0 < new.capacity) × (IsTrue told → length (events_in log) < events)
 IsCounted (fault.Spent requests taken) told old new events log =
-    (length new.outcomes ≡ length old.outcomes + requests) × (IsTrue told → length (events_in log) ≡ taken) × (taken ≤ events) × ((new.room ≡ 0) ⊎ (taken ≡ events))
+    (length new.outcomes ≡ length old.outcomes + requests) × (IsTrue told → length (events_in log) ≡ taken) × (taken ≤ events) × ((new.capacity ≡ 0) ⊎ (taken ≡ events))

@@ -36,12 +36,12 @@ fn reply_to<S: Store, D: Desk<S>>(
     wanted: &Wanted,
 ) -> Reply
     requires fits { D.fits desk.old store.old }
-    requires room { 1 ≤ D.room desk.old }
+    requires capacity { 1 ≤ D.capacity desk.old }
     requires phrased { IsPhrased (D.manner desk.old) }
-    ensures deals { let at = desk_of D.manner D.rooms D.room D.outcomes in MakesReply wanted.now (at desk.old) (at desk.new) result }
+    ensures deals { let at = desk_of D.manner D.rooms D.capacity D.outcomes in MakesReply wanted.now (at desk.old) (at desk.new) result }
     ensures phrase { IsTrue (has_phrase (status_of result)) }
     ensures fits { D.fits desk.new store.new }
-    ensures endures { let at = desk_of D.manner D.rooms D.room D.outcomes in Endures (D.within desk.old) (D.within desk.new) (D.exact desk.old) (D.exact desk.new) (at desk.old) (at desk.new) (S.state store.old) (S.state store.new) }
+    ensures endures { let at = desk_of D.manner D.rooms D.capacity D.outcomes in Endures (D.within desk.old) (D.within desk.new) (D.exact desk.old) (D.exact desk.new) (at desk.old) (at desk.new) (S.state store.old) (S.state store.new) }
 {
     match wanted {
         Wanted::Asked(ask) => desk.answer(alloc, store, ask),
@@ -57,12 +57,12 @@ fn make_reply<S: Store, D: Desk<S>>(
     done: &DoneConn,
 ) -> Reply
     requires fits { D.fits desk.old store.old }
-    requires room { 1 ≤ D.room desk.old }
+    requires capacity { 1 ≤ D.capacity desk.old }
     requires phrased { IsPhrased (D.manner desk.old) }
-    ensures deals { let at = desk_of D.manner D.rooms D.room D.outcomes in MakesReply (wanted done.now) (at desk.old) (at desk.new) result }
+    ensures deals { let at = desk_of D.manner D.rooms D.capacity D.outcomes in MakesReply (wanted done.now) (at desk.old) (at desk.new) result }
     ensures phrase { IsTrue (has_phrase (status_of result)) }
     ensures fits { D.fits desk.new store.new }
-    ensures endures { let at = desk_of D.manner D.rooms D.room D.outcomes in Endures (D.within desk.old) (D.within desk.new) (D.exact desk.old) (D.exact desk.new) (at desk.old) (at desk.new) (S.state store.old) (S.state store.new) }
+    ensures endures { let at = desk_of D.manner D.rooms D.capacity D.outcomes in Endures (D.within desk.old) (D.within desk.new) (D.exact desk.old) (D.exact desk.new) (at desk.old) (at desk.new) (S.state store.old) (S.state store.new) }
 {
     match done.wanted(alloc) {
         Ok(wanted) => reply_to(alloc, desk, store, &wanted),
@@ -80,12 +80,12 @@ fn answer_request<S: Store, D: Desk<S>, W: Wire>(
     done: &DoneConn,
 ) -> bool
     requires fits { D.fits desk.old store.old }
-    requires room { 1 ≤ D.room desk.old }
+    requires capacity { 1 ≤ D.capacity desk.old }
     requires phrased { IsPhrased (D.manner desk.old) }
     requires live { IsTrue (W.state wire.old).told → IsSound c (W.state wire.old).log }
-    ensures deals { let at = desk_of D.manner D.rooms D.room D.outcomes in IsTrue (W.state wire.old).told → Deals c (wanted_by (D.manner desk.old) (wanted done.now) c done.now) (at desk.old) (at desk.new) (W.state wire.old).log (W.state wire.new).log result }
+    ensures deals { let at = desk_of D.manner D.rooms D.capacity D.outcomes in IsTrue (W.state wire.old).told → Deals c (wanted_by (D.manner desk.old) (wanted done.now) c done.now) (at desk.old) (at desk.new) (W.state wire.old).log (W.state wire.new).log result }
     ensures fits { D.fits desk.new store.new }
-    ensures endures { let at = desk_of D.manner D.rooms D.room D.outcomes in Endures (D.within desk.old) (D.within desk.new) (D.exact desk.old) (D.exact desk.new) (at desk.old) (at desk.new) (S.state store.old) (S.state store.new) }
+    ensures endures { let at = desk_of D.manner D.rooms D.capacity D.outcomes in Endures (D.within desk.old) (D.within desk.new) (D.exact desk.old) (D.exact desk.new) (at desk.old) (at desk.new) (S.state store.old) (S.state store.new) }
     ensures sending { OnlySends (W.state wire.old) (W.state wire.new) }
 {
     let reply = make_reply(alloc, desk, store, done);
@@ -146,13 +146,13 @@ fn deal_done<S: Store, D: Desk<S>, W: Wire>(
     done: DoneConn,
 ) -> Left
     requires fits { D.fits desk.old store.old }
-    requires room { 1 ≤ D.room desk.old }
+    requires capacity { 1 ≤ D.capacity desk.old }
     requires phrased { IsPhrased (D.manner desk.old) }
     requires live { IsTrue (W.state wire.old).told → IsSound c (W.state wire.old).log }
-    ensures deals { let at = desk_of D.manner D.rooms D.room D.outcomes in IsTrue (W.state wire.old).told → Deals c (wanted_by (D.manner desk.old) (wanted done) c done) (at desk.old) (at desk.new) (W.state wire.old).log (W.state wire.new).log (is_on result) }
+    ensures deals { let at = desk_of D.manner D.rooms D.capacity D.outcomes in IsTrue (W.state wire.old).told → Deals c (wanted_by (D.manner desk.old) (wanted done) c done) (at desk.old) (at desk.new) (W.state wire.old).log (W.state wire.new).log (is_on result) }
     ensures keeps { OnKeeps result [] }
     ensures fits { D.fits desk.new store.new }
-    ensures endures { let at = desk_of D.manner D.rooms D.room D.outcomes in Endures (D.within desk.old) (D.within desk.new) (D.exact desk.old) (D.exact desk.new) (at desk.old) (at desk.new) (S.state store.old) (S.state store.new) }
+    ensures endures { let at = desk_of D.manner D.rooms D.capacity D.outcomes in Endures (D.within desk.old) (D.within desk.new) (D.exact desk.old) (D.exact desk.new) (at desk.old) (at desk.new) (S.state store.old) (S.state store.new) }
     ensures sending { OnlySends (W.state wire.old) (W.state wire.new) }
 {
     if answer_request(alloc, desk, store, wire, c, &done) {
@@ -173,14 +173,14 @@ fn deal<S: Store, D: Desk<S>, W: Wire>(
     heard: Heard,
 ) -> Left
     requires fits { D.fits desk.old store.old }
-    requires room { 1 ≤ D.room desk.old }
+    requires capacity { 1 ≤ D.capacity desk.old }
     requires phrased { IsPhrased (D.manner desk.old) }
     requires live { IsTrue (W.state wire.old).told → IsSound c (W.state wire.old).log }
     requires heard { Fits heard conn }
-    ensures deals { let at = desk_of D.manner D.rooms D.room D.outcomes in IsTrue (W.state wire.old).told → Deals c (dealt_all (D.manner desk.old) c (said heard conn)) (at desk.old) (at desk.new) (W.state wire.old).log (W.state wire.new).log (is_on result) }
+    ensures deals { let at = desk_of D.manner D.rooms D.capacity D.outcomes in IsTrue (W.state wire.old).told → Deals c (dealt_all (D.manner desk.old) c (said heard conn)) (at desk.old) (at desk.new) (W.state wire.old).log (W.state wire.new).log (is_on result) }
     ensures leaves { OnLeaves result conn }
     ensures fits { D.fits desk.new store.new }
-    ensures endures { let at = desk_of D.manner D.rooms D.room D.outcomes in Endures (D.within desk.old) (D.within desk.new) (D.exact desk.old) (D.exact desk.new) (at desk.old) (at desk.new) (S.state store.old) (S.state store.new) }
+    ensures endures { let at = desk_of D.manner D.rooms D.capacity D.outcomes in Endures (D.within desk.old) (D.within desk.new) (D.exact desk.old) (D.exact desk.new) (at desk.old) (at desk.new) (S.state store.old) (S.state store.new) }
     ensures sending { OnlySends (W.state wire.old) (W.state wire.new) }
 {
     match conn {
@@ -210,13 +210,13 @@ pub fn hear_piece<S: Store, D: Desk<S>, W: Wire>(
     piece: &[u8],
 ) -> Left
     requires fits { D.fits desk.old store.old }
-    requires room { 1 ≤ D.room desk.old }
+    requires capacity { 1 ≤ D.capacity desk.old }
     requires phrased { IsPhrased (D.manner desk.old) }
     requires live { IsTrue (W.state wire.old).told → IsSound c (W.state wire.old).log }
-    ensures deals { let at = desk_of D.manner D.rooms D.room D.outcomes in IsTrue (W.state wire.old).told → (stream : List ℕ) → Keeps stream (kept_bytes ear)
+    ensures deals { let at = desk_of D.manner D.rooms D.capacity D.outcomes in IsTrue (W.state wire.old).told → (stream : List ℕ) → Keeps stream (kept_bytes ear)
         → HearsPiece c stream piece.now (at desk.old) (at desk.new) (W.state wire.old).log (W.state wire.new).log result }
     ensures fits { D.fits desk.new store.new }
-    ensures endures { let at = desk_of D.manner D.rooms D.room D.outcomes in Endures (D.within desk.old) (D.within desk.new) (D.exact desk.old) (D.exact desk.new) (at desk.old) (at desk.new) (S.state store.old) (S.state store.new) }
+    ensures endures { let at = desk_of D.manner D.rooms D.capacity D.outcomes in Endures (D.within desk.old) (D.within desk.new) (D.exact desk.old) (D.exact desk.new) (at desk.old) (at desk.new) (S.state store.old) (S.state store.new) }
     ensures sending { OnlySends (W.state wire.old) (W.state wire.new) }
 {
     let mut ear = ear;

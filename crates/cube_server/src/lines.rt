@@ -2,7 +2,7 @@
 ghost use Rattle.std.specs.Prelude.{◌≡◌, ◌<◌, ◌≤◌, ◌+◌, ◌++◌, ◌∷◌, [], length, take, position, false, vec_len, vec_capacity, IfSome, IfNone, IfOk, MatchOption};
 ghost use Rattle.cube_http.specs.Hearing.{Hears};
 ghost use Rattle.cube_http.specs.declared.connection.Heard.TheVariants as heard;
-ghost use Rattle.cube_server.specs.Ears.{kept_bytes, said_before, at_number, has, HasRoom, IsTakenOut};
+ghost use Rattle.cube_server.specs.Ears.{kept_bytes, said_before, at_number, has, HasCapacity, IsTakenOut};
 
 use cube_http::{BodyConn, Fed, HeadConn};
 use cube_model::NoMemory;
@@ -70,7 +70,7 @@ fn place_of(lines: &[Line], c: u32) -> Option<usize>
 fn take_out(lines: &mut Vec<Line>, c: u32) -> Option<Ear>
     ensures some { IfSome result (λ ear. IsTakenOut c ear lines.old.items lines.new.items) }
     ensures none { IfNone result ((has c lines.old.items ≡ false) × (lines.new.items ≡ lines.old.items)) }
-    ensures room { vec_capacity lines.new ≡ vec_capacity lines.old }
+    ensures capacity { vec_capacity lines.new ≡ vec_capacity lines.old }
     ensures len { MatchOption result (vec_len lines.new ≡ vec_len lines.old) (λ ear. vec_len lines.new + 1 ≡ vec_len lines.old) }
 {
     let at = place_of(lines, c)?;
@@ -78,9 +78,9 @@ fn take_out(lines: &mut Vec<Line>, c: u32) -> Option<Ear>
 }
 
 impl Lines {
-    /// No open connection, and room for as many as may be open at once.
+    /// No open connection, and space for as many as may be open at once.
     pub fn new(alloc: Global) -> Result<Lines, NoMemory>
-        ensures { IfOk result (λ lines. HasRoom lines 0 × (lines.lines.items ≡ [])) }
+        ensures { IfOk result (λ lines. HasCapacity lines 0 × (lines.lines.items ≡ [])) }
     {
         Ok(Lines {
             lines: Vec::with_capacity(alloc, MAX_CONNS)?,
@@ -90,17 +90,17 @@ impl Lines {
 
     /// Takes an open connection out.
     pub fn take(&mut self, c: u32) -> Option<Ear>
-        requires { HasRoom self.old 0 }
-        ensures some { IfSome result (λ ear. HasRoom self.new 1 × IsTakenOut c ear self.old.lines.items self.new.lines.items) }
-        ensures none { IfNone result (HasRoom self.new 0 × (has c self.old.lines.items ≡ false) × (self.new.lines.items ≡ self.old.lines.items)) }
+        requires { HasCapacity self.old 0 }
+        ensures some { IfSome result (λ ear. HasCapacity self.new 1 × IsTakenOut c ear self.old.lines.items self.new.lines.items) }
+        ensures none { IfNone result (HasCapacity self.new 0 × (has c self.old.lines.items ≡ false) × (self.new.lines.items ≡ self.old.lines.items)) }
     {
         take_out(&mut self.lines, c)
     }
 
     /// Puts a connection behind the others.
     pub fn put(&mut self, c: u32, ear: Ear)
-        requires { HasRoom self.old 1 }
-        ensures room { HasRoom self.new 0 }
+        requires { HasCapacity self.old 1 }
+        ensures capacity { HasCapacity self.new 0 }
         ensures lines { self.new.lines.items ≡ self.old.lines.items ++ record { number = c; ear = ear } ∷ [] }
     {
         self.lines.push_reserved(Line { number: c, ear });
@@ -108,8 +108,8 @@ impl Lines {
 
     /// Takes back what heard a connection that is closed.
     pub fn give(&mut self, head: HeadConn)
-        requires { HasRoom self.old 1 }
-        ensures room { HasRoom self.new 0 }
+        requires { HasCapacity self.old 1 }
+        ensures capacity { HasCapacity self.new 0 }
         ensures lines { self.new.lines.items ≡ self.old.lines.items }
     {
         self.spare.push_reserved(head);
@@ -117,9 +117,9 @@ impl Lines {
 
     /// What hears a new connection, unless as many are open as may be.
     pub fn lend(&mut self) -> Option<HeadConn>
-        requires { HasRoom self.old 0 }
-        ensures some { IfSome result (λ head. HasRoom self.new 1 × (head ≡ []) × (length self.old.lines.items < 64)) }
-        ensures none { IfNone result (HasRoom self.new 0 × (length self.old.lines.items ≡ 64)) }
+        requires { HasCapacity self.old 0 }
+        ensures some { IfSome result (λ head. HasCapacity self.new 1 × (head ≡ []) × (length self.old.lines.items < 64)) }
+        ensures none { IfNone result (HasCapacity self.new 0 × (length self.old.lines.items ≡ 64)) }
         ensures lines { self.new.lines.items ≡ self.old.lines.items }
     {
         match self.spare.pop() {

@@ -6,7 +6,7 @@ ghost use Rattle.cube_io.specs.Wires.{Arrival, LogEntry, IsSound, FitsBuffer, ar
 ghost use Rattle.cube_io.specs.Wires.LogEntry.{Heard};
 ghost use Rattle.cube_io.specs.Wires.Arrival.{Opened, Came, Closed, End};
 ghost use Rattle.cube_server.specs.Crashes.{Endures};
-ghost use Rattle.cube_server.specs.Ears.{has, IsAnew, HasRoom, AreOpen, AreOpenBut, AreOpenAt, is_last};
+ghost use Rattle.cube_server.specs.Ears.{has, IsAnew, HasCapacity, AreOpen, AreOpenBut, AreOpenAt, is_last};
 ghost use Rattle.cube_server.specs.Logs.{met};
 ghost use Rattle.cube_server.specs.Pools.{IsFree};
 ghost use Rattle.cube_server.specs.Seen.{DeskState, desk_of, OnlySends};
@@ -26,7 +26,7 @@ use std::alloc::Global;
 pub enum ServeFault {
     /// The wire failed; this was counted.
     WireFailed,
-    /// The desk has no room for more asks, or the stated events were taken.
+    /// The desk has no space for more asks, or the stated events were taken.
     Spent {
         /// How many outcomes the desk gained.
         requests: u64,
@@ -46,11 +46,11 @@ enum Taken {
     Failed,
 }
 
-// What hears a new connection of the number, where there is room for one more.
+// What hears a new connection of the number, where there is space for one more.
 fn fresh_ear(lines: &mut Lines, c: u32) -> Option<HeadConn>
-    requires { HasRoom lines.old 0 }
-    ensures some { IfSome result (λ head. HasRoom lines.new 1 × (head ≡ []) × IsAnew c lines.old.lines.items lines.new.lines.items) }
-    ensures none { IfNone result (HasRoom lines.new 0 × (has c lines.old.lines.items ≡ false) × (length lines.old.lines.items ≡ 64) × (lines.new.lines.items ≡ lines.old.lines.items)) }
+    requires { HasCapacity lines.old 0 }
+    ensures some { IfSome result (λ head. HasCapacity lines.new 1 × (head ≡ []) × IsAnew c lines.old.lines.items lines.new.lines.items) }
+    ensures none { IfNone result (HasCapacity lines.new 0 × (has c lines.old.lines.items ≡ false) × (length lines.old.lines.items ≡ 64) × (lines.new.lines.items ≡ lines.old.lines.items)) }
 {
     match lines.take(c) {
         Some(ear) => Some(ear.renew()),
@@ -58,11 +58,11 @@ fn fresh_ear(lines: &mut Lines, c: u32) -> Option<HeadConn>
     }
 }
 
-// A connection was opened: it is new, or there is no room for it.
+// A connection was opened: it is new, or there is no space for it.
 fn open_conn<W: Wire>(wire: &mut W, lines: &mut Lines, c: u32)
-    requires room { HasRoom lines.old 0 }
+    requires capacity { HasCapacity lines.old 0 }
     requires live { IsTrue (W.state wire.old).told → IsSound c (W.state wire.old).log }
-    ensures room { HasRoom lines.new 0 }
+    ensures capacity { HasCapacity lines.new 0 }
     ensures meets { IsTrue (W.state wire.old).told → AreOpenBut c lines.old.lines.items (W.state wire.old).log
         → (desk : DeskState) → MeetsAll (met desk.manner (Opened c)) lines.old.lines.items lines.new.lines.items desk desk (W.state wire.old).log (W.state wire.new).log }
     ensures sending { OnlySends (W.state wire.old) (W.state wire.new) }
@@ -77,8 +77,8 @@ fn open_conn<W: Wire>(wire: &mut W, lines: &mut Lines, c: u32)
 
 // A connection was closed by the other side.
 fn close_conn(lines: &mut Lines, c: u32)
-    requires { HasRoom lines.old 0 }
-    ensures room { HasRoom lines.new 0 }
+    requires { HasCapacity lines.old 0 }
+    ensures capacity { HasCapacity lines.new 0 }
     ensures meets { (log : List LogEntry) → AreOpenBut c lines.old.lines.items log
         → (desk : DeskState) → MeetsAll (met desk.manner (Closed c)) lines.old.lines.items lines.new.lines.items desk desk log log }
 {
@@ -99,15 +99,15 @@ fn hear<S: Store, D: Desk<S>, W: Wire>(
     piece: &[u8],
 )
     requires fits { D.fits desk.old store.old }
-    requires room { 1 ≤ D.room desk.old }
+    requires capacity { 1 ≤ D.capacity desk.old }
     requires phrased { IsPhrased (D.manner desk.old) }
-    requires lines { HasRoom lines.old 0 }
+    requires lines { HasCapacity lines.old 0 }
     requires live { IsTrue (W.state wire.old).told → AreOpen lines.old.lines.items (W.state wire.old).log }
-    ensures lines { HasRoom lines.new 0 }
-    ensures meets { let at = desk_of D.manner D.rooms D.room D.outcomes in IsTrue (W.state wire.old).told → MeetsAll (met (D.manner desk.old) (Came c piece.now)) lines.old.lines.items lines.new.lines.items
+    ensures lines { HasCapacity lines.new 0 }
+    ensures meets { let at = desk_of D.manner D.rooms D.capacity D.outcomes in IsTrue (W.state wire.old).told → MeetsAll (met (D.manner desk.old) (Came c piece.now)) lines.old.lines.items lines.new.lines.items
         (at desk.old) (at desk.new) (W.state wire.old).log (W.state wire.new).log }
     ensures fits { D.fits desk.new store.new }
-    ensures endures { let at = desk_of D.manner D.rooms D.room D.outcomes in Endures (D.within desk.old) (D.within desk.new) (D.exact desk.old) (D.exact desk.new) (at desk.old) (at desk.new) (S.state store.old) (S.state store.new) }
+    ensures endures { let at = desk_of D.manner D.rooms D.capacity D.outcomes in Endures (D.within desk.old) (D.within desk.new) (D.exact desk.old) (D.exact desk.new) (at desk.old) (at desk.new) (S.state store.old) (S.state store.new) }
     ensures sending { OnlySends (W.state wire.old) (W.state wire.new) }
 {
     let Some(ear) = lines.take(c) else {
@@ -130,17 +130,17 @@ fn meet<S: Store, D: Desk<S>, W: Wire>(
     buf: &[u8],
 )
     requires fits { D.fits desk.old store.old }
-    requires room { 1 ≤ D.room desk.old }
+    requires capacity { 1 ≤ D.capacity desk.old }
     requires phrased { IsPhrased (D.manner desk.old) }
-    requires lines { HasRoom lines.old 0 }
+    requires lines { HasCapacity lines.old 0 }
     requires buf { FitsBuffer event buf.now }
     requires live { IsTrue (W.state wire.old).told → AreOpenAt event lines.old.lines.items (W.state wire.old).log }
     requires more { is_last event ≡ false }
-    ensures lines { HasRoom lines.new 0 }
-    ensures meets { let at = desk_of D.manner D.rooms D.room D.outcomes in IsTrue (W.state wire.old).told → MeetsAll (met (D.manner desk.old) (arrival_of event buf.now)) lines.old.lines.items lines.new.lines.items
+    ensures lines { HasCapacity lines.new 0 }
+    ensures meets { let at = desk_of D.manner D.rooms D.capacity D.outcomes in IsTrue (W.state wire.old).told → MeetsAll (met (D.manner desk.old) (arrival_of event buf.now)) lines.old.lines.items lines.new.lines.items
         (at desk.old) (at desk.new) (W.state wire.old).log (W.state wire.new).log }
     ensures fits { D.fits desk.new store.new }
-    ensures endures { let at = desk_of D.manner D.rooms D.room D.outcomes in Endures (D.within desk.old) (D.within desk.new) (D.exact desk.old) (D.exact desk.new) (at desk.old) (at desk.new) (S.state store.old) (S.state store.new) }
+    ensures endures { let at = desk_of D.manner D.rooms D.capacity D.outcomes in Endures (D.within desk.old) (D.within desk.new) (D.exact desk.old) (D.exact desk.new) (at desk.old) (at desk.new) (S.state store.old) (S.state store.new) }
     ensures sending { OnlySends (W.state wire.old) (W.state wire.new) }
 {
     match event {
@@ -171,18 +171,18 @@ fn take_event<S: Store, D: Desk<S>, W: Wire>(
     buf: &mut [u8],
 ) -> Taken
     requires fits { D.fits desk.old store.old }
-    requires room { 1 ≤ D.room desk.old }
+    requires capacity { 1 ≤ D.capacity desk.old }
     requires phrased { IsPhrased (D.manner desk.old) }
-    requires lines { HasRoom lines.old 0 }
+    requires lines { HasCapacity lines.old 0 }
     requires buf { length buf.old ≡ 65536 }
     requires live { IsTrue (W.state wire.old).told → AreOpen lines.old.lines.items (W.state wire.old).log }
-    ensures lines { HasRoom lines.new 0 }
-    ensures takes { let at = desk_of D.manner D.rooms D.room D.outcomes in result ≡ Taken.More → IsTrue (W.state wire.old).told → TakesAll lines.old.lines.items lines.new.lines.items
+    ensures lines { HasCapacity lines.new 0 }
+    ensures takes { let at = desk_of D.manner D.rooms D.capacity D.outcomes in result ≡ Taken.More → IsTrue (W.state wire.old).told → TakesAll lines.old.lines.items lines.new.lines.items
         (at desk.old) (at desk.new) (W.state wire.old).log (W.state wire.new).log }
     ensures ended { result ≡ Taken.Ended → (desk.new ≡ desk.old) × (store.new ≡ store.old) × (IsTrue (W.state wire.old).told → (W.state wire.new).log ≡ (W.state wire.old).log ++ Heard End ∷ []) }
     ensures failed { result ≡ Taken.Failed → (desk.new ≡ desk.old) × (store.new ≡ store.old) × (IsTrue (W.state wire.old).told → (W.state wire.new).log ≡ (W.state wire.old).log) × Rose (W.state wire.old).faults (W.state wire.new).faults }
     ensures fits { D.fits desk.new store.new }
-    ensures endures { let at = desk_of D.manner D.rooms D.room D.outcomes in Endures (D.within desk.old) (D.within desk.new) (D.exact desk.old) (D.exact desk.new) (at desk.old) (at desk.new) (S.state store.old) (S.state store.new) }
+    ensures endures { let at = desk_of D.manner D.rooms D.capacity D.outcomes in Endures (D.within desk.old) (D.within desk.new) (D.exact desk.old) (D.exact desk.new) (at desk.old) (at desk.new) (S.state store.old) (S.state store.new) }
     ensures plays { PlaysOn (W.state wire.old) (W.state wire.new) }
     ensures steady { result ≢ Taken.Failed → (W.state wire.new).faults ≡ (W.state wire.old).faults }
     ensures sends { (W.state wire.old).send_faults ≤ (W.state wire.new).send_faults }
@@ -209,27 +209,27 @@ fn serve_lines<S: Store, D: Desk<S>, W: Wire>(
     events: u64,
 ) -> Result<(), ServeFault>
     requires fits { D.fits desk.old store.old }
-    requires room { 1 ≤ D.room desk.old }
+    requires capacity { 1 ≤ D.capacity desk.old }
     requires events { 1 ≤ events }
     requires phrased { IsPhrased (D.manner desk.old) }
-    requires lines { HasRoom lines.old 0 }
+    requires lines { HasCapacity lines.old 0 }
     requires none { lines.old.lines.items ≡ [] }
     requires buf { length buf.old ≡ 65536 }
     requires log { IsTrue (W.state wire.old).told → (W.state wire.old).log ≡ [] }
-    ensures lines { HasRoom lines.new 0 }
-    ensures log { let at = desk_of D.manner D.rooms D.room D.outcomes in IsTrue (W.state wire.old).told → Serves (at desk.old) (at desk.new) events (W.state wire.new).log }
+    ensures lines { HasCapacity lines.new 0 }
+    ensures log { let at = desk_of D.manner D.rooms D.capacity D.outcomes in IsTrue (W.state wire.old).told → Serves (at desk.old) (at desk.new) events (W.state wire.new).log }
     ensures ended { IsTrue (W.state wire.old).told → OnOk result ((es : List Arrival) × (events_in (W.state wire.new).log ≡ es ++ End ∷ []) × (length es < events)) }
     ensures unended { IsTrue (W.state wire.old).told → OnErr result (has_end (W.state wire.new).log ≡ false) }
-    ensures room { OnOk result (0 < D.room desk.new) }
-    ensures spent { let at = desk_of D.manner D.rooms D.room D.outcomes in IfErr result (λ fault. IsCounted fault (W.state wire.old).told (at desk.old) (at desk.new) events (W.state wire.new).log) }
+    ensures capacity { OnOk result (0 < D.capacity desk.new) }
+    ensures spent { let at = desk_of D.manner D.rooms D.capacity D.outcomes in IfErr result (λ fault. IsCounted fault (W.state wire.old).told (at desk.old) (at desk.new) events (W.state wire.new).log) }
     ensures failed { result ≡ Err ServeFault.WireFailed → Rose (W.state wire.old).faults (W.state wire.new).faults }
     ensures steady { result ≢ Err ServeFault.WireFailed → (W.state wire.new).faults ≡ (W.state wire.old).faults }
     ensures sends { (W.state wire.old).send_faults ≤ (W.state wire.new).send_faults }
     ensures plays { PlaysOn (W.state wire.old) (W.state wire.new) }
     ensures fits { D.fits desk.new store.new }
-    ensures endures { let at = desk_of D.manner D.rooms D.room D.outcomes in Endures (D.within desk.old) (D.within desk.new) (D.exact desk.old) (D.exact desk.new) (at desk.old) (at desk.new) (S.state store.old) (S.state store.new) }
+    ensures endures { let at = desk_of D.manner D.rooms D.capacity D.outcomes in Endures (D.within desk.old) (D.within desk.new) (D.exact desk.old) (D.exact desk.new) (at desk.old) (at desk.new) (S.state store.old) (S.state store.new) }
 {
-    let room = desk.left();
+    let capacity = desk.left();
     let mut taken = 0u64;
     'events: while taken < events {
         match take_event(alloc, desk, store, wire, lines, buf) {
@@ -240,18 +240,18 @@ fn serve_lines<S: Store, D: Desk<S>, W: Wire>(
         taken += 1;
         if desk.left() == 0 {
             return Err(ServeFault::Spent {
-                requests: room,
+                requests: capacity,
                 events: taken,
             });
         }
     }
     Err(ServeFault::Spent {
-        requests: room - desk.left(),
+        requests: capacity - desk.left(),
         events: taken,
     })
 }
 
-/// Serves a wire until its end, until the desk has no room for more asks, or until so many events were taken.
+/// Serves a wire until its end, until the desk has no space for more asks, or until so many events were taken.
 ///
 /// Each request whose last byte lies in a piece is answered before a later byte is looked at. A failed send closes its
 /// connection alone.
@@ -264,24 +264,24 @@ pub fn serve<S: Store, D: Desk<S>, W: Wire>(
     events: u64,
 ) -> Result<(), ServeFault>
     requires fits { D.fits desk.old store.old }
-    requires room { 1 ≤ D.room desk.old }
+    requires capacity { 1 ≤ D.capacity desk.old }
     requires events { 1 ≤ events }
     requires phrased { IsPhrased (D.manner desk.old) }
     requires pool { IsFree pool.old }
     requires log { IsTrue (W.state wire.old).told → (W.state wire.old).log ≡ [] }
-    ensures log { let at = desk_of D.manner D.rooms D.room D.outcomes in IsTrue (W.state wire.old).told → Serves (at desk.old) (at desk.new) events (W.state wire.new).log }
+    ensures log { let at = desk_of D.manner D.rooms D.capacity D.outcomes in IsTrue (W.state wire.old).told → Serves (at desk.old) (at desk.new) events (W.state wire.new).log }
 
     // Ok comes exactly at the end, and a fault only before it.
     ensures ended { IsTrue (W.state wire.old).told → OnOk result ((es : List Arrival) × (events_in (W.state wire.new).log ≡ es ++ End ∷ []) × (length es < events)) }
     ensures unended { IsTrue (W.state wire.old).told → OnErr result (has_end (W.state wire.new).log ≡ false) }
-    ensures room { OnOk result (0 < D.room desk.new) }
-    ensures spent { let at = desk_of D.manner D.rooms D.room D.outcomes in IfErr result (λ fault. IsCounted fault (W.state wire.old).told (at desk.old) (at desk.new) events (W.state wire.new).log) }
+    ensures capacity { OnOk result (0 < D.capacity desk.new) }
+    ensures spent { let at = desk_of D.manner D.rooms D.capacity D.outcomes in IfErr result (λ fault. IsCounted fault (W.state wire.old).told (at desk.old) (at desk.new) events (W.state wire.new).log) }
     ensures failed { result ≡ Err ServeFault.WireFailed → Rose (W.state wire.old).faults (W.state wire.new).faults }
     ensures steady { result ≢ Err ServeFault.WireFailed → (W.state wire.new).faults ≡ (W.state wire.old).faults }
     ensures sends { (W.state wire.old).send_faults ≤ (W.state wire.new).send_faults }
     ensures plays { PlaysOn (W.state wire.old) (W.state wire.new) }
     ensures fits { D.fits desk.new store.new }
-    ensures endures { let at = desk_of D.manner D.rooms D.room D.outcomes in Endures (D.within desk.old) (D.within desk.new) (D.exact desk.old) (D.exact desk.new) (at desk.old) (at desk.new) (S.state store.old) (S.state store.new) }
+    ensures endures { let at = desk_of D.manner D.rooms D.capacity D.outcomes in Endures (D.within desk.old) (D.within desk.new) (D.exact desk.old) (D.exact desk.new) (at desk.old) (at desk.new) (S.state store.old) (S.state store.new) }
 {
     serve_lines(
         alloc,

@@ -1,27 +1,31 @@
 -- What a crash leaves of the log of each group, while groups are asked on one wire.
 use Rattle.std.proofs.Common.{◌≡◌, ◌∙◌, ◌+◌, refl, sym, ap, subst, ℕ, suc, List, [], ◌∷◌, ◌++◌, length, map, inl, inr, IsTrue, append_assoc, length-append, arith}
 use Rattle.cube_model.specs.declared.entry.Entry.{Entry}
+use Rattle.cube_model.specs.declared.outcome.Outcome.TheVariants.{Given}
 use Rattle.cube_model.specs.declared.policy.Policy.{Policy}
 use Rattle.cube_model.specs.Cores.{Core, shown}
 use Rattle.cube_model.specs.Dims.{Dims}
 use Rattle.cube_model.specs.Rooms.{Room, turns_to, ended}
 use Rattle.cube_model.specs.Runs.{end}
 use Rattle.cube_model.specs.TwoWorlds.{Extends}
+use Rattle.cube_io.specs.Desks.{Manner, GivesRooms, LeavesAll}
 use Rattle.cube_io.specs.Seen.{StoreState, Seen}
-use Rattle.cube_io.specs.States.{State, Gained}
+use Rattle.cube_io.specs.States.{State, Gained, settled}
 use Rattle.cube_io.proofs.Trails.{gained_then, gained_map}
 use Rattle.cube_journal.specs.Keeping.{IsInRecovery}
-use Rattle.cube_engine.specs.Kept.{history_of, IsExact, IsWithin}
+use Rattle.cube_engine.specs.Kept.{history_of, GivesHistory, IsExact, IsWithin}
 use Rattle.cube_engine.specs.Steps.{by_words, manner}
-use Rattle.cube_server.specs.Crashes.{after, OnTheWay, Endures}
+use Rattle.cube_server.specs.Crashes.{after, OnTheWay, IsInHand, Endures}
 use Rattle.cube_server.specs.Logs.{Call as Reached}
 use Rattle.cube_server.specs.Seen.{DeskState}
 use Rattle.cube_serving.specs.Grouping.{AllOf}
 use Rattle.cube_serving.specs.NamedBooks.{room, rooms_of, AreNumbered, place, places_of, HoldsAt}
-use Rattle.cube_serving.specs.ServedGroups.{turn_of}
-use Rattle.cube_serving.specs.Starting.{IsBetween, SurvivedIn}
+use Rattle.cube_serving.specs.ServedGroups.{turn_of, RoomHas}
+use Rattle.cube_serving.specs.Starting.{IsBetween, SurvivedIn, HeldIn}
 use Rattle.cube_serving.specs.declared.named.NamedBook.{NamedBook}
 use Rattle.cube_serving.proofs.Grouped.{after_is, turns_grow}
+use Rattle.cube_engine.proofs.Settled.{settled_leaves}
+use Rattle.cube_serving.proofs.Held.{held}
 use Rattle.cube_serving.proofs.Lists.{at_seam, map_append, map_twice}
 use Rattle.cube_serving.proofs.Placed.{front_logs, back_logs, own_holds, only_holds}
 
@@ -112,7 +116,29 @@ behind s calls b = (ended (by_words s) (map turn_of calls) (room b)).history
 pub record WereAsked (s : Dims) (calls : List Reached) (within exact : List Room → ℕ → State → Type 0) (stated : ℕ) (last : DeskState) (store store' : StoreState) (bs : List NamedBook) : Type 0 where
   pub numbered : AreNumbered 0 bs
   pub leads : last.rooms ≡ after (manner s) (rooms_of bs) calls
-  pub endures : Endures (HoldsAt IsWithin (places_of bs)) within (HoldsAt IsExact (places_of bs)) exact (record { manner = manner s; rooms = rooms_of bs; room = stated; outcomes = [] }) last store store'
+  pub endures : Endures (HoldsAt IsWithin (places_of bs)) within (HoldsAt IsExact (places_of bs)) exact (record { manner = manner s; rooms = rooms_of bs; capacity = stated; outcomes = [] }) last store store'
+  pub in_hand : IsTrue store.told → (log : ℕ) → HoldsAt IsWithin (places_of bs) (rooms_of bs) log (store.logs log).state
+      → LeavesAll (GivesRooms (HoldsAt IsExact (places_of bs)) log) (IsInHand (manner s) (rooms_of bs) calls) (store.logs log) (store'.logs log)
+
+-- what is in hand is behind some asks, of which the last may be the one in hand
+hand_calls : (m : Manner) (rooms : List Room) (calls : List Reached) (here : List Room) → IsInHand m rooms calls here → (cs : List Reached) × (here ≡ after m rooms cs)
+hand_calls m rooms [] here e = ([], e)
+hand_calls m rooms (c ∷ calls) here (inl e) = ([], e)
+hand_calls m rooms (c ∷ calls) here (inr (inl e)) = (record { ask = c.ask; outcome = Given } ∷ [], e)
+hand_calls m rooms (c ∷ calls) here (inr (inr i)) = let more = hand_calls m (m.next rooms c.ask c.outcome) calls here i in (c ∷ more.0, more.1)
+
+hand_starts : (m : Manner) (rooms : List Room) (calls : List Reached) → IsInHand m rooms calls rooms
+hand_starts m rooms [] = refl
+hand_starts m rooms (c ∷ calls) = inl refl
+
+-- the history of the room of the book with so many before it
+history_there : (f : Room → Room) (front back : List NamedBook) (g : NamedBook) → RoomHas (length front) (map f (rooms_of (front ++ g ∷ back))) (f (room g)).history
+history_there f [] back g = refl
+history_there f (x ∷ front) back g = history_there f front back g
+
+history_first : (front back : List NamedBook) (g : NamedBook) → RoomHas (length front) (rooms_of (front ++ g ∷ back)) g.book.history
+history_first [] back g = refl
+history_first (x ∷ front) back g = history_first front back g
 
 module _ {S : Type 0} (s : Dims) (calls : List Reached) (within exact : List Room → ℕ → State → Type 0) (stated : ℕ) (last : DeskState) (mid : StoreState) (store : Seen StoreState S) (are : IsTrue mid.told)
     (front back : List NamedBook) (g : NamedBook) (w : WereAsked s calls within exact stated last mid store.after (front ++ g ∷ back)) where
@@ -159,3 +185,24 @@ module _ {S : Type 0} (s : Dims) (calls : List Reached) (within exact : List Roo
         ends = own_only IsWithin s calls front back g new.state w.numbered (subst (λ (rs : List Room). HoldsAt IsWithin (places_of bs) rs k new.state) w.leads ((v.within_stays last.rooms k new.state).0 (v.stays_within are k around)));
         exact = λ none. own_only IsExact s calls front back g new.state w.numbered (subst (λ (rs : List Room). HoldsAt IsExact (places_of bs) rs k new.state) w.leads ((v.exact_stays last.rooms k new.state).0 (v.stays_exact none are k (own_at IsExact front back g (mid.logs k).state w.numbered is_exact))));
       }
+
+  -- the histories of the book that are in hand meanwhile
+  abbrev these : List Entry → Type 0
+  these h = (here : List Room) × IsInHand (manner s) (rooms_of bs) calls here × RoomHas k here h
+
+  in_book : (r : List Room) (bytes : List ℕ) → IsInHand (manner s) (rooms_of bs) calls r → GivesRooms (HoldsAt IsExact (places_of bs)) k r bytes → (h : List Entry) × these h × GivesHistory g.book.core g.book.policy h bytes
+  in_book r bytes i gives =
+      let cs = hand_calls (manner s) (rooms_of bs) calls r i in
+      let of_room = ended (by_words s) (map turn_of cs.0) in
+      let exact = own_only IsExact s cs.0 front back g (settled bytes) w.numbered (subst (λ (rs : List Room). HoldsAt IsExact (places_of bs) rs k (settled bytes)) cs.1 gives) in (
+        behind s cs.0 g,
+        (r, i, subst (λ (rs : List Room). RoomHas k rs (behind s cs.0 g)) (sym (cs.1 ∙ after_is s (rooms_of bs) cs.0)) (history_there of_room front back g)),
+        exact bytes (settled_leaves bytes),
+      )
+
+  pub held_meanwhile : IsExact g.book.core g.book.policy g.book.history (mid.logs k).state
+      → Gained (IsInRecovery (history_of g.book.core g.book.policy) (store.before.logs k).state) (store.before.logs k) (mid.logs k) → HeldIn k g.book.core g.book.policy these store
+  held_meanwhile is_exact opened =
+      held k g.book.core g.book.policy g.book.history these (GivesRooms (HoldsAt IsExact (places_of bs)) k) (IsInHand (manner s) (rooms_of bs) calls) mid store
+      (rooms_of bs, hand_starts (manner s) (rooms_of bs) calls, history_first front back g) in_book is_exact opened
+      (w.in_hand are k (own_at IsWithin front back g (mid.logs k).state w.numbered (λ b image. inl (is_exact b image))))

@@ -1,34 +1,16 @@
 -- What a crash leaves of the log of an open cube: the histories in hand.
-use Rattle.std.proofs.Common.{◌≡◌, ◌⊎◌, inl, inr, ⊎_elim, refl, sym, ap, ◌∙◌, ℕ, List, [], ◌∷◌, ◌++◌}
-use Rattle.std.proofs.lemmas.List.{append-nil}
+use Rattle.std.proofs.Common.{◌≡◌, ◌⊎◌, inl, inr, ⊎_elim, ℕ, List}
 use Rattle.cube_model.specs.declared.entry.Entry.{Entry}
 use Rattle.cube_model.specs.declared.policy.Policy.{Policy}
 use Rattle.cube_model.specs.Cores.{Core}
-use Rattle.cube_model.specs.Cubes.{IsIn}
 use Rattle.cube_model.specs.Rooms.{Room}
 use Rattle.cube_io.specs.Desks.{LeavesOf, LeavesAll}
 use Rattle.cube_io.specs.Seen.{StoreState, Seen}
-use Rattle.cube_io.specs.States.{State, IsImage, Gained, settled}
+use Rattle.cube_io.specs.States.{State, Gained}
 use Rattle.cube_io.proofs.Trails.{gained_then, gained_map}
 use Rattle.cube_journal.specs.Keeping.{IsInRecovery}
 use Rattle.cube_engine.specs.Kept.{history_of, GivesHistory, IsExact}
 use Rattle.cube_serving.specs.Starting.{GivesOne, HeldIn}
-
--- of a log with just these bytes a crash leaves them
-pub settled_leaves : (bytes : List ℕ) → IsImage (settled bytes) bytes
-settled_leaves bytes = record { kept = []; lost = []; is_tail = inl refl; whole = sym (append-nil bytes) }
-
--- and nothing else: what it gives back is exact
-pub settled_gives : (core : Core) (policy : Policy) (h : List Entry) (bytes : List ℕ) → GivesHistory core policy h bytes → IsExact core policy h (settled bytes)
-settled_gives core policy h bytes gives b image = ap (history_of core policy) (all image.is_tail) ∙ gives
-  where
-    nothing : (xs ys : List ℕ) → xs ++ ys ≡ [] → xs ≡ []
-    nothing [] ys e = refl
-    nothing (x ∷ xs) ys e = absurd (cc)
-
-    all : IsIn (image.kept ++ image.lost) ([] ∷ []) → b ≡ bytes
-    all (inl e) = image.whole ∙ ap (λ (k : List ℕ). bytes ++ k) (nothing image.kept image.lost (sym e)) ∙ append-nil bytes
-    all (inr i) = absurd i
 
 -- a log that was exact behind its opening, and what asks leave of it
 pub held : {S : Type 0} (log : ℕ) (core : Core) (policy : Policy) (first : List Entry) (these : List Entry → Type 0) (gives : List Room → List ℕ → Type 0) (those : List Room → Type 0) (mid : StoreState) (store : Seen StoreState S)

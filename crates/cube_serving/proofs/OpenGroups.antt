@@ -24,8 +24,8 @@ use Rattle.cube_opening.specs.declared.ruling.RuledGroup.{RuledGroup}
 use Rattle.cube_seal.specs.Seals.{Agrees, IsSealed, IsSealable}
 use Rattle.cube_serving.specs.Grouping.{GroupRun, AllOf, AllRecover, AreOpen, AreStarted, OnlyFrom, OnlyFirst, ruled, ruled_by}
 use Rattle.cube_serving.specs.NamedBooks.{Groups}
-use Rattle.cube_serving.specs.ServedGroups.{AreRunsOf, ServeWire, ServedGroups, UnservedGroups, WiredGroups}
-use Rattle.cube_serving.specs.Starting.{RecoversIn, Seals, SurvivedIn}
+use Rattle.cube_serving.specs.ServedGroups.{IsInGroupsTurn, HoldFrom, AreRunsOf, ServeWire, ServedGroups, UnservedGroups, WiredGroups}
+use Rattle.cube_serving.specs.Starting.{RecoversIn, Seals, SurvivedIn, HeldIn}
 use Rattle.cube_serving.specs.declared.named.NamedBook.{NamedBook}
 
 -- a group by its name and its policy
@@ -149,13 +149,19 @@ module _ {F S : Type 0} (cube : RuledFiles) (more : List (List ℕ)) (files : Se
       → AllRecover core 0 gs (seen tells old mid) → (w : ServeWire tells core e last end heard_told log mid new) → RoseBy (faults_in last.outcomes) (tells mid).faults (tells new).faults → ServedGroups cube more files (seen tells old new) w.asking end told log
   served new e last end told heard_told log is same_heard stays told_same steady passed w failed =
       let runs : AreRunsOf bs w.asking.groups = subst (λ (xs : List NamedBook). AreRunsOf xs w.asking.groups) (sym is) w.runs in
+      let both : (v : WiredGroups core w.asking end told log) × HoldFrom tells core w.asking.groups v.asked.calls mid new =
+      subst (λ (b : Bool). (v : WiredGroups core w.asking end b log) × HoldFrom tells core w.asking.groups v.asked.calls mid new) same_heard (w.wired, w.held) in
       record {
         core = core;
         facts = facts;
         opened = are_open new w.asking.groups runs stays;
-        wired = subst (λ (b : Bool). WiredGroups core w.asking end b log) same_heard w.wired;
+        wired = both.0;
         survived = λ are. all_three (λ k (g : GroupRun). IsExact core g.policy g.first ((tells mid).logs k).state) (λ k (g : GroupRun). RecoversIn k core g.policy (seen tells old mid)) (λ k (g : GroupRun). SurvivedIn k core g.policy g.first g.last w.asking.outcomes (seen tells old new)) 0 w.asking.groups
             (w.survived (subst IsTrue (sym told_same) are) old (sym told_same))
+            (runs_exact core (seen tells old mid) 0 gs bs w.asking.groups started runs are)
+            (all_unmap (λ k (g : RuledGroup). RecoversIn k core g.policy (seen tells old mid)) ruled_by 0 w.asking.groups (run_recovers w.asking.groups runs passed));
+        held = λ are. all_three (λ k (g : GroupRun). IsExact core g.policy g.first ((tells mid).logs k).state) (λ k (g : GroupRun). RecoversIn k core g.policy (seen tells old mid)) (λ k (g : GroupRun). HeldIn k core g.policy (IsInGroupsTurn core w.asking.groups both.0.asked.calls k) (seen tells old new)) 0 w.asking.groups
+            (both.1 (subst IsTrue (sym told_same) are) old (sym told_same))
             (runs_exact core (seen tells old mid) 0 gs bs w.asking.groups started runs are)
             (all_unmap (λ k (g : RuledGroup). RecoversIn k core g.policy (seen tells old mid)) ruled_by 0 w.asking.groups (run_recovers w.asking.groups runs passed));
         failed = subst (λ (n : ℕ). RoseBy (faults_in w.asking.outcomes) n (tells new).faults) steady (subst (λ (os : List Outcome). RoseBy (faults_in os) (tells mid).faults (tells new).faults) (sym w.outcomes) failed);

@@ -22,7 +22,7 @@ use Rattle.cube_opening.specs.Opening.{fault_text, faulted, unless_long}
 use Rattle.cube_opening.specs.declared.report.Report.{Report}
 use Rattle.cube_script.specs.Playing.{Playing, IsPlaying, Overran, starting, started, has_torn}
 use Rattle.cube_script.specs.Scripts.{connection_of, bytes_of, came_of, event_of, words, lines, with_event, events_of, script_of}
-use Rattle.cube_script.specs.declared.script_wire.SendRoom.{SendRoom}
+use Rattle.cube_script.specs.declared.script_wire.SendCapacity.{SendCapacity}
 use Rattle.cube_script.specs.declared.play.ScriptFault.TheVariants.{Line, NoMemory}
 use Rattle.cube_server.specs.Seen.{DeskState}
 use Rattle.cube_server.specs.Steps.{Serves, has_end, is_end, luck_of, sends_in, stated_at}
@@ -34,11 +34,11 @@ use Rattle.cube_serving.specs.Replaying.{EndsOverrun, script_said, played_status
 
 -- ---- what a script says
 
-pub started_ok : (said : Result (List Arrival) ℕ) (w : Playing) (most : SendRoom) → started said most ≡ Ok w → (script : List Arrival) × (said ≡ Ok script) × (w ≡ starting script most)
+pub started_ok : (said : Result (List Arrival) ℕ) (w : Playing) (most : SendCapacity) → started said most ≡ Ok w → (script : List Arrival) × (said ≡ Ok script) × (w ≡ starting script most)
 started_ok (Ok script) w most e = (script, refl, cc)
 started_ok (Err n) w most e = cc
 
-pub started_err : (said : Result (List Arrival) ℕ) (n : ℕ) (most : SendRoom) → (Line n ≡ NoMemory) ⊎ (started said most ≡ Err (Line n)) → said ≡ Err n
+pub started_err : (said : Result (List Arrival) ℕ) (n : ℕ) (most : SendCapacity) → (Line n ≡ NoMemory) ⊎ (started said most ≡ Err (Line n)) → said ≡ Err n
 started_err said n most (inl e) = cc
 started_err (Ok script) n most (inr e) = cc
 started_err (Err m) n most (inr e) = cc
@@ -187,9 +187,9 @@ unfailed w events end playing is quiet failed none sound e =
     omega (arith, failed e, zero)
 
 -- why a send failed: where no event came behind it, it is the last but for the close
-pub overran : (w : Playing) (old new : DeskState) (events : ℕ) (room : SendRoom) → IsPlaying w → w.most ≡ room → Serves old new events w.log → has_torn w.log ≡ true → EndsOverrun room w.log
-overran w old new events room playing is served some =
-    let o : Overran room w.log = subst (λ (most : SendRoom). Overran most w.log) is (playing.cause some) in
+pub overran : (w : Playing) (old new : DeskState) (events : ℕ) (capacity : SendCapacity) → IsPlaying w → w.most ≡ capacity → Serves old new events w.log → has_torn w.log ≡ true → EndsOverrun capacity w.log
+overran w old new events capacity playing is served some =
+    let o : Overran capacity w.log = subst (λ (most : SendCapacity). Overran most w.log) is (playing.cause some) in
     let (more, shut, waits) = fails_last old.manner old.rooms (events_in w.log) (luck_of (stated_at old events) served.outcomes (sends_in w.log) served.starved) o.before o.behind o.conn [] o.size (sym served.told ∙ o.whole) in
     record {
       before = o.before;
@@ -249,10 +249,10 @@ ends_whole (Err fault) u old new log e k = absurd (none k)
 pub rose_from : (before now : ℕ) → before ≡ 0 → Rose before now → 0 < now
 rose_from before now is rose = omega (arith, is, rose)
 
--- room for so many sends and for so many bytes of them
-room_of : ℕ → ℕ → SendRoom
+-- space for so many sends and for so many bytes of them
+room_of : ℕ → ℕ → SendCapacity
 room_of sends bytes = record { sends = sends; bytes = bytes }
 
-pub same_room : (a b : SendRoom) → a.sends ≡ b.sends → a.bytes ≡ b.bytes → a ≡ b
+pub same_room : (a b : SendCapacity) → a.sends ≡ b.sends → a.bytes ≡ b.bytes → a ≡ b
 unfolding room_of
 same_room a b sends bytes = ap (λ (n : ℕ). room_of n a.bytes) sends ∙ ap (λ (n : ℕ). room_of b.sends n) bytes

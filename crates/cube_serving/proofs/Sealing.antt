@@ -14,7 +14,7 @@ use Rattle.cube_engine.specs.Kept.{history_of}
 use Rattle.cube_seal.specs.Seals.{SealCause, IsSealFault, IsSealable}
 use Rattle.cube_seal.specs.declared.fault.SealFault.{SealFault}
 use Rattle.cube_seal.specs.declared.fault.SealFault.TheVariants.{Failed, NoMemory, Damaged, OtherFacts}
-use Rattle.cube_opening.specs.Reports.{IsReport, NoRoom}
+use Rattle.cube_opening.specs.Reports.{IsReport, NoMessage}
 use Rattle.cube_opening.specs.declared.report.Report.{Report}
 use Rattle.cube_serving.specs.Starting.{seal_text, seal_status, IsCalm, IsUnsealed, Unstarted, OnlyJournal, Opens, Recovers, Seals}
 
@@ -55,14 +55,14 @@ opens tells old mid new same first few second works = record {
 -- how a run ends at a seal that is not held
 abbrev pub EndsAtSeal : {S : Type 0} → List ℕ → Seen StoreState S → Report → Type 0
 EndsAtSeal facts store r =
-    (NoRoom r × IsCalm store)
+    (NoMessage r × IsCalm store)
     ⊎ (IsReport 7 (codes "no memory\n") r × IsCalm store)
     ⊎ (IsReport 9 (codes "store failed\n") r × Rose store.before.faults store.after.faults)
     ⊎ ((fault : SealFault) × IsUnsealed facts store.before fault r × IsCalm store)
 
 -- the report says why
 pub at_seal : {S : Type 0} (facts : List ℕ) (tells : S → StoreState) (old mid new : S) (fault : SealFault) (r : Report) → (tells mid).told ≡ (tells old).told → (IsTrue (tells old).told → (tells mid).logs SEAL_LOG ≡ (tells old).logs SEAL_LOG) → (tells mid).faults ≡ (tells old).faults
-    → SealCause {T = Unit {0}} (tells mid).faults (tells new).faults (Err fault) → (IsTrue (tells mid).told → IsSealFault facts ((tells mid).logs SEAL_LOG).state.now fault) → IsReport (seal_status fault) (seal_text facts fault) r ⊎ ((seal_status fault ≡ 4) × NoRoom r)
+    → SealCause {T = Unit {0}} (tells mid).faults (tells new).faults (Err fault) → (IsTrue (tells mid).told → IsSealFault facts ((tells mid).logs SEAL_LOG).state.now fault) → IsReport (seal_status fault) (seal_text facts fault) r ⊎ ((seal_status fault ≡ 4) × NoMessage r)
     → EndsAtSeal facts (seen tells old new) r
 at_seal facts tells old mid new Failed r same stays steady cause is (inl e) = inr (inr (inl (e, subst (λ (n : ℕ). Rose n (tells new).faults) steady cause.1)))
 at_seal facts tells old mid new NoMemory r same stays steady cause is (inl e) = inr (inl (e, cause ∙ steady))

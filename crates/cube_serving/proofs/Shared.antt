@@ -1,5 +1,5 @@
 -- What groups over one core that served a wire tell, and what they leave of their logs.
-use Rattle.std.proofs.Common.{◌≡◌, ◌∙◌, ◌<◌, ◌≤◌, ◌+◌, refl, sym, ap, ap₂, subst, ℕ, suc, Bool, List, [], ◌∷◌, length, map, inl, inr, IsTrue, arith}
+use Rattle.std.proofs.Common.{◌≡◌, ◌∙◌, ◌<◌, ◌≤◌, ◌+◌, refl, sym, ap, ap₂, subst, ℕ, suc, Bool, List, [], ◌∷◌, ◌++◌, length, map, inl, inr, IsTrue, arith}
 use Rattle.std.specs.Prelude.{◌⊎◌, Result}
 use Rattle.cube_model.specs.declared.entry.Entry.{Entry}
 use Rattle.cube_model.specs.declared.outcome.Outcome.{Outcome}
@@ -10,7 +10,7 @@ use Rattle.cube_model.specs.Dims.{Dims}
 use Rattle.cube_model.specs.Policies.{IsPolicy}
 use Rattle.cube_model.specs.Rooms.{Room, AreApart, ended}
 use Rattle.cube_model.specs.Verdicts.{IsAdmissible}
-use Rattle.cube_io.specs.Desks.{Manner}
+use Rattle.cube_io.specs.Desks.{Manner, GivesRooms, LeavesAll}
 use Rattle.cube_io.specs.Seen.{StoreState, seen}
 use Rattle.cube_io.specs.States.{State, Gained}
 use Rattle.cube_journal.specs.Keeping.{IsInRecovery}
@@ -19,7 +19,7 @@ use Rattle.cube_engine.specs.Kept.{history_of, IsExact, IsWithin}
 use Rattle.cube_engine.specs.Steps.{by_words, manner}
 use Rattle.cube_engine.specs.Worlds.{IsRuled}
 use Rattle.cube_server.specs.Alike.{SameReplies}
-use Rattle.cube_server.specs.Crashes.{after, Called, Endures}
+use Rattle.cube_server.specs.Crashes.{after, Called, Endures, FailedFresh, IsInHand}
 use Rattle.cube_server.specs.Logs.{Call as Reached, calls_of}
 use Rattle.cube_server.specs.Seen.{DeskState}
 use Rattle.cube_server.specs.Steps.{Serves}
@@ -28,13 +28,13 @@ use Rattle.cube_server.proofs.Likeness.{logs_are_alike}
 use Rattle.cube_talk.specs.Talk.{max_input}
 use Rattle.cube_serving.specs.Grouping.{GroupRun, first_room, last_room, first_rooms, last_rooms}
 use Rattle.cube_serving.specs.NamedBooks.{Groups, rooms_of, dims_of, AreInOrder, AreNumbered, places_of, HoldsAt}
-use Rattle.cube_serving.specs.ServedGroups.{GroupsAsking, groups_before, groups_behind, turn_of, luck_in, GroupsTell, WiredGroups, AreRunsOf, SurviveFrom, ServeWire}
+use Rattle.cube_serving.specs.ServedGroups.{GroupsAsking, groups_before, groups_behind, turn_of, luck_in, GroupsTell, WiredGroups, RoomHas, IsInGroupsTurn, HoldFrom, AreRunsOf, SurviveFrom, ServeWire}
 use Rattle.cube_serving.specs.Serving.{Ends}
-use Rattle.cube_serving.specs.Starting.{SurvivedIn, RecoversIn}
+use Rattle.cube_serving.specs.Starting.{SurvivedIn, RecoversIn, HeldIn}
 use Rattle.cube_serving.specs.declared.named.NamedBook.{NamedBook}
 use Rattle.cube_serving.proofs.Grouped.{after_is, each_by_itself, group_hides}
 use Rattle.cube_serving.proofs.Lists.{all_map, each_at, each_both, each_in, each_map, map_at, map_twice}
-use Rattle.cube_serving.proofs.GroupLogs.{behind, WereAsked, each_book, survived}
+use Rattle.cube_serving.proofs.GroupLogs.{behind, WereAsked, each_book, survived, held_meanwhile}
 use Rattle.cube_serving.proofs.Placed.{each_here}
 
 -- ---- the runs of books
@@ -99,7 +99,7 @@ foreign P k (b ∷ bs) (r ∷ rooms) log st a (inr far) (inr x) = foreign P (suc
 -- ---- the desk
 
 desk : Manner → List Room → ℕ → List Outcome → DeskState
-desk m rooms left outcomes = record { manner = m; rooms = rooms; room = left; outcomes = outcomes }
+desk m rooms left outcomes = record { manner = m; rooms = rooms; capacity = left; outcomes = outcomes }
 
 desk_is : (m m' : Manner) (rooms rooms' : List Room) (left : ℕ) (os os' : List Outcome) → m ≡ m' → rooms ≡ rooms' → os ≡ os' → desk m rooms left os ≡ desk m' rooms' left os'
 desk_is m m' rooms rooms' left os os' e f g = ap (λ (x : Manner). desk x rooms left os) e ∙ ap (λ (x : List Room). desk m' x left os) f ∙ ap (λ (x : List Outcome). desk m' rooms' left x) g
@@ -110,7 +110,7 @@ same_self m rooms (c ∷ calls) = (refl, same_self m (m.next rooms c.ask c.outco
 
 -- groups as a desk
 abbrev pub desk_at : Groups → DeskState
-desk_at e = record { manner = manner (dims_of e.books); rooms = rooms_of e.books; room = e.left; outcomes = e.outcomes }
+desk_at e = record { manner = manner (dims_of e.books); rooms = rooms_of e.books; capacity = e.left; outcomes = e.outcomes }
 
 module _ (core : Core) (e last : Groups) (some : 1 ≤ length e.books) (over : Over core e.books) (rules : Each (λ b. IsRuled b.book) e.books) (order : AreInOrder e.books) (unasked : e.outcomes ≡ [])
     (same : manner (dims_of last.books) ≡ manner (dims_of e.books)) (asked : Called (desk_at e) (desk_at last)) where
@@ -159,38 +159,96 @@ module _ (core : Core) (e last : Groups) (some : 1 ≤ length e.books) (over : O
             (ap (λ (r : Room). r.history) (map_at (last_room core) (λ x. ended (by_words core.dims) (map turn_of calls) (first_room core x)) gs g at k)));
       }
 
+  -- what was asked, over the runs
+  asked_runs : Called (groups_before core a) (groups_behind core a)
+  asked_runs = record {
+    calls = asked.calls;
+    rooms_are = lasts core asked.calls e.books over ∙ sym (after_is core.dims (rooms_of e.books) asked.calls) ∙ ap (λ (rs : List Room). after (manner core.dims) rs asked.calls) (sym (firsts core asked.calls e.books over));
+    added = asked.added;
+    outcomes_are = asked.outcomes_are ∙ ap (λ (os : List Outcome). os ++ asked.added) unasked;
+    matched = asked.matched;
+    fresh = subst (λ (m : Manner). FailedFresh m (first_rooms core gs) asked.calls) (ap manner dims_are)
+        (subst (λ (rs : List Room). FailedFresh (manner (dims_of e.books)) rs asked.calls) (sym (firsts core asked.calls e.books over)) asked.fresh);
+  }
+
   pub wired : (end_is : Result (Unit {0}) ServeFault) (is_told : Bool) (log : List LogEntry) → Ends end_is is_told (desk_at e) (desk_at last) log → last.left + length last.outcomes ≡ e.left + length e.outcomes → (IsTrue is_told → Serves (desk_at e) (desk_at last) max_input log) → WiredGroups core a end_is is_told log
   wired end_is is_told log ends counted serves = record {
     ended = subst (λ (x : DeskState). Ends end_is is_told x (groups_behind core a) log) before_is (subst (λ (x : DeskState). Ends end_is is_told (desk_at e) x log) behind_is ends);
     counted = (let none = ap (λ (os : List Outcome). length os) unasked in omega (arith, counted, none));
-    asked = subst (λ (x : DeskState). Called x (groups_behind core a)) before_is (subst (λ (x : DeskState). Called (desk_at e) x) behind_is asked);
+    asked = asked_runs;
     tells = λ are. told log (subst (λ (x : DeskState). Serves x (groups_behind core a) max_input log) before_is (subst (λ (x : DeskState). Serves (desk_at e) x max_input log) behind_is (serves are)));
   }
 
   -- what was left of the logs
-  pub survive : {S : Type 0} (tells : S → StoreState) (mid new : S)
-      → Endures (HoldsAt IsWithin (places_of e.books)) (HoldsAt IsWithin (places_of last.books)) (HoldsAt IsExact (places_of e.books)) (HoldsAt IsExact (places_of last.books)) (desk_at e) (desk_at last) (tells mid) (tells new) → SurviveFrom tells core a mid new
-  unfolding run_from desk
-  survive {S} tells mid new v = λ are opened told_same.
+  abbrev Lives : StoreState → StoreState → Type 0
+  Lives st st' = Endures (HoldsAt IsWithin (places_of e.books)) (HoldsAt IsWithin (places_of last.books)) (HoldsAt IsExact (places_of e.books)) (HoldsAt IsExact (places_of last.books)) (desk_at e) (desk_at last) st st'
+
+  were : (st st' : StoreState) (v : Lives st st') → v.asked ≡ asked → WereAsked core.dims asked.calls (HoldsAt IsWithin (places_of last.books)) (HoldsAt IsExact (places_of last.books)) e.left (desk_at last) st st' e.books
+  unfolding desk
+  were st st' v same_asked =
+      let bs = e.books in
+      let begun = desk_is (manner (dims_of bs)) (manner core.dims) (rooms_of bs) (rooms_of bs) e.left e.outcomes [] (ap manner dims_are) refl unasked in
+      record {
+        numbered = order.numbered;
+        leads = asked.rooms_are ∙ ap (λ (d : Dims). after (manner d) (rooms_of bs) asked.calls) dims_are;
+        endures = subst (λ (x : DeskState). Endures (HoldsAt IsWithin (places_of bs)) (HoldsAt IsWithin (places_of last.books)) (HoldsAt IsExact (places_of bs)) (HoldsAt IsExact (places_of last.books)) x (desk_at last) st st') begun v;
+        in_hand = λ told log within.
+            subst (λ (m : Manner). LeavesAll (GivesRooms (HoldsAt IsExact (places_of bs)) log) (IsInHand m (rooms_of bs) asked.calls) (st.logs log) (st'.logs log)) (ap manner dims_are)
+            (subst (λ (x : Called (desk_at e) (desk_at last)). LeavesAll (GivesRooms (HoldsAt IsExact (places_of bs)) log) (IsInHand (manner (dims_of bs)) (rooms_of bs) x.calls) (st.logs log) (st'.logs log)) same_asked (v.in_hand told log within));
+      }
+
+  pub survive : {S : Type 0} (tells : S → StoreState) (mid new : S) (v : Lives (tells mid) (tells new)) → v.asked ≡ asked → SurviveFrom tells core a mid new
+  unfolding run_from
+  survive {S} tells mid new v same_asked = λ are opened told_same.
       let s = core.dims in
       let calls = asked.calls in
       let within = HoldsAt IsWithin (places_of last.books) in
       let exact = HoldsAt IsExact (places_of last.books) in
-      let begun = desk_is (manner (dims_of e.books)) (manner s) (rooms_of e.books) (rooms_of e.books) e.left e.outcomes [] (ap manner dims_are) refl unasked in
-      let were : WereAsked s calls within exact e.left (desk_at last) (tells mid) (tells new) e.books = record {
-        numbered = order.numbered;
-        leads = asked.rooms_are ∙ ap (λ (d : Dims). after (manner d) (rooms_of e.books) calls) dims_are;
-        endures = subst (λ (x : DeskState). Endures (HoldsAt IsWithin (places_of e.books)) within (HoldsAt IsExact (places_of e.books)) exact x (desk_at last) (tells mid) (tells new)) begun v;
-      } in
       all_map (λ k (g : GroupRun). IsExact core g.policy g.first ((tells mid).logs k).state → RecoversIn k core g.policy (seen tells opened mid) → SurvivedIn k core g.policy g.first g.last last.outcomes (seen tells opened new)) (run_from s calls) 0 e.books
       (each_book (λ k b. IsExact core b.book.policy b.book.history ((tells mid).logs k).state → RecoversIn k core b.book.policy (seen tells opened mid) → SurvivedIn k core b.book.policy b.book.history (behind s calls b) last.outcomes (seen tells opened new)) e.books
       (λ front back g is.
       let c : g.book.core ≡ core = each_here (λ b. b.book.core ≡ core) g front back (subst (Over core) is over) in
-      let w = subst (WereAsked s calls within exact e.left (desk_at last) (tells mid) (tells new)) is were in
+      let w = subst (WereAsked s calls within exact e.left (desk_at last) (tells mid) (tells new)) is (were (tells mid) (tells new) v same_asked) in
       let k = length front in
       λ is_exact recovers. subst (λ (x : Core). SurvivedIn k x g.book.policy g.book.history (behind s calls g) last.outcomes (seen tells opened new)) c
       (survived s calls within exact e.left (desk_at last) (tells mid) (seen tells opened new) are front back g w (subst (λ (x : Core). IsExact x g.book.policy g.book.history ((tells mid).logs k).state) (sym c) is_exact)
       (subst (λ (x : Core). Gained (IsInRecovery (history_of x g.book.policy) ((tells opened).logs k).state) ((tells opened).logs k) ((tells mid).logs k)) (sym c) (recovers (subst IsTrue (sym told_same) are))))))
 
-  pub serves : {S : Type 0} (tells : S → StoreState) (mid new : S) (end_is : Result (Unit {0}) ServeFault) (is_told : Bool) (log : List LogEntry) → WiredGroups core a end_is is_told log → SurviveFrom tells core a mid new → ServeWire tells core e last end_is is_told log mid new
-  serves tells mid new end_is is_told log w v = record { asking = a; runs = runs core asked.calls e.books; stated = refl; left = refl; outcomes = refl; wired = w; survived = v }
+  -- what was in hand meanwhile
+  pub hold : {S : Type 0} (tells : S → StoreState) (mid new : S) (v : Lives (tells mid) (tells new)) → v.asked ≡ asked → HoldFrom tells core gs asked.calls mid new
+  unfolding run_from
+  hold {S} tells mid new v same_asked = λ are opened told_same.
+      let s = core.dims in
+      let calls = asked.calls in
+      let within = HoldsAt IsWithin (places_of last.books) in
+      let exact = HoldsAt IsExact (places_of last.books) in
+      all_map (λ k (g : GroupRun). IsExact core g.policy g.first ((tells mid).logs k).state → RecoversIn k core g.policy (seen tells opened mid) → HeldIn k core g.policy (IsInGroupsTurn core gs calls k) (seen tells opened new)) (run_from s calls) 0 e.books
+      (each_book (λ k b. IsExact core b.book.policy b.book.history ((tells mid).logs k).state → RecoversIn k core b.book.policy (seen tells opened mid) → HeldIn k core b.book.policy (IsInGroupsTurn core gs calls k) (seen tells opened new)) e.books
+      (λ front back g is.
+      let c : g.book.core ≡ core = each_here (λ b. b.book.core ≡ core) g front back (subst (Over core) is over) in
+      let w = subst (WereAsked s calls within exact e.left (desk_at last) (tells mid) (tells new)) is (were (tells mid) (tells new) v same_asked) in
+      let k = length front in
+      let rooms : rooms_of (front ++ g ∷ back) ≡ first_rooms core gs = ap rooms_of (sym is) ∙ sym (firsts core calls e.books over) in
+      λ is_exact recovers.
+      subst (λ (rs : List Room). HeldIn k core g.book.policy (λ h. (here : List Room) × IsInHand (manner s) rs calls here × RoomHas k here h) (seen tells opened new)) rooms
+      (subst (λ (x : Core). HeldIn k x g.book.policy (λ h. (here : List Room) × IsInHand (manner s) (rooms_of (front ++ g ∷ back)) calls here × RoomHas k here h) (seen tells opened new)) c
+      (held_meanwhile s calls within exact e.left (desk_at last) (tells mid) (seen tells opened new) are front back g w (subst (λ (x : Core). IsExact x g.book.policy g.book.history ((tells mid).logs k).state) (sym c) is_exact)
+      (subst (λ (x : Core). Gained (IsInRecovery (history_of x g.book.policy) ((tells opened).logs k).state) ((tells opened).logs k) ((tells mid).logs k)) (sym c) (recovers (subst IsTrue (sym told_same) are)))))))
+
+  pub serves : {S : Type 0} (tells : S → StoreState) (mid new : S) (end_is : Result (Unit {0}) ServeFault) (is_told : Bool) (log : List LogEntry) (w : WiredGroups core a end_is is_told log) → w.asked.calls ≡ asked.calls → SurviveFrom tells core a mid new → HoldFrom tells core gs asked.calls mid new
+      → ServeWire tells core e last end_is is_told log mid new
+  serves tells mid new end_is is_told log w same_calls v h = record {
+    asking = a;
+    runs = runs core asked.calls e.books;
+    stated = refl;
+    left = refl;
+    outcomes = refl;
+    wired = w;
+    survived = v;
+    held = subst (λ (calls : List Reached). HoldFrom tells core gs calls mid new) (sym same_calls) h;
+  }
+
+  pub wired_calls : (end_is : Result (Unit {0}) ServeFault) (is_told : Bool) (log : List LogEntry) (ends : Ends end_is is_told (desk_at e) (desk_at last) log) (counted : last.left + length last.outcomes ≡ e.left + length e.outcomes) (serves_so : IsTrue is_told → Serves (desk_at e) (desk_at last) max_input log)
+      → (wired end_is is_told log ends counted serves_so).asked.calls ≡ asked.calls
+  unfolding wired asked_runs
+  wired_calls end_is is_told log ends counted serves_so = refl

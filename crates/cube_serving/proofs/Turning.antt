@@ -1,5 +1,5 @@
 -- An ask over books: one of them answers it, or none has the name.
-use Rattle.std.proofs.Common.{◌≡◌, ◌≢◌, ◌⊎◌, inl, inr, ⊎_elim, ℕ, true, false, cond, List, [], ◌∷◌, ◌++◌, get_or, refl, sym, ap, ap₂, subst, ◌∙◌, eqb, eqb-true, eq-eqb, Some, None, IsTrue, arith}
+use Rattle.std.proofs.Common.{◌≡◌, ◌≢◌, ◌⊎◌, inl, inr, ⊎_elim, ℕ, Bool, true, false, ◌||◌, cond, List, [], ◌∷◌, ◌++◌, get_or, refl, sym, ap, ap₂, subst, ◌∙◌, eqb, eqb-true, eq-eqb, Some, None, IsTrue, arith}
 use Rattle.std.specs.List.{position}
 use Rattle.std.specs.Prelude.{slice_set}
 use Rattle.std.proofs.lemmas.Bool.{false≢true}
@@ -21,14 +21,15 @@ use Rattle.cube_io.specs.Seen.{StoreState}
 use Rattle.cube_io.specs.States.{State, Log, Gained, settled}
 use Rattle.cube_io.specs.Told.{Works, OthersStay}
 use Rattle.cube_io.specs.Desks.{GivesRooms, LeavesAll, IsOneOf}
-use Rattle.cube_io.proofs.Hands.{leaves_all_map, leaves_all_none}
+use Rattle.cube_io.proofs.Leaving.{leaves_all_map, leaves_all_none}
+use Rattle.cube_io.proofs.Outcomes.{works_more}
 use Rattle.cube_io.proofs.Trails.{gained_none, gained_map}
 use Rattle.cube_engine.specs.Books.{Book, book_reply, book_history, StaysExact, KeepsInHand, IsRenewed}
 use Rattle.cube_engine.specs.Kept.{IsKept, GivesHistory, IsExact, IsWithin}
 use Rattle.cube_engine.specs.Prepared.{SettleCause}
 use Rattle.cube_engine.specs.Steps.{by_words, call, manner}
-use Rattle.cube_serving.proofs.Held.{settled_gives}
-use Rattle.cube_serving.specs.NamedBooks.{room, rooms_of, dims_of, is_named, IsKeptIn, AreInOrder, place, places_of, HoldsAt, IsTurn}
+use Rattle.cube_engine.proofs.Settled.{settled_exact}
+use Rattle.cube_serving.specs.NamedBooks.{room, rooms_of, dims_of, is_named, any_failed, IsKeptIn, AreInOrder, place, places_of, HoldsAt, IsTurn}
 use Rattle.cube_serving.specs.declared.named.NamedBook.{NamedBook}
 use Rattle.cube_serving.proofs.Lists.{head_alike, tail_alike}
 use Rattle.cube_serving.proofs.Placed.{flip, none_named, Split, split, after, same_places, same_length, same_dims, apart_keeps, numbered_keeps, each_keeps, each_here, each_maps, front_logs, back_logs, kept_keeps, own_holds, only_holds, other_holds}
@@ -59,7 +60,7 @@ module _ (g : NamedBook) (back : List NamedBook) where
   -- bytes that give it a history back give that of its room back
   own_gives : (h : List Entry) (bytes : List ℕ) → GivesHistory g.book.core g.book.policy h bytes → (front : List NamedBook)
       → HoldsAt IsExact (places_of (front ++ g ∷ back)) (rooms_of front ++ as_room g h ∷ rooms_of back) g.book.journal.log (settled bytes)
-  own_gives h bytes r [] = inl (refl, settled_gives g.book.core g.book.policy h bytes r)
+  own_gives h bytes r [] = inl (refl, settled_exact g.book.core g.book.policy bytes h (settled bytes) refl r)
   own_gives h bytes r (x ∷ front) = inr (own_gives h bytes r front)
 
   own_history : (front : List NamedBook) (r q : Room) → rooms_of front ++ r ∷ rooms_of back ≡ rooms_of front ++ q ∷ rooms_of back → r.history ≡ q.history
@@ -79,6 +80,31 @@ module _ (s : Dims) (a : Ask) (g : NamedBook) (back : List NamedBook) (here : sa
   moves o f [] e = ap₂ (λ r rs. r ∷ rs) (ap (λ b. as_room g (cond b (then o) g.book.history)) (flip (aim a.group) g.name ∙ here)) (all_stay s a o back f)
   moves o f (x ∷ front) e = ap₂ (λ r rs. r ∷ rs) (stays s a o x e.0) (moves o f front e.1)
 
+-- ---- failed keeps
+
+either_true : (a b : Bool) → b ≡ true → (a || b) ≡ true
+either_true true b e = refl
+either_true false b e = e
+
+either_left : (a b c : Bool) → (a ≡ true → b ≡ true) → (a || c) ≡ true → (b || c) ≡ true
+either_left true b c f t = ap (λ x. x || c) (f refl)
+either_left false b c f t = either_true b c t
+
+either_right : (a b c : Bool) → (b ≡ true → c ≡ true) → (a || b) ≡ true → (a || c) ≡ true
+either_right true b c f t = refl
+either_right false b c f t = f t
+
+module _ (g : NamedBook) (back : List NamedBook) where
+  -- a failed keep of one book is one of some book
+  failed_here : (front : List NamedBook) → g.book.journal.failed ≡ true → any_failed (front ++ g ∷ back) ≡ true
+  failed_here [] e = ap (λ b. b || any_failed back) e
+  failed_here (x ∷ front) e = either_true x.book.journal.failed (any_failed (front ++ g ∷ back)) (failed_here front e)
+
+  -- where another stands in its place, whose last keep failed only where its own did
+  failed_instead : (h : NamedBook) → (h.book.journal.failed ≡ true → g.book.journal.failed ≡ true) → (front : List NamedBook) → any_failed (front ++ h ∷ back) ≡ true → any_failed (front ++ g ∷ back) ≡ true
+  failed_instead h f [] t = either_left h.book.journal.failed g.book.journal.failed (any_failed back) f t
+  failed_instead h f (x ∷ front) t = either_right x.book.journal.failed (any_failed (front ++ h ∷ back)) (any_failed (front ++ g ∷ back)) (failed_instead h f front) t
+
 -- ---- one book answers
 
 -- what a book says of its answer
@@ -90,7 +116,8 @@ pub record IsAnswer (b c : Book) (q : Question) (reply : Reply) (o : Outcome) (s
   pub log : c.journal.log ≡ b.journal.log
   pub none : c.waiting ≡ None
   pub cause : SettleCause o (book_history Given b q ≢ b.history) st.faults st'.faults
-  pub works : Works st st' 4
+  pub works : Works st st' (cond b.journal.failed 4 2)
+  pub quiet : o ≢ JournalFault → c.journal.failed ≡ true → b.journal.failed ≡ true
   pub others : OthersStay b.journal.log st st'
   pub kept : IsTrue st.told → IsKept b.core b.policy c.history c.journal (st'.logs b.journal.log).state
   pub exact : o ≢ JournalFault → StaysExact b c.history st st'
@@ -197,7 +224,8 @@ module _ (front back : List NamedBook) (g h : NamedBook) (a : Ask) (reply : Repl
         ∙ ap (λ r. rooms_of front ++ r ∷ rooms_of back) (new_room ∙ ap (as_room g) (f.history ∙ ap (λ (s : Dims). next_by (by_words s) o a.question (shown g.book.core g.book.policy) g.book.history) alike))
         ∙ sym (moves (dims_of old) a g back here o behind front before);
     cause = record { later = f.cause.later; steady = f.cause.steady; failed = λ e. ((f.cause.failed e).0, λ same. (f.cause.failed e).1 (entering same)) };
-    works = f.works;
+    works = works_more g.book.journal.failed (any_failed old) st st' (failed_here g back front) f.works;
+    quiet = λ fine. failed_instead g back h (f.quiet fine) front;
     kept = λ told. kept_keeps g.book.journal.log st.logs st'.logs (f.others told) g h front back in_front in_back
         (to_new (λ c p k s. IsKept c p k h.book.journal s) (f.kept told)) (kept told);
     places = same_places g h back same_place front;
@@ -268,6 +296,7 @@ missed_turn gs a reply o st order none attached fine replied kept =
       moved = sym (all_stay (dims_of gs) a o gs other);
       cause = record { later = omega arith; steady = λ e. refl; failed = λ e. absurd (fine e) };
       works = record { told = refl; attached = attached; names = λ t. refl; calls = λ t. omega arith };
+      quiet = λ f t. t;
       kept = kept;
       places = refl;
       others = λ told log foreign. refl;

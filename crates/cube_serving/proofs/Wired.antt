@@ -41,7 +41,8 @@ use Rattle.cube_talk.specs.Talk.{max_input}
 use Rattle.cube_opening.specs.declared.cube_files.CubeFiles.{CubeFiles}
 use Rattle.cube_serving.specs.Serving.{Asking, asking, desk_before, desk_behind, Tells, Ends, Wired, IsInTurn, Served}
 use Rattle.cube_serving.specs.Starting.{IsBetween, IsOpen, Survived, HeldIn}
-use Rattle.cube_serving.proofs.Held.{settled_leaves, held}
+use Rattle.cube_engine.proofs.Settled.{settled_leaves}
+use Rattle.cube_serving.proofs.Held.{held}
 use Rattle.cube_serving.proofs.Started.{exact_of, within_of, begun}
 
 -- ---- behind some asks
@@ -98,8 +99,8 @@ ends_alone s w h last rooms events luck is ended =
 
 -- what a served wire tells, of a desk that was asked over it
 pub told : (core : Core) (policy : Policy) (a : Asking) (behind : DeskState) (log : List LogEntry) → IsCore core → IsPolicy core.dims policy → IsAdmissible (shown core policy) a.first
-    → a.last ≡ first_history behind.rooms → behind.room ≡ a.left → behind.outcomes ≡ a.outcomes → Serves (desk_before core policy a) behind max_input log → Tells core policy a log
-told core policy a behind log is_core is_policy adm at room outcomes served =
+    → a.last ≡ first_history behind.rooms → behind.capacity ≡ a.left → behind.outcomes ≡ a.outcomes → Serves (desk_before core policy a) behind max_input log → Tells core policy a log
+told core policy a behind log is_core is_policy adm at capacity outcomes served =
     let s = core.dims in
     let w = world core policy in
     let ok : IsWorld w = cores_are_worlds core policy is_core is_policy.methods in
@@ -116,7 +117,7 @@ told core policy a behind log is_core is_policy adm at room outcomes served =
         told = served.told;
         ended = sym there ∙ served.ended;
         none_left = served.none_left;
-        asks_left = served.asks_left ∙ room;
+        asks_left = served.asks_left ∙ capacity;
         fresh = served.fresh;
       };
       hides = record {
@@ -133,7 +134,7 @@ told core policy a behind log is_core is_policy adm at room outcomes served =
 
 -- what reached an engine that was asked nothing before
 pub called : (core : Core) (policy : Policy) (a : Asking) (outcomes : List Outcome) (behind : DeskState) → outcomes ≡ [] → a.last ≡ first_history behind.rooms → behind.outcomes ≡ a.outcomes
-    → Called (record { manner = manner core.dims; rooms = alone (world core policy) a.first; room = a.stated; outcomes = outcomes }) behind → Called (desk_before core policy a) (desk_behind core policy a)
+    → Called (record { manner = manner core.dims; rooms = alone (world core policy) a.first; capacity = a.stated; outcomes = outcomes }) behind → Called (desk_before core policy a) (desk_behind core policy a)
 called core policy a outcomes behind unasked at same x =
     let s = core.dims in
     let w = world core policy in
@@ -149,23 +150,23 @@ called core policy a outcomes behind unasked at same x =
     }
 
 pub called_calls : (core : Core) (policy : Policy) (a : Asking) (outcomes : List Outcome) (behind : DeskState) (unasked : outcomes ≡ []) (at : a.last ≡ first_history behind.rooms) (same : behind.outcomes ≡ a.outcomes)
-    (x : Called (record { manner = manner core.dims; rooms = alone (world core policy) a.first; room = a.stated; outcomes = outcomes }) behind) → (called core policy a outcomes behind unasked at same x).calls ≡ x.calls
+    (x : Called (record { manner = manner core.dims; rooms = alone (world core policy) a.first; capacity = a.stated; outcomes = outcomes }) behind) → (called core policy a outcomes behind unasked at same x).calls ≡ x.calls
 unfolding called
 called_calls core policy a outcomes behind unasked at same x = refl
 
 -- ---- how a serving ended
 
 pub ends : (end : Result (Unit {0}) ServeFault) (told : Bool) (old new : DeskState) (log : List LogEntry) → (IsTrue told → OnOk end ((es : List Arrival) × (events_in log ≡ es ++ End ∷ []) × (length es < max_input)))
-    → (IsTrue told → OnErr end (has_end log ≡ false)) → OnOk end (0 < new.room) → IfErr end (λ fault. IsCounted fault told old new max_input log) → Ends end told old new log
-ends (Ok u) told old new log ended unended room spent = (room, ended)
-ends (Err fault) told old new log ended unended room spent = (spent, unended)
+    → (IsTrue told → OnErr end (has_end log ≡ false)) → OnOk end (0 < new.capacity) → IfErr end (λ fault. IsCounted fault told old new max_input log) → Ends end told old new log
+ends (Ok u) told old new log ended unended capacity spent = (capacity, ended)
+ends (Err fault) told old new log ended unended capacity spent = (spent, unended)
 
--- of a desk only what became of its asks and its room are counted
-pub ended_as : (end : Result (Unit {0}) ServeFault) (told : Bool) (old old' new new' : DeskState) (log : List LogEntry) → old.outcomes ≡ old'.outcomes → new.outcomes ≡ new'.outcomes → new.room ≡ new'.room → Ends end told old new log → Ends end told old' new' log
-ended_as (Ok u) told old old' new new' log first last room e = (subst (λ (n : ℕ). 0 < n) room e.0, e.1)
-ended_as (Err WireFailed) told old old' new new' log first last room e = ((subst (λ (n : ℕ). 0 < n) room (e.0).0, (e.0).1), e.1)
-ended_as (Err (Spent requests events)) told old old' new new' log first last room e =
-    ((ap (λ (os : List Outcome). length os) (sym last) ∙ (e.0).0 ∙ ap (λ (os : List Outcome). length os + requests) first, (e.0).1, (e.0).2, subst (λ (n : ℕ). (n ≡ 0) ⊎ (events ≡ max_input)) room (e.0).3), e.1)
+-- of a desk only what became of its asks and its space are counted
+pub ended_as : (end : Result (Unit {0}) ServeFault) (told : Bool) (old old' new new' : DeskState) (log : List LogEntry) → old.outcomes ≡ old'.outcomes → new.outcomes ≡ new'.outcomes → new.capacity ≡ new'.capacity → Ends end told old new log → Ends end told old' new' log
+ended_as (Ok u) told old old' new new' log first last capacity e = (subst (λ (n : ℕ). 0 < n) capacity e.0, e.1)
+ended_as (Err WireFailed) told old old' new new' log first last capacity e = ((subst (λ (n : ℕ). 0 < n) capacity (e.0).0, (e.0).1), e.1)
+ended_as (Err (Spent requests events)) told old old' new new' log first last capacity e =
+    ((ap (λ (os : List Outcome). length os) (sym last) ∙ (e.0).0 ∙ ap (λ (os : List Outcome). length os + requests) first, (e.0).1, (e.0).2, subst (λ (n : ℕ). (n ≡ 0) ⊎ (events ≡ max_input)) capacity (e.0).3), e.1)
 
 -- ---- what a crash leaves
 
@@ -187,7 +188,7 @@ on_the_way core policy h last here from to =
 
 -- an engine as a desk
 abbrev pub desk_at : Engine → DeskState
-desk_at e = record { manner = manner e.core.dims; rooms = rooms_of e; room = e.left; outcomes = e.outcomes }
+desk_at e = record { manner = manner e.core.dims; rooms = rooms_of e; capacity = e.left; outcomes = e.outcomes }
 
 -- what an engine that was asked over a wire leaves of a store
 abbrev pub Lives : Engine → Engine → StoreState → StoreState → Type 0

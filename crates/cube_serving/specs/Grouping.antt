@@ -14,7 +14,7 @@ use Rattle.cube_engine.specs.Kept.{history_of, IsExact}
 use Rattle.cube_engine.specs.Worlds.{IsRuled}
 use Rattle.cube_engine.specs.declared.fault.EngineFault.{EngineFault}
 use Rattle.cube_opening.specs.Opening.{IsDigestOf, GotBehind}
-use Rattle.cube_opening.specs.Reports.{IsReport, NoRoom}
+use Rattle.cube_opening.specs.Reports.{IsReport, NoMessage}
 use Rattle.cube_opening.specs.Ruling.{called, ruled_names, EndsUnruled, MakeGroups}
 use Rattle.cube_opening.specs.declared.cube_files.RuledFiles.{RuledFiles}
 use Rattle.cube_opening.specs.declared.report.Report.{Report}
@@ -71,7 +71,7 @@ IsRefusedAt core k (g ∷ gs) store r =
 -- of a group's journal are refused, or those of the seal.
 abbrev pub UnstartedGroups : {S : Type 0} → Core → List RuledGroup → List ℕ → Seen StoreState S → Report → Type 0
 UnstartedGroups core gs facts store r =
-    (NoRoom r × IsCalm store)
+    (NoMessage r × IsCalm store)
     ⊎ (IsReport 7 (codes "no memory\n") r × IsCalm store)
     ⊎ (IsReport 9 (codes "store failed\n") r × Rose store.before.faults store.after.faults)
     ⊎ (IsRefusedAt core 0 gs store.before r × IsCalm store)
@@ -112,7 +112,7 @@ AreStarted core store k (g ∷ gs) (b ∷ bs) = IsStarted core store k g b × Ar
 -- How the start of these groups ended, from the log of this number on.
 abbrev pub RestUnstarted : {S : Type 0} → Core → ℕ → List RuledGroup → Seen StoreState S → Report → Type 0
 RestUnstarted core k gs store r =
-    (NoRoom r × IsCalm store)
+    (NoMessage r × IsCalm store)
     ⊎ (IsReport 7 (codes "no memory\n") r × IsCalm store)
     ⊎ (IsReport 9 (codes "store failed\n") r × Rose store.before.faults store.after.faults)
     ⊎ (IsRefusedAt core k gs store.before r × IsCalm store)

@@ -5,3 +5,4 @@ pub mod Serving
 pub mod ServedGroups
 pub mod Replaying
 pub mod ReplayedGroups
+pub mod Examples

@@ -1,6 +1,7 @@
 -- Books with names, which one server answers for.
+use Rattle.std.specs.List.{list_any}
 use Rattle.std.specs.Str.{bytes_eq}
-use Rattle.std.specs.Prelude.{◌≡◌, ◌≢◌, ◌⊎◌, ⊤, ℕ, suc, ◌+◌, ◌≤◌, List, [], ◌∷◌, ◌++◌, length, map, Bool, None, Ok, IsTrue}
+use Rattle.std.specs.Prelude.{◌≡◌, ◌≢◌, ◌⊎◌, ⊤, ℕ, suc, ◌+◌, ◌≤◌, List, [], ◌∷◌, ◌++◌, length, map, Bool, true, None, Ok, IsTrue, if◌then◌else◌}
 use Rattle.cube_model.specs.declared.ask.Ask.{Ask}
 use Rattle.cube_model.specs.declared.entry.Entry.{Entry}
 use Rattle.cube_model.specs.declared.outcome.Outcome.{Outcome}
@@ -22,7 +23,7 @@ use Rattle.cube_engine.specs.Steps.{manner}
 use Rattle.cube_engine.specs.Worlds.{IsRuled}
 use Rattle.cube_serving.specs.declared.named.NamedBook.{NamedBook}
 
--- groups: their books in order, what became of the asks so far, and how many more there is room for
+-- groups: their books in order, what became of the asks so far, and how many more there is space for
 pub record Groups : Type 0 where
   pub books : List NamedBook
   pub outcomes : List Outcome
@@ -42,6 +43,10 @@ dims_of (g ∷ gs) = g.book.core.dims
 
 abbrev pub is_named : List ℕ → NamedBook → Bool
 is_named name g = bytes_eq g.name name
+
+-- the last keep of some book failed
+abbrev pub any_failed : List NamedBook → Bool
+any_failed gs = list_any (λ g. g.book.journal.failed) gs
 
 -- the book belongs to its log as that stands
 abbrev pub IsKeptIn : (ℕ → Log) → NamedBook → Type 0
@@ -89,7 +94,8 @@ pub record IsTurn (old new : List NamedBook) (ask : Ask) (reply : Reply) (o : Ou
   pub replied : reply ≡ (manner (dims_of old)).reply (rooms_of old) ask o
   pub moved : rooms_of new ≡ (manner (dims_of old)).next (rooms_of old) ask o
   pub cause : SettleCause o ((manner (dims_of old)).next (rooms_of old) ask Given ≢ rooms_of old) store.faults store'.faults
-  pub works : Works store store' 4
+  pub works : Works store store' (if any_failed old then 4 else 2)
+  pub quiet : o ≢ JournalFault → any_failed new ≡ true → any_failed old ≡ true
   pub kept : IsTrue store.told → Each (IsKeptIn store'.logs) new
   pub places : places_of new ≡ places_of old
   pub others : ForeignStay (HoldsAt IsWithin (places_of old)) store store'

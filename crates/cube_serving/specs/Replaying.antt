@@ -14,9 +14,9 @@ use Rattle.cube_opening.specs.Opening.{fault_text, faulted, unless_long, FileSay
 use Rattle.cube_opening.specs.Reports.{IsReport, IsDone}
 use Rattle.cube_opening.specs.declared.cube_files.CubeFiles.{CubeFiles}
 use Rattle.cube_opening.specs.declared.report.Report.{Report}
-use Rattle.cube_script.specs.Playing.{Playing, IsPlaying, starting, has_torn, passes_room_by}
+use Rattle.cube_script.specs.Playing.{Playing, IsPlaying, starting, has_torn, passes_capacity_by}
 use Rattle.cube_script.specs.Scripts.{script_of}
-use Rattle.cube_script.specs.declared.script_wire.SendRoom.{SendRoom}
+use Rattle.cube_script.specs.declared.script_wire.SendCapacity.{SendCapacity}
 use Rattle.cube_script.specs.declared.script_wire.TheConstants.{MAX_SENDS, MAX_SENT_BYTES}
 use Rattle.cube_server.specs.declared.serving.ServeFault.{ServeFault}
 use Rattle.cube_server.specs.declared.serving.ServeFault.TheVariants.{WireFailed}
@@ -30,7 +30,7 @@ abbrev pub script_said : List ℕ → Result (List Arrival) (List ℕ)
 script_said bytes = unless_long (codes "script") bytes (faulted (λ n. fault_text (codes "script") (codes "line " ++ decimal n)) (script_of bytes))
 
 -- the most sends of a script that go well, and the most bytes of them all
-abbrev pub room_for_sends : SendRoom
+abbrev pub room_for_sends : SendCapacity
 room_for_sends = record { sends = MAX_SENDS; bytes = MAX_SENT_BYTES }
 
 -- a wire that is to play these events
@@ -39,17 +39,17 @@ wire_of script = starting script room_for_sends
 
 -- ---- how a play ended
 
--- The log ends with a send of so many bytes that would have passed the room for sends, behind all that was sent before it: nothing of it
+-- The log ends with a send of so many bytes that would have passed the space for sends, behind all that was sent before it: nothing of it
 -- went out, and its connection was closed. It is the only one that failed.
-pub record EndsOverrun (most : SendRoom) (log : List LogEntry) : Type 0 where
+pub record EndsOverrun (most : SendCapacity) (log : List LogEntry) : Type 0 where
   pub before : List LogEntry
   pub conn : ℕ
   pub size : ℕ
   pub whole : log ≡ before ++ Torn conn [] size ∷ Shut conn ∷ []
   pub only : has_torn before ≡ false
-  pub passes : passes_room_by most before size ≡ true
+  pub passes : passes_capacity_by most before size ≡ true
 
--- a send that would have passed the room for sends ends a play before all else
+-- a send that would have passed the space for sends ends a play before all else
 abbrev pub played_status : Bool → Result (Unit {0}) ServeFault → ℕ
 played_status overrun end = if overrun then 10 else served_status end
 
@@ -67,8 +67,8 @@ Writes end log out r =
 -- ---- the whole
 
 -- The events of the script came over a wire that was served as `Served` says, and what was written is the text of its log. The wire
--- played the script: it gave the first events of it, all of them where the end came, no send passed the room, and nothing went out of a
--- send that failed. A send failed only where it would have passed the room, and it was the last; and the wire failed only behind it.
+-- played the script: it gave the first events of it, all of them where the end came, no send passed the space, and nothing went out of a
+-- send that failed. A send failed only where it would have passed the space, and it was the last; and the wire failed only behind it.
 pub record Replayed {S O : Type 0} (cube : CubeFiles) (script_name : List ℕ) (stated : ℕ) (files : FolderState) (store : Seen StoreState S) (out : Seen SinkState O) (r : Report) : Type 0 where
   pub script : List Arrival
   pub wire : Playing

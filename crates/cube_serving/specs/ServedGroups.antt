@@ -1,11 +1,12 @@
 -- What is told to the connections of a wire on which groups are served.
-use Rattle.std.specs.Prelude.{◌≡◌, ◌≢◌, ◌⊎◌, ◌+◌, ⊤, ℕ, Bool, IsTrue, List, [], ◌∷◌, length, map}
+use Rattle.std.specs.Prelude.{◌≡◌, ◌≢◌, ◌⊎◌, ◌+◌, ⊤, ℕ, zero, suc, Bool, IsTrue, List, [], ◌∷◌, length, map}
 use Rattle.std.specs.declared.result.Result.{Result}
 use Rattle.cube_model.specs.declared.ask.Question.{Question}
+use Rattle.cube_model.specs.declared.entry.Entry.{Entry}
 use Rattle.cube_model.specs.declared.outcome.Outcome.{Outcome}
 use Rattle.cube_model.specs.Cores.{Core}
 use Rattle.cube_model.specs.Cubes.{Each}
-use Rattle.cube_model.specs.Rooms.{Call, IsByItself, with_world}
+use Rattle.cube_model.specs.Rooms.{Room, Call, IsByItself, with_world}
 use Rattle.cube_io.specs.Causes.{Rose, RoseBy}
 use Rattle.cube_io.specs.Desks.{faults_in}
 use Rattle.cube_io.specs.Seen.{FolderState, StoreState, WireState, Seen, Unused, seen}
@@ -17,7 +18,7 @@ use Rattle.cube_opening.specs.Reports.{IsDone}
 use Rattle.cube_opening.specs.Ruling.{HasGroups}
 use Rattle.cube_opening.specs.declared.cube_files.RuledFiles.{RuledFiles}
 use Rattle.cube_opening.specs.declared.report.Report.{Report}
-use Rattle.cube_server.specs.Crashes.{Called}
+use Rattle.cube_server.specs.Crashes.{Called, IsInHand}
 use Rattle.cube_server.specs.Logs.{Luck, Call as Reached, calls_of, log_of}
 use Rattle.cube_server.specs.Seen.{DeskState}
 use Rattle.cube_server.specs.Steps.{Serves, sends_in, luck_of, stated_at}
@@ -25,13 +26,13 @@ use Rattle.cube_server.specs.declared.serving.ServeFault.{ServeFault}
 use Rattle.cube_serving.specs.Grouping.{GroupRun, AllOf, AllRecover, AreOpen, EndsClosedGroups, HaveJournals, ruled, first_room, first_rooms, last_rooms}
 use Rattle.cube_serving.specs.Serving.{Ends, Unheard, served_status, served_text}
 use Rattle.cube_serving.specs.NamedBooks.{Groups}
-use Rattle.cube_serving.specs.Starting.{RecoversIn, SurvivedIn}
+use Rattle.cube_serving.specs.Starting.{RecoversIn, SurvivedIn, HeldIn}
 use Rattle.cube_serving.specs.declared.named.NamedBook.{NamedBook}
 use Rattle.cube_talk.specs.Talk.{max_input}
 
 -- ---- what the log of the wire tells
 
--- Asks of groups: their histories before them and behind them, for how many asks there was room and is left, and what became of them.
+-- Asks of groups: their histories before them and behind them, for how many asks there was space and is left, and what became of them.
 pub record GroupsAsking : Type 0 where
   pub groups : List GroupRun
   pub stated : ℕ
@@ -40,10 +41,10 @@ pub record GroupsAsking : Type 0 where
 
 -- the groups as a desk, before the asks and behind them
 abbrev pub groups_before : Core → GroupsAsking → DeskState
-groups_before core a = record { manner = manner core.dims; rooms = first_rooms core a.groups; room = a.stated; outcomes = [] }
+groups_before core a = record { manner = manner core.dims; rooms = first_rooms core a.groups; capacity = a.stated; outcomes = [] }
 
 abbrev pub groups_behind : Core → GroupsAsking → DeskState
-groups_behind core a = record { manner = manner core.dims; rooms = last_rooms core a.groups; room = a.left; outcomes = a.outcomes }
+groups_behind core a = record { manner = manner core.dims; rooms = last_rooms core a.groups; capacity = a.left; outcomes = a.outcomes }
 
 -- what reached the groups, as turns of the rules over rooms
 abbrev pub turn_of : Reached → Call Question
@@ -72,6 +73,24 @@ pub record WiredGroups (core : Core) (a : GroupsAsking) (end : Result (Unit {0})
   pub asked : Called (groups_before core a) (groups_behind core a)
   pub tells : IsTrue told → GroupsTell core a log
 
+-- ---- what is in hand meanwhile
+
+-- room k of these has this history
+abbrev pub RoomHas : ℕ → List Room → List Entry → Type 0
+RoomHas k [] h = ⊥
+RoomHas zero (r ∷ rooms) h = h ≡ r.history
+RoomHas (suc k) (r ∷ rooms) h = RoomHas k rooms h
+
+-- the history is that of group k behind some of the asks, from the first on, or where the ask that comes next is one of the group's, that
+-- with its request
+abbrev pub IsInGroupsTurn : Core → List GroupRun → List Reached → ℕ → List Entry → Type 0
+IsInGroupsTurn core gs calls k h = (here : List Room) × IsInHand (manner core.dims) (first_rooms core gs) calls here × RoomHas k here h
+
+-- Asks over opened logs, seen from before the opening: where a log was exact behind that, a crash leaves what is in hand.
+abbrev pub HoldFrom : {S : Type 0} → (S → StoreState) → Core → List GroupRun → List Reached → S → S → Type 0
+HoldFrom {S} tells core gs calls old new = IsTrue (tells old).told → (opened : S) → (tells opened).told ≡ (tells old).told
+    → AllOf (λ k (g : GroupRun). IsExact core g.policy g.first ((tells old).logs k).state → RecoversIn k core g.policy (seen tells opened old) → HeldIn k core g.policy (IsInGroupsTurn core gs calls k) (seen tells opened new)) 0 gs
+
 -- ---- books that serve
 
 -- these are the books at the start of the run
@@ -95,17 +114,19 @@ pub record ServeWire {S : Type 0} (tells : S → StoreState) (core : Core) (old 
   pub outcomes : asking.outcomes ≡ new.outcomes
   pub wired : WiredGroups core asking end told log
   pub survived : SurviveFrom tells core asking store store'
+  pub held : HoldFrom tells core asking.groups wired.asked.calls store store'
 
 -- ---- the whole
 
--- A wire was served by open groups, and their journals kept what was answered, each by itself. For each ask in which one failed the store's
--- count of faults rose.
+-- A wire was served by open groups, and their journals kept what was answered, each by itself: beyond that a crash leaves in a journal the
+-- request of the ask in hand, and no other. For each ask in which a journal failed the store's count of faults rose.
 pub record ServedGroups {F S : Type 0} (cube : RuledFiles) (more : List (List ℕ)) (files : Seen FolderState F) (store : Seen StoreState S) (a : GroupsAsking) (end : Result (Unit {0}) ServeFault) (told : Bool) (log : List LogEntry) : Type 0 where
   pub core : Core
   pub facts : List ℕ
   pub opened : AreOpen cube more files store core facts a.groups
   pub wired : WiredGroups core a end told log
   pub survived : IsTrue store.before.told → AllOf (λ k (g : GroupRun). SurvivedIn k core g.policy g.first g.last a.outcomes store) 0 a.groups
+  pub held : IsTrue store.before.told → AllOf (λ k (g : GroupRun). HeldIn k core g.policy (IsInGroupsTurn core a.groups wired.asked.calls k) store) 0 a.groups
   pub failed : RoseBy (faults_in a.outcomes) store.before.faults store.after.faults
 
 -- Groups were opened, and nothing was served: of each journal every crash leaves what recovers its history.

@@ -32,7 +32,7 @@ use Rattle.cube_talk.specs.Talk.{max_input}
 
 -- ---- what the log of the wire tells
 
--- Asks of a cube: the history before them and behind them, for how many there was room and is left, and what became of them.
+-- Asks of a cube: the history before them and behind them, for how many there was space and is left, and what became of them.
 pub record Asking : Type 0 where
   pub first : List Entry
   pub last : List Entry
@@ -46,10 +46,10 @@ asking old new = record { first = old.history; last = new.history; stated = old.
 
 -- the cube as a desk, before the asks and behind them
 abbrev pub desk_before : Core → Policy → Asking → DeskState
-desk_before core policy a = record { manner = manner core.dims; rooms = alone (world core policy) a.first; room = a.stated; outcomes = [] }
+desk_before core policy a = record { manner = manner core.dims; rooms = alone (world core policy) a.first; capacity = a.stated; outcomes = [] }
 
 abbrev pub desk_behind : Core → Policy → Asking → DeskState
-desk_behind core policy a = record { manner = manner core.dims; rooms = alone (world core policy) a.last; room = a.left; outcomes = a.outcomes }
+desk_behind core policy a = record { manner = manner core.dims; rooms = alone (world core policy) a.last; capacity = a.left; outcomes = a.outcomes }
 
 -- The log is that of the definitions, over the world with the first history at its start and the last at its end. It hides each protected
 -- cell: over the world with the changes it would be the same, by the same events, outcomes and sends.
@@ -62,7 +62,7 @@ pub record Tells (core : Core) (policy : Policy) (a : Asking) (log : List LogEnt
 -- The end came, behind fewer events than are taken at most. Or it did not: the wire failed, or the stated asks or the most events were
 -- taken, which were counted.
 abbrev pub Ends : Result (Unit {0}) ServeFault → Bool → DeskState → DeskState → List LogEntry → Type 0
-Ends (Ok u) told old new log = (0 < new.room) × (IsTrue told → (es : List Arrival) × (events_in log ≡ es ++ End ∷ []) × (length es < max_input))
+Ends (Ok u) told old new log = (0 < new.capacity) × (IsTrue told → (es : List Arrival) × (events_in log ≡ es ++ End ∷ []) × (length es < max_input))
 Ends (Err fault) told old new log = IsCounted fault told old new max_input log × (IsTrue told → has_end log ≡ false)
 
 abbrev pub served_status : Result (Unit {0}) ServeFault → ℕ

@@ -20,7 +20,7 @@ use Rattle.cube_seal.specs.Seals.{Agrees, IsSealed, IsSealable, IsSealFault}
 use Rattle.cube_seal.specs.declared.fault.SealFault.{SealFault}
 use Rattle.cube_seal.specs.declared.fault.SealFault.TheVariants as seal
 use Rattle.cube_opening.specs.Opening.{Make, IsDigest, GotBehind, EndsUnopened}
-use Rattle.cube_opening.specs.Reports.{IsReport, NoRoom}
+use Rattle.cube_opening.specs.Reports.{IsReport, NoMessage}
 use Rattle.cube_opening.specs.declared.cube_files.CubeFiles.{CubeFiles}
 use Rattle.cube_opening.specs.declared.report.Report.{Report}
 
@@ -78,7 +78,7 @@ IsCalm store = store.after.faults ≡ store.before.faults
 -- journal are refused, or those of its seal.
 abbrev pub Unstarted : {S : Type 0} → Core → Policy → List ℕ → Seen StoreState S → Report → Type 0
 Unstarted core policy facts store r =
-    (NoRoom r × IsCalm store)
+    (NoMessage r × IsCalm store)
     ⊎ (IsReport 7 (codes "no memory\n") r × IsCalm store)
     ⊎ (IsReport 9 (codes "store failed\n") r × Rose store.before.faults store.after.faults)
     ⊎ ((fault : EngineFault) × IsRefused core policy store.before fault r × IsCalm store)

@@ -18,7 +18,7 @@ use crate::replaying::{open_script, report_play};
 use crate::serving::report_serving;
 use cube_io::{Folder, Sink, Store, Wire};
 use cube_model::Text;
-use cube_opening::{Report, Room, RuledFiles, open_ruled, statuses};
+use cube_opening::{Message, Report, RuledFiles, open_ruled, statuses};
 use cube_server::Pool;
 use std::alloc::Global;
 
@@ -26,7 +26,7 @@ use std::alloc::Global;
 /// holds.
 pub fn serve_grouped<F: Folder, S: Store, W: Wire>(
     alloc: Global,
-    room: Room,
+    message: Message,
     cube: &RuledFiles,
     journal: &Text,
     address: &Text,
@@ -36,7 +36,7 @@ pub fn serve_grouped<F: Folder, S: Store, W: Wire>(
     store: &mut S,
     wire: &mut W,
 ) -> Report
-    requires room { room ≡ [] }
+    requires message { message ≡ [] }
     requires stated { 1 ≤ stated }
     requires quiet { IsTrue (W.state wire.old).told → (W.state wire.old).log ≡ [] }
     ensures answers { GroupsServeEnds cube.now stated (seen F.state files.old files.new) (seen S.state store.old store.new) (seen W.state wire.old wire.new) result }
@@ -54,37 +54,37 @@ pub fn serve_grouped<F: Folder, S: Store, W: Wire>(
     ensures output { result.status ≢ 6 }
     ensures words { result.status ≢ 2 }
 {
-    let opened = match open_ruled(alloc, room, cube, files) {
+    let opened = match open_ruled(alloc, message, cube, files) {
         Ok(opened) => opened,
         Err(report) => return report,
     };
-    let started = match open_groups(alloc, opened.room, opened.value, journal, stated, store) {
+    let started = match open_groups(alloc, opened.message, opened.value, journal, stated, store) {
         Ok(started) => started,
         Err(report) => return report,
     };
     let Ok(mut pool) = Pool::new(alloc) else {
         return started
-            .room
+            .message
             .with(b"no memory\n")
             .close(alloc, statuses::NO_MEMORY);
     };
     match wire.listen(address, idle) {
         Ok(()) => {}
         Err(_) => return started
-            .room
+            .message
             .with(b"wire failed\n")
             .close(alloc, statuses::WIRE_FAILED),
     }
     let mut groups = started.value;
     let end = serve_groups(alloc, &mut groups, store, wire, &mut pool);
-    report_serving(started.room, end, groups.finish())
+    report_serving(started.message, end, groups.finish())
 }
 
 /// Plays a script to the groups over the cube of the files, each from the history on that its journal holds, and writes the log of what
 /// was sent.
 pub fn replay_grouped<F: Folder, S: Store, O: Sink>(
     alloc: Global,
-    room: Room,
+    message: Message,
     cube: &RuledFiles,
     journal: &Text,
     script_name: &Text,
@@ -93,7 +93,7 @@ pub fn replay_grouped<F: Folder, S: Store, O: Sink>(
     store: &mut S,
     out: &mut O,
 ) -> Report
-    requires room { room ≡ [] }
+    requires message { message ≡ [] }
     requires stated { 1 ≤ stated }
     ensures answers { GroupsReplayEnds cube.now script_name.now stated (seen F.state files.old files.new) (seen S.state store.old store.new) (seen O.state out.old out.new) result }
     ensures names { (store.new ≡ store.old) ⊎ AsksStore journal.now (seen S.state store.old store.new) result }
@@ -109,22 +109,22 @@ pub fn replay_grouped<F: Folder, S: Store, O: Sink>(
     ensures wire { result.status ≢ 8 }
     ensures words { result.status ≢ 2 }
 {
-    let opened = match open_ruled(alloc, room, cube, files) {
+    let opened = match open_ruled(alloc, message, cube, files) {
         Ok(opened) => opened,
         Err(report) => return report,
     };
     let ruled = opened.value;
-    let played = match open_script(alloc, opened.room, script_name, files) {
+    let played = match open_script(alloc, opened.message, script_name, files) {
         Ok(played) => played,
         Err(report) => return report,
     };
-    let started = match open_groups(alloc, played.room, ruled, journal, stated, store) {
+    let started = match open_groups(alloc, played.message, ruled, journal, stated, store) {
         Ok(started) => started,
         Err(report) => return report,
     };
     let Ok(mut pool) = Pool::new(alloc) else {
         return started
-            .room
+            .message
             .with(b"no memory\n")
             .close(alloc, statuses::NO_MEMORY);
     };
@@ -133,5 +133,5 @@ pub fn replay_grouped<F: Folder, S: Store, O: Sink>(
     let end = serve_groups(alloc, &mut groups, store, &mut wire, &mut pool);
     let _taken = wire.taken();
     let written = wire.write_log(out);
-    report_play(started.room, end, written, &wire, groups.finish())
+    report_play(started.message, end, written, &wire, groups.finish())
 }

@@ -20,7 +20,7 @@ use cube_engine::SharedCore;
 use cube_io::{SEAL_LOG, Store};
 use cube_model::{Items, Text};
 use cube_opening::{
-    Opened, Report, Room, Ruled, RuledGroup, RuledGroups, called, no_room, statuses,
+    Message, Opened, Report, Ruled, RuledGroup, RuledGroups, called, no_message, statuses,
 };
 use cube_seal::hold_seal;
 use std::alloc::Global;
@@ -28,13 +28,13 @@ use std::alloc::Global;
 // Adds a group, with the history that the next log recovers.
 fn add_group<S: Store>(
     alloc: Global,
-    room: Room,
+    message: Message,
     core: &SharedCore,
     group: RuledGroup,
     store: &mut S,
     groups: Groups,
 ) -> Result<Opened<Groups>, Report>
-    requires room { room ≡ [] }
+    requires message { message ≡ [] }
     requires few { length groups.books < 16 }
     requires short { length group.name ≤ 32 }
     requires new { AreNew (map (λ (b : NamedBook). b.name) groups.books) (group.name ∷ []) }
@@ -42,7 +42,7 @@ fn add_group<S: Store>(
     requires policy { IsPolicy core.now.dims group.policy }
     requires attached { IsTrue (S.state store.old).attached }
     requires kept { IsTrue (S.state store.old).told → Each (IsKeptIn (S.state store.old).logs) groups.books }
-    ensures room { IfOk result (λ opened. opened.room ≡ []) }
+    ensures message { IfOk result (λ opened. opened.message ≡ []) }
     ensures ok { IfOk result (λ opened. (more : List NamedBook) × (opened.value.books ≡ groups.books ++ more) × AreStarted core.now (seen S.state store.old store.new) (length groups.books) (group ∷ []) more) }
     ensures outcomes { IfOk result (λ opened. (opened.value.outcomes ≡ groups.outcomes) × (opened.value.left ≡ groups.left)) }
     ensures kept { IsTrue (S.state store.old).told → IfOk result (λ opened. Each (IsKeptIn (S.state store.new).logs) opened.value.books) }
@@ -53,10 +53,14 @@ fn add_group<S: Store>(
     ensures gathers { Gathers 1 (seen S.state store.old store.new) }
 {
     let Ok(name) = called(alloc, b"journal", &group.name) else {
-        return Err(no_room(alloc));
+        return Err(no_message(alloc));
     };
     let Ok(shared) = core.share() else {
-        return Err(room.with(b"no memory\n").close(alloc, statuses::NO_MEMORY));
+        return Err(
+            message
+                .with(b"no memory\n")
+                .close(alloc, statuses::NO_MEMORY),
+        );
     };
     let mut groups = groups;
     let RuledGroup {
@@ -65,23 +69,23 @@ fn add_group<S: Store>(
     } = group;
     match groups.add(alloc, store, group, shared, policy) {
         Ok(()) => Ok(Opened {
-            room,
+            message,
             value: groups,
         }),
-        Err(fault) => Err(refuse_journal(alloc, room, name.as_slice(), fault)),
+        Err(fault) => Err(refuse_journal(alloc, message, name.as_slice(), fault)),
     }
 }
 
 // Adds the groups that are left, in turn.
 fn add_rest<S: Store>(
     alloc: Global,
-    room: Room,
+    message: Message,
     core: &SharedCore,
     rest: RuledGroups,
     store: &mut S,
     groups: Groups,
 ) -> Result<Opened<Groups>, Report>
-    requires room { room ≡ [] }
+    requires message { message ≡ [] }
     requires few { length groups.books + length rest ≤ 16 }
     requires short { Each (λ g. length g.name ≤ 32) rest }
     requires new { AreNew (map (λ (b : NamedBook). b.name) groups.books) (map (λ (g : RuledGroup). g.name) rest) }
@@ -89,7 +93,7 @@ fn add_rest<S: Store>(
     requires policies { Each (λ g. IsPolicy core.now.dims g.policy) rest }
     requires attached { IsTrue (S.state store.old).attached }
     requires kept { IsTrue (S.state store.old).told → Each (IsKeptIn (S.state store.old).logs) groups.books }
-    ensures room { IfOk result (λ opened. opened.room ≡ []) }
+    ensures message { IfOk result (λ opened. opened.message ≡ []) }
     ensures ok { IfOk result (λ opened. (more : List NamedBook) × (opened.value.books ≡ groups.books ++ more) × AreStarted core.now (seen S.state store.old store.new) (length groups.books) rest more) }
     ensures outcomes { IfOk result (λ opened. (opened.value.outcomes ≡ groups.outcomes) × (opened.value.left ≡ groups.left)) }
     ensures kept { IsTrue (S.state store.old).told → IfOk result (λ opened. Each (IsKeptIn (S.state store.new).logs) opened.value.books) }
@@ -101,32 +105,32 @@ fn add_rest<S: Store>(
 {
     if rest.is_empty() {
         return Ok(Opened {
-            room,
+            message,
             value: groups,
         });
     }
     let mut rest = rest.into_vec();
     let group = rest.remove(0);
-    let (room, groups) = match add_group(alloc, room, core, group, store, groups) {
-        Ok(opened) => (opened.room, opened.value),
+    let (message, groups) = match add_group(alloc, message, core, group, store, groups) {
+        Ok(opened) => (opened.message, opened.value),
         Err(report) => return Err(report),
     };
-    add_rest(alloc, room, core, Items::from_vec(rest), store, groups)
+    add_rest(alloc, message, core, Items::from_vec(rest), store, groups)
 }
 
 // Attaches a store by its name, and starts a book over the log of each group.
 fn start_groups<S: Store>(
     alloc: Global,
-    room: Room,
+    message: Message,
     core: Core,
     ruled: RuledGroups,
     name: &Text,
     stated: u64,
     store: &mut S,
 ) -> Result<Opened<Groups>, Report>
-    requires room { room ≡ [] }
+    requires message { message ≡ [] }
     requires groups { AreGroups core.dims ruled }
-    ensures room { IfOk result (λ opened. opened.room ≡ []) }
+    ensures message { IfOk result (λ opened. opened.message ≡ []) }
     ensures ok { IfOk result (λ opened. AreStarted core (seen S.state store.old store.new) 0 ruled opened.value.books) }
     ensures outcomes { IfOk result (λ opened. (opened.value.outcomes ≡ []) × (opened.value.left ≡ stated)) }
     ensures attached { OnOk result (IsTrue (S.state store.new).attached) }
@@ -143,31 +147,40 @@ fn start_groups<S: Store>(
     match store.attach(name) {
         Ok(()) => {}
         Err(_) => return Err(
-            room.with(b"store failed\n")
+            message
+                .with(b"store failed\n")
                 .close(alloc, statuses::STORE_FAILED),
         ),
     }
     let Ok(groups) = Groups::new(alloc, stated) else {
-        return Err(room.with(b"no memory\n").close(alloc, statuses::NO_MEMORY));
+        return Err(
+            message
+                .with(b"no memory\n")
+                .close(alloc, statuses::NO_MEMORY),
+        );
     };
     let Ok(shared) = SharedCore::new(alloc, core) else {
-        return Err(room.with(b"no memory\n").close(alloc, statuses::NO_MEMORY));
+        return Err(
+            message
+                .with(b"no memory\n")
+                .close(alloc, statuses::NO_MEMORY),
+        );
     };
-    add_rest(alloc, room, &shared, ruled, store, groups)
+    add_rest(alloc, message, &shared, ruled, store, groups)
 }
 
 /// Attaches a store by its name, starts a book over the log of each group, and holds all by the seal of the facts.
 pub fn open_groups<S: Store>(
     alloc: Global,
-    room: Room,
+    message: Message,
     ruled: Ruled,
     name: &Text,
     stated: u64,
     store: &mut S,
 ) -> Result<Opened<Groups>, Report>
-    requires room { room ≡ [] }
+    requires message { message ≡ [] }
     requires groups { AreGroups ruled.core.dims ruled.groups }
-    ensures room { IfOk result (λ opened. opened.room ≡ []) }
+    ensures message { IfOk result (λ opened. opened.message ≡ []) }
     ensures ok { IfOk result (λ opened. AreStarted ruled.core (seen S.state store.old store.new) 0 ruled.groups opened.value.books) }
     ensures some { IfOk result (λ opened. 1 ≤ length opened.value.books) }
     ensures over { IfOk result (λ opened. Each (λ b. b.book.core ≡ ruled.core) opened.value.books) }
@@ -192,12 +205,12 @@ pub fn open_groups<S: Store>(
         groups,
         facts,
     } = ruled;
-    let opened = match start_groups(alloc, room, core, groups, name, stated, store) {
+    let opened = match start_groups(alloc, message, core, groups, name, stated, store) {
         Ok(opened) => opened,
         Err(report) => return Err(report),
     };
     match hold_seal(alloc, store, &facts) {
         Ok(()) => Ok(opened),
-        Err(fault) => Err(refuse_seal(alloc, opened.room, fault, &facts)),
+        Err(fault) => Err(refuse_seal(alloc, opened.message, fault, &facts)),
     }
 }

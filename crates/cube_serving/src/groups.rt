@@ -7,6 +7,7 @@ ghost use Rattle.cube_model.specs.Cubes.{Each};
 ghost use Rattle.cube_model.specs.Dims.{Dims};
 ghost use Rattle.cube_model.specs.Policies.{IsPolicy};
 ghost use Rattle.cube_model.specs.Rooms.{aim, room_of, missed_by};
+ghost use Rattle.cube_io.specs.Desks.{most_calls};
 ghost use Rattle.cube_io.specs.States.{Gained};
 ghost use Rattle.cube_io.specs.Told.{Works, OthersStay};
 ghost use Rattle.cube_journal.specs.Keeping.{IsInRecovery};
@@ -14,7 +15,7 @@ ghost use Rattle.cube_engine.specs.Constant.{manner_is_constant};
 ghost use Rattle.cube_engine.specs.Kept.{history_of, IsExact, IsWithin};
 ghost use Rattle.cube_engine.specs.Opening.{StartCause, IsStartFault};
 ghost use Rattle.cube_engine.specs.Steps as steps;
-ghost use Rattle.cube_serving.specs.NamedBooks.{rooms_of, dims_of, is_named, IsKeptIn, AreInOrder, places_of, HoldsAt, IsTurn, IsCounted, IsAdded};
+ghost use Rattle.cube_serving.specs.NamedBooks.{rooms_of, dims_of, is_named, any_failed, IsKeptIn, AreInOrder, places_of, HoldsAt, IsTurn, IsCounted, IsAdded};
 
 use crate::named::NamedBook;
 use cube_core::Steps;
@@ -78,6 +79,7 @@ fn answer_at<S: Store, L: Ledger>(
     requires kept { IsTrue (S.state store.old).told → Each (IsKeptIn (S.state store.old).logs) books.old.items }
     ensures turn { IsTurn books.old.items books.new.items ask.now result.0 result.1 (S.state store.old) (S.state store.new) }
     ensures untouched { (steps.manner (dims_of books.old.items)).next (rooms_of books.old.items) ask.now outcome.Given ≡ rooms_of books.old.items → store.new ≡ store.old }
+    ensures memory { result.1 ≡ outcome.NoMemory → store.new ≡ store.old }
 {
     books[place]
         .book
@@ -97,6 +99,7 @@ fn answer_by<S: Store, L: Ledger>(
     requires kept { IsTrue (S.state store.old).told → Each (IsKeptIn (S.state store.old).logs) books.old.items }
     ensures turn { IsTurn books.old.items books.new.items ask.now result.0 result.1 (S.state store.old) (S.state store.new) }
     ensures untouched { (steps.manner (dims_of books.old.items)).next (rooms_of books.old.items) ask.now outcome.Given ≡ rooms_of books.old.items → store.new ≡ store.old }
+    ensures memory { result.1 ≡ outcome.NoMemory → store.new ≡ store.old }
 {
     match find_book(books.as_slice(), aim_of(ask)) {
         Some(place) => answer_at(books, place, alloc, store, ask, counted),
@@ -143,6 +146,7 @@ fn add_book<S: Store>(
     ensures order { AreInOrder books.new.items }
     ensures ok { OnOk result (IsAdded books.old.items books.new.items name core policy (S.state store.old) (S.state store.new)) }
     ensures err { OnErr result (books.new.items ≡ books.old.items) }
+    ensures quiet { any_failed books.new.items ≡ any_failed books.old.items }
     ensures fault { IsTrue (S.state store.old).told → IfErr result (IsStartFault (history_of core policy ((S.state store.old).logs (length books.old.items)).state.now) ((S.state store.old).logs (length books.old.items)).state.now) }
     ensures kept { IsTrue (S.state store.old).told → Each (IsKeptIn (S.state store.new).logs) books.new.items }
     ensures crash { IsTrue (S.state store.old).told → Gained (IsInRecovery (history_of core policy) ((S.state store.old).logs (length books.old.items)).state) ((S.state store.old).logs (length books.old.items)) ((S.state store.new).logs (length books.old.items)) }
@@ -168,21 +172,24 @@ pub struct Groups {
 }
 
 impl Model for Groups {
+    ghost use Rattle.std.specs.Prelude.{◌≡◌, true};
+    ghost use Rattle.cube_io.specs.Desks.{has_fault};
     ghost use Rattle.cube_serving.specs.NamedBooks as said;
 
     ghost Value = { said.Groups };
 
     ghost view = { λ g. record { books = g.books.items; outcomes = g.turns.outcomes; left = g.turns.left } };
 
-    ghost invariant = { λ g. said.AreInOrder g.books.items };
+    // The last keep of a book failed only where the journal failed for an ask.
+    ghost invariant = { λ g. said.AreInOrder g.books.items × (said.any_failed g.books.items ≡ true → has_fault g.turns.outcomes ≡ true) };
 }
 
 impl Groups {
-    /// No group yet, with room for so many asks.
-    pub fn new(alloc: Global, room: u64) -> Result<Groups, NoMemory>
-        ensures { IfOk result (λ groups. groups ≡ record { books = []; outcomes = []; left = room }) }
+    /// No group yet, with space for so many asks.
+    pub fn new(alloc: Global, capacity: u64) -> Result<Groups, NoMemory>
+        ensures { IfOk result (λ groups. groups ≡ record { books = []; outcomes = []; left = capacity }) }
     {
-        let turns = Turns::new(alloc, room)?;
+        let turns = Turns::new(alloc, capacity)?;
         Ok(Groups {
             books: Vec::new(alloc),
             turns,
@@ -260,7 +267,9 @@ impl Groups {
         requires attached { IsTrue (S.state store.old).attached }
         requires kept { IsTrue (S.state store.old).told → Each (IsKeptIn (S.state store.old).logs) self.old.books }
         ensures counted { IsCounted self.old self.new ask.now result (S.state store.old) (S.state store.new) }
+        ensures works { Works (S.state store.old) (S.state store.new) (most_calls self.old.outcomes) }
         ensures untouched { (steps.manner (dims_of self.old.books)).next (rooms_of self.old.books) ask.now outcome.Given ≡ rooms_of self.old.books → store.new ≡ store.old }
+        ensures memory { self.new.outcomes ≡ self.old.outcomes ++ outcome.NoMemory ∷ [] → store.new ≡ store.old }
     {
         let mut counted = Steps::<L>::new(blank);
         let (reply, outcome) = answer_by(&mut self.books, alloc, store, ask, &mut counted);
@@ -278,8 +287,8 @@ impl Groups {
         self.turns.record(Outcome::NoMemory);
     }
 
-    // How many more asks there is room for.
-    fn room(&self) -> u64
+    // How many more asks there is space for.
+    fn capacity(&self) -> u64
         ensures { result ≡ self.now.left }
     {
         self.turns.left()
@@ -293,7 +302,7 @@ impl<S: Store> Desk<S> for Groups {
 
     ghost outcomes = { λ e. e.outcomes };
 
-    ghost room = { λ e. e.left };
+    ghost capacity = { λ e. e.left };
 
     ghost fits = { λ e store. IsTrue (S.state store).attached × (IsTrue (S.state store).told → Each (IsKeptIn (S.state store).logs) e.books) };
 
@@ -311,7 +320,7 @@ impl<S: Store> Desk<S> for Groups {
     }
 
     fn left(&self) -> u64 {
-        self.room()
+        self.capacity()
     }
 
     ghost failures = { λ e. manner_is_constant (dims_of e.books) };

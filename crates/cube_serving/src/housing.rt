@@ -33,7 +33,7 @@ pub fn serve_groups<S: Store, W: Wire>(
     requires some { 1 ≤ length groups.old.books }
     requires rules { Each (λ b. IsRuled b.book) groups.old.books }
     requires unasked { groups.old.outcomes ≡ [] }
-    requires room { 1 ≤ groups.old.left }
+    requires capacity { 1 ≤ groups.old.left }
     requires pool { IsFree pool.old }
     requires quiet { IsTrue (W.state wire.old).told → (W.state wire.old).log ≡ [] }
     ensures served { (core : Core) → Each (λ b. b.book.core ≡ core) groups.old.books → ServeWire S.state core groups.old groups.new result (W.state wire.old).told (W.state wire.new).log store.old store.new }

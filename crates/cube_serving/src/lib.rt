@@ -9,6 +9,7 @@ mod named;
 mod replaying;
 mod serving;
 mod starting;
+mod worked;
 
 pub use commands::{replay_grouped, serve_grouped};
 pub use gathering::open_groups;
@@ -17,3 +18,4 @@ pub use housing::serve_groups;
 pub use replaying::replay_cube;
 pub use serving::serve_cube;
 pub use starting::open_engine;
+pub use worked::worked_in_hand;

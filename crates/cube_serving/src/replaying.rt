@@ -17,27 +17,30 @@ use crate::serving::{report_serving, serve_engine};
 use crate::starting::open_engine;
 use cube_io::{Failed, Folder, Sink, Store};
 use cube_model::{Outcomes, Text};
-use cube_opening::{CubeFiles, Opened, Report, Room, open_guarded, read_bytes, statuses};
+use cube_opening::{CubeFiles, Message, Opened, Report, open_guarded, read_bytes, statuses};
 use cube_script::{ScriptFault, ScriptWire};
 use cube_server::{Pool, ServeFault};
 use std::alloc::Global;
 
 // The wire that plays the script of these bytes.
-fn make_wire(alloc: Global, room: Room, bytes: &Text) -> Result<Opened<ScriptWire>, Report>
-    requires { room ≡ [] }
-    ensures ok { IfOk result (λ opened. (opened.room ≡ []) × ((script : List Arrival) × (opened.value ≡ wire_of script) × (list_any is_end script ≡ false) × (length bytes.now ≤ max_file → script_said bytes.now ≡ Ok script))) }
+fn make_wire(alloc: Global, message: Message, bytes: &Text) -> Result<Opened<ScriptWire>, Report>
+    requires { message ≡ [] }
+    ensures ok { IfOk result (λ opened. (opened.message ≡ []) × ((script : List Arrival) × (opened.value ≡ wire_of script) × (list_any is_end script ≡ false) × (length bytes.now ≤ max_file → script_said bytes.now ≡ Ok script))) }
     ensures err { IfErr result (λ r. IsReport 7 (codes "no memory\n") r ⊎ (IsReport 3 r.text r × (length bytes.now ≤ max_file → script_said bytes.now ≡ Err r.text))) }
 {
     match ScriptWire::new(alloc, bytes) {
-        Ok(value) => Ok(Opened { room, value }),
+        Ok(value) => Ok(Opened { message, value }),
         Err(ScriptFault::Line { line }) => Err(
-            room.with(b"script: line ")
+            message
+                .with(b"script: line ")
                 .with_number(line)
                 .with(b"\n")
                 .close(alloc, statuses::FILE_REFUSED),
         ),
         Err(ScriptFault::NoMemory) => Err(
-            room.with(b"no memory\n").close(alloc, statuses::NO_MEMORY),
+            message
+                .with(b"no memory\n")
+                .close(alloc, statuses::NO_MEMORY),
         ),
     }
 }
@@ -45,29 +48,30 @@ fn make_wire(alloc: Global, room: Room, bytes: &Text) -> Result<Opened<ScriptWir
 /// Reads the script.
 pub(crate) fn open_script<F: Folder>(
     alloc: Global,
-    room: Room,
+    message: Message,
     name: &Text,
     files: &mut F,
 ) -> Result<Opened<ScriptWire>, Report>
-    requires { room ≡ [] }
-    ensures ok { IfOk result (λ opened. (opened.room ≡ []) × ((script : List Arrival) × (opened.value ≡ wire_of script) × (list_any is_end script ≡ false) × IfSome (F.state files.old).files (λ known. FileSays script_said name.now known (Ok script)))) }
+    requires { message ≡ [] }
+    ensures ok { IfOk result (λ opened. (opened.message ≡ []) × ((script : List Arrival) × (opened.value ≡ wire_of script) × (list_any is_end script ≡ false) × IfSome (F.state files.old).files (λ known. FileSays script_said name.now known (Ok script)))) }
     ensures err { IfErr result (EndsAt [] script_said name.now (seen F.state files.old files.new)) }
     ensures asks { OnOk result (AskedFor (name.now ∷ []) (seen F.state files.old files.new)) }
     ensures reads { Reads (seen F.state files.old files.new) result }
 {
-    let opened = match read_bytes(alloc, room, b"script", name, files) {
+    let opened = match read_bytes(alloc, message, b"script", name, files) {
         Ok(opened) => opened,
         Err(report) => return Err(report),
     };
-    make_wire(alloc, opened.room, &opened.value)
+    make_wire(alloc, opened.message, &opened.value)
 }
 
-// The text on a play that has no room for another send.
-fn overrun_room(room: Room, requests: u64, events: u64) -> Room
-    requires { room ≡ [] }
+// The text on a play that has no space for another send.
+fn overrun_room(message: Message, requests: u64, events: u64) -> Message
+    requires { message ≡ [] }
     ensures { result ≡ codes "spent: room for sends, " ++ decimal requests ++ codes " requests, " ++ decimal events ++ codes " events\n" }
 {
-    room.with(b"spent: room for sends, ")
+    message
+        .with(b"spent: room for sends, ")
         .with_number(requests)
         .with(b" requests, ")
         .with_number(events)
@@ -76,33 +80,33 @@ fn overrun_room(room: Room, requests: u64, events: u64) -> Room
 
 /// The report on how a play ended.
 pub(crate) fn report_play(
-    room: Room,
+    message: Message,
     end: Result<(), ServeFault>,
     written: Result<(), Failed>,
     wire: &ScriptWire,
     outcomes: Outcomes,
 ) -> Report
-    requires { room ≡ [] }
+    requires { message ≡ [] }
     ensures put { OnOk written ((result.status ≡ played_status (has_torn wire.now.log) end) × (result.text ≡ played_text (has_torn wire.now.log) end outcomes wire.now.log)) }
     ensures unput { is_err written ≡ true → (result.status ≡ 6) × (result.text ≡ codes "output failed\n") }
     ensures outcomes { result.outcomes ≡ outcomes }
 {
     if written.is_err() {
-        return room
+        return message
             .with(b"output failed\n")
             .close_with(statuses::OUTPUT_FAILED, outcomes);
     }
     if !wire.overrun() {
-        return report_serving(room, end, outcomes);
+        return report_serving(message, end, outcomes);
     }
     let requests = outcomes.len() as u64;
-    overrun_room(room, requests, wire.taken()).close_with(statuses::ALL_SPENT, outcomes)
+    overrun_room(message, requests, wire.taken()).close_with(statuses::ALL_SPENT, outcomes)
 }
 
 /// Plays a script to the cube of the files, from the history on that the journal holds, and writes the log of what was sent.
 pub fn replay_cube<F: Folder, S: Store, O: Sink>(
     alloc: Global,
-    room: Room,
+    message: Message,
     cube: &CubeFiles,
     journal: &Text,
     script_name: &Text,
@@ -111,7 +115,7 @@ pub fn replay_cube<F: Folder, S: Store, O: Sink>(
     store: &mut S,
     out: &mut O,
 ) -> Report
-    requires room { room ≡ [] }
+    requires message { message ≡ [] }
     requires stated { 1 ≤ stated }
     ensures answers { ReplayEnds cube.now script_name.now stated (seen F.state files.old files.new) (seen S.state store.old store.new) (seen O.state out.old out.new) result }
     ensures names { (store.new ≡ store.old) ⊎ AsksStore journal.now (seen S.state store.old store.new) result }
@@ -127,22 +131,22 @@ pub fn replay_cube<F: Folder, S: Store, O: Sink>(
     ensures wire { result.status ≢ 8 }
     ensures words { result.status ≢ 2 }
 {
-    let opened = match open_guarded(alloc, room, cube, files) {
+    let opened = match open_guarded(alloc, message, cube, files) {
         Ok(opened) => opened,
         Err(report) => return report,
     };
     let guarded = opened.value;
-    let played = match open_script(alloc, opened.room, script_name, files) {
+    let played = match open_script(alloc, opened.message, script_name, files) {
         Ok(played) => played,
         Err(report) => return report,
     };
-    let started = match open_engine(alloc, played.room, guarded, journal, stated, store) {
+    let started = match open_engine(alloc, played.message, guarded, journal, stated, store) {
         Ok(started) => started,
         Err(report) => return report,
     };
     let Ok(mut pool) = Pool::new(alloc) else {
         return started
-            .room
+            .message
             .with(b"no memory\n")
             .close(alloc, statuses::NO_MEMORY);
     };
@@ -151,5 +155,5 @@ pub fn replay_cube<F: Folder, S: Store, O: Sink>(
     let end = serve_engine(alloc, &mut engine, store, &mut wire, &mut pool);
     let _taken = wire.taken();
     let written = wire.write_log(out);
-    report_play(started.room, end, written, &wire, engine.finish())
+    report_play(started.message, end, written, &wire, engine.finish())
 }

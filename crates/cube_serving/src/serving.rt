@@ -15,7 +15,7 @@ use crate::starting::open_engine;
 use cube_engine::Engine;
 use cube_io::{Folder, Store, Wire};
 use cube_model::{Outcomes, Text};
-use cube_opening::{CubeFiles, Report, Room, open_guarded, spent_room, statuses};
+use cube_opening::{CubeFiles, Message, Report, open_guarded, spent_message, statuses};
 use cube_server::{Pool, ServeFault, serve};
 use std::alloc::Global;
 
@@ -34,7 +34,7 @@ pub(crate) fn serve_engine<S: Store, W: Wire>(
     requires kept { IsTrue (S.state store.old).told → IsKept engine.old.core engine.old.policy engine.old.history engine.old.journal ((S.state store.old).logs 0).state }
     requires log { engine.old.journal.log ≡ 0 }
     requires unasked { engine.old.outcomes ≡ [] }
-    requires room { 1 ≤ engine.old.left }
+    requires capacity { 1 ≤ engine.old.left }
     requires pool { IsFree pool.old }
     requires quiet { IsTrue (W.state wire.old).told → (W.state wire.old).log ≡ [] }
     ensures wired { WiredOver S.state engine.old.core engine.old.policy (asking engine.old engine.new) result (W.state wire.old).told (W.state wire.new).log store.old store.new }
@@ -52,19 +52,23 @@ pub(crate) fn serve_engine<S: Store, W: Wire>(
 }
 
 // The report on how a serving ended.
-pub(crate) fn report_serving(room: Room, end: Result<(), ServeFault>, outcomes: Outcomes) -> Report
-    requires { room ≡ [] }
+pub(crate) fn report_serving(
+    message: Message,
+    end: Result<(), ServeFault>,
+    outcomes: Outcomes,
+) -> Report
+    requires { message ≡ [] }
     ensures status { result.status ≡ served_status end }
     ensures text { result.text ≡ served_text end }
     ensures outcomes { result.outcomes ≡ outcomes }
 {
     match end {
-        Ok(()) => room.close_with(statuses::DONE, outcomes),
-        Err(ServeFault::WireFailed) => room
+        Ok(()) => message.close_with(statuses::DONE, outcomes),
+        Err(ServeFault::WireFailed) => message
             .with(b"wire failed\n")
             .close_with(statuses::WIRE_FAILED, outcomes),
         Err(ServeFault::Spent { requests, events }) => {
-            spent_room(room, requests, events).close_with(statuses::ALL_SPENT, outcomes)
+            spent_message(message, requests, events).close_with(statuses::ALL_SPENT, outcomes)
         }
     }
 }
@@ -72,7 +76,7 @@ pub(crate) fn report_serving(room: Room, end: Result<(), ServeFault>, outcomes: 
 /// Answers the asks of the connections of a wire by the cube of the files, from the history on that the journal holds.
 pub fn serve_cube<F: Folder, S: Store, W: Wire>(
     alloc: Global,
-    room: Room,
+    message: Message,
     cube: &CubeFiles,
     journal: &Text,
     address: &Text,
@@ -82,7 +86,7 @@ pub fn serve_cube<F: Folder, S: Store, W: Wire>(
     store: &mut S,
     wire: &mut W,
 ) -> Report
-    requires room { room ≡ [] }
+    requires message { message ≡ [] }
     requires stated { 1 ≤ stated }
     requires quiet { IsTrue (W.state wire.old).told → (W.state wire.old).log ≡ [] }
     ensures answers { ServeEnds cube.now stated (seen F.state files.old files.new) (seen S.state store.old store.new) (seen W.state wire.old wire.new) result }
@@ -100,28 +104,28 @@ pub fn serve_cube<F: Folder, S: Store, W: Wire>(
     ensures output { result.status ≢ 6 }
     ensures words { result.status ≢ 2 }
 {
-    let opened = match open_guarded(alloc, room, cube, files) {
+    let opened = match open_guarded(alloc, message, cube, files) {
         Ok(opened) => opened,
         Err(report) => return report,
     };
-    let started = match open_engine(alloc, opened.room, opened.value, journal, stated, store) {
+    let started = match open_engine(alloc, opened.message, opened.value, journal, stated, store) {
         Ok(started) => started,
         Err(report) => return report,
     };
     let Ok(mut pool) = Pool::new(alloc) else {
         return started
-            .room
+            .message
             .with(b"no memory\n")
             .close(alloc, statuses::NO_MEMORY);
     };
     match wire.listen(address, idle) {
         Ok(()) => {}
         Err(_) => return started
-            .room
+            .message
             .with(b"wire failed\n")
             .close(alloc, statuses::WIRE_FAILED),
     }
     let mut engine = started.value;
     let end = serve_engine(alloc, &mut engine, store, wire, &mut pool);
-    report_serving(started.room, end, engine.finish())
+    report_serving(started.message, end, engine.finish())
 }

@@ -6,7 +6,7 @@ ghost use Rattle.cube_io.specs.Told.{OthersStay};
 ghost use Rattle.cube_engine.specs.Engines.{book_of};
 ghost use Rattle.cube_engine.specs.Kept.{history_of, IsKept, IsExact};
 ghost use Rattle.cube_engine.specs.Worlds.{IsRuled};
-ghost use Rattle.cube_opening.specs.Reports.{IsReport, NoRoom};
+ghost use Rattle.cube_opening.specs.Reports.{IsReport, NoMessage};
 ghost use Rattle.cube_seal.specs.Seals.{Agrees, IsSealed};
 ghost use Rattle.cube_serving.specs.Starting.{journal_text_as as journal_words, journal_status as status_for, seal_text as seal_words, seal_status, IsCalm, Unstarted, AsksStore, Opens, Recovers, Seals};
 
@@ -15,7 +15,7 @@ use cube_engine::{Engine, EngineFault};
 use cube_io::{SEAL_LOG, Store};
 use cube_journal::Digest;
 use cube_model::{NoMemory, Policy, Text};
-use cube_opening::{Guarded, Opened, Report, Room, no_room, statuses, with_text};
+use cube_opening::{Guarded, Message, Opened, Report, no_message, statuses, with_text};
 use cube_seal::{SealFault, hold_seal};
 use std::alloc::Global;
 
@@ -50,47 +50,58 @@ fn other_digest(
     words: &[u8],
     now: &Digest,
 ) -> Report
-    ensures { IsReport 4 (called.now ++ front.now ++ kept.now ++ words.now ++ now.now ++ codes "\n") result ⊎ NoRoom result }
+    ensures { IsReport 4 (called.now ++ front.now ++ kept.now ++ words.now ++ now.now ++ codes "\n") result ⊎ NoMessage result }
 {
     match two_digests(alloc, called, front, kept, words, now) {
         Ok(text) => with_text(alloc, statuses::JOURNAL_REFUSED, text),
-        Err(_) => no_room(alloc),
+        Err(_) => no_message(alloc),
     }
 }
 
 // The text on a line of a log, whose journal is called so.
-fn line_room(room: Room, called: &[u8], line: u64, words: &[u8]) -> Room
-    requires room { room ≡ [] }
+fn line_message(message: Message, called: &[u8], line: u64, words: &[u8]) -> Message
+    requires message { message ≡ [] }
     requires short { length called.now ≤ 40 }
     requires few { length words.now ≤ 32 }
     ensures { result ≡ called.now ++ codes ": line " ++ decimal line ++ words.now }
 {
-    room.with(called)
+    message
+        .with(called)
         .with(b": line ")
         .with_number(line)
         .with(words)
 }
 
 /// The report on a journal that was not opened, which is called so.
-pub(crate) fn refuse_journal(alloc: Global, room: Room, called: &[u8], fault: EngineFault) -> Report
-    requires room { room ≡ [] }
+pub(crate) fn refuse_journal(
+    alloc: Global,
+    message: Message,
+    called: &[u8],
+    fault: EngineFault,
+) -> Report
+    requires message { message ≡ [] }
     requires short { length called.now ≤ 40 }
-    ensures { IsReport (status_for fault) (journal_words called.now fault) result ⊎ ((status_for fault ≡ 4) × NoRoom result) }
+    ensures { IsReport (status_for fault) (journal_words called.now fault) result ⊎ ((status_for fault ≡ 4) × NoMessage result) }
 {
     match fault {
-        EngineFault::Failed => room
+        EngineFault::Failed => message
             .with(b"store failed\n")
             .close(alloc, statuses::STORE_FAILED),
-        EngineFault::NoMemory => room.with(b"no memory\n").close(alloc, statuses::NO_MEMORY),
-        EngineFault::TooLong => room
+        EngineFault::NoMemory => message
+            .with(b"no memory\n")
+            .close(alloc, statuses::NO_MEMORY),
+        EngineFault::TooLong => message
             .with(called)
             .with(b": too long\n")
             .close(alloc, statuses::JOURNAL_REFUSED),
         EngineFault::Damaged { line } => {
-            line_room(room, called, line, b" damaged\n").close(alloc, statuses::JOURNAL_REFUSED)
+            line_message(message, called, line, b" damaged\n").close(
+                alloc,
+                statuses::JOURNAL_REFUSED,
+            )
         }
         EngineFault::Inadmissible { line } => {
-            line_room(room, called, line, b" inadmissible\n").close(
+            line_message(message, called, line, b" inadmissible\n").close(
                 alloc,
                 statuses::JOURNAL_REFUSED,
             )
@@ -102,16 +113,23 @@ pub(crate) fn refuse_journal(alloc: Global, room: Room, called: &[u8], fault: En
 }
 
 /// The report on a journal that its seal does not hold.
-pub(crate) fn refuse_seal(alloc: Global, room: Room, fault: SealFault, facts: &Digest) -> Report
-    requires { room ≡ [] }
-    ensures { IsReport (seal_status fault) (seal_words facts.now fault) result ⊎ ((seal_status fault ≡ 4) × NoRoom result) }
+pub(crate) fn refuse_seal(
+    alloc: Global,
+    message: Message,
+    fault: SealFault,
+    facts: &Digest,
+) -> Report
+    requires { message ≡ [] }
+    ensures { IsReport (seal_status fault) (seal_words facts.now fault) result ⊎ ((seal_status fault ≡ 4) × NoMessage result) }
 {
     match fault {
-        SealFault::Failed => room
+        SealFault::Failed => message
             .with(b"store failed\n")
             .close(alloc, statuses::STORE_FAILED),
-        SealFault::NoMemory => room.with(b"no memory\n").close(alloc, statuses::NO_MEMORY),
-        SealFault::Damaged => room
+        SealFault::NoMemory => message
+            .with(b"no memory\n")
+            .close(alloc, statuses::NO_MEMORY),
+        SealFault::Damaged => message
             .with(b"journal: seal damaged\n")
             .close(alloc, statuses::JOURNAL_REFUSED),
         SealFault::OtherFacts { kept } => {
@@ -123,16 +141,16 @@ pub(crate) fn refuse_seal(alloc: Global, room: Room, fault: SealFault, facts: &D
 // Attaches a store by its name, and starts an engine over its log.
 fn start_engine<S: Store>(
     alloc: Global,
-    room: Room,
+    message: Message,
     core: Core,
     policy: Policy,
     name: &Text,
     stated: u64,
     store: &mut S,
 ) -> Result<Opened<Engine>, Report>
-    requires room { room ≡ [] }
+    requires message { message ≡ [] }
     requires policy { IsPolicy core.dims policy }
-    ensures room { IfOk result (λ opened. opened.room ≡ []) }
+    ensures message { IfOk result (λ opened. opened.message ≡ []) }
     ensures engine { IfOk result (λ opened. opened.value ≡ record { core = core; policy = policy; history = opened.value.history; journal = opened.value.journal; outcomes = []; left = stated }) }
     ensures rules { IfOk result (λ opened. IsRuled (book_of opened.value)) }
     ensures log { IfOk result (λ opened. opened.value.journal.log ≡ 0) }
@@ -152,31 +170,32 @@ fn start_engine<S: Store>(
     match store.attach(name) {
         Ok(()) => {}
         Err(_) => return Err(
-            room.with(b"store failed\n")
+            message
+                .with(b"store failed\n")
                 .close(alloc, statuses::STORE_FAILED),
         ),
     }
     match Engine::start(alloc, core, policy, store, LOG, stated) {
         Ok(value) => {
             let _rules = value.core();
-            Ok(Opened { room, value })
+            Ok(Opened { message, value })
         }
-        Err(fault) => Err(refuse_journal(alloc, room, b"journal", fault)),
+        Err(fault) => Err(refuse_journal(alloc, message, b"journal", fault)),
     }
 }
 
 /// Attaches a store by its name, starts an engine over its log, and holds that by the seal of the facts.
 pub fn open_engine<S: Store>(
     alloc: Global,
-    room: Room,
+    message: Message,
     guarded: Guarded,
     name: &Text,
     stated: u64,
     store: &mut S,
 ) -> Result<Opened<Engine>, Report>
-    requires room { room ≡ [] }
+    requires message { message ≡ [] }
     requires policy { IsPolicy guarded.core.dims guarded.policy }
-    ensures room { IfOk result (λ opened. opened.room ≡ []) }
+    ensures message { IfOk result (λ opened. opened.message ≡ []) }
     ensures engine { IfOk result (λ opened. opened.value ≡ record { core = guarded.core; policy = guarded.policy; history = opened.value.history; journal = opened.value.journal; outcomes = []; left = stated }) }
     ensures rules { IfOk result (λ opened. IsRuled (book_of opened.value)) }
     ensures log { IfOk result (λ opened. opened.value.journal.log ≡ 0) }
@@ -199,12 +218,12 @@ pub fn open_engine<S: Store>(
         policy,
         facts,
     } = guarded;
-    let opened = match start_engine(alloc, room, core, policy, name, stated, store) {
+    let opened = match start_engine(alloc, message, core, policy, name, stated, store) {
         Ok(opened) => opened,
         Err(report) => return Err(report),
     };
     match hold_seal(alloc, store, &facts) {
         Ok(()) => Ok(opened),
-        Err(fault) => Err(refuse_seal(alloc, opened.room, fault, &facts)),
+        Err(fault) => Err(refuse_seal(alloc, opened.message, fault, &facts)),
     }
 }

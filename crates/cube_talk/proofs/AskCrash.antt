@@ -5,7 +5,7 @@ use Rattle.cube_io.specs.Causes.{RoseBy}
 use Rattle.cube_io.specs.Desks.{IsConstant, Answered, ForeignStay, GivesRooms, LeavesAll, IsOneOf, faults_in}
 use Rattle.cube_io.specs.Seen.{StoreState}
 use Rattle.cube_io.specs.States.{State, Log, Gained}
-use Rattle.cube_io.proofs.Hands.{leaves_all_none, leaves_all_map}
+use Rattle.cube_io.proofs.Leaving.{leaves_all_none, leaves_all_map}
 use Rattle.cube_io.proofs.Trails.{gained_none, gained_map}
 use Rattle.cube_model.specs.declared.outcome.Outcome.{Outcome}
 use Rattle.cube_model.specs.declared.outcome.Outcome.TheVariants.{Given, JournalFault, NoMemory}
@@ -15,7 +15,7 @@ use Rattle.cube_model.specs.declared.reply.Reply.TheVariants.{Fixed}
 use Rattle.cube_model.specs.Rooms.{Room}
 use Rattle.cube_talk.specs.AskLaws.{asks_one, rooms_one, said_one, within_one}
 use Rattle.cube_talk.specs.Asks.{ask_of, is_too_long, too_large, AnswersAsks}
-use Rattle.cube_talk.specs.Crashes.{IsInHand, IsSame, IsPassed, Survives, AnswersDurably}
+use Rattle.cube_talk.specs.Crashes.{IsLineInHand, IsSame, IsPassed, Survives, AnswersDurably}
 use Rattle.cube_talk.specs.Moments.{Moment}
 use Rattle.cube_talk.specs.Replies.{reply_text}
 use Rattle.cube_talk.proofs.AskTalk.{too_long_said, too_long_adds}
@@ -30,11 +30,11 @@ too_long_survives x ls = record {
   passed = λ t log w. gained_none (IsPassed x.manner x.rooms ls [] x.within log) (x.store.logs log) (x.store.logs log) refl;
   ends_within = λ t log w. w;
   ends_exact = λ t none log e. e;
-  in_hand = λ t log w. leaves_all_none (GivesRooms x.exact log) (IsInHand x.manner x.rooms ls []) (x.store.logs log) (x.store.logs log) refl;
+  in_hand = λ t log w. leaves_all_none (GivesRooms x.exact log) (IsLineInHand x.manner x.rooms ls []) (x.store.logs log) (x.store.logs log) refl;
   others = λ t log no. refl;
 }
 
-pub too_long_serves : (x : Moment) (line : List ℕ) → 65536 < length line → 1 ≤ x.room → AnswersDurably x x (line ∷ []) too_large
+pub too_long_serves : (x : Moment) (line : List ℕ) → 65536 < length line → 1 ≤ x.capacity → AnswersDurably x x (line ∷ []) too_large
 too_long_serves x line h some = (
   too_long_said x line h some,
   subst (λ (added : List Outcome). Survives x x (line ∷ []) added) (sym (too_long_adds x line h some)) (too_long_survives x (line ∷ [])),
@@ -58,7 +58,7 @@ risen_by Given before now later rose = omega (arith, later)
 risen_by JournalFault before now later rose = rose refl
 risen_by NoMemory before now later rose = omega (arith, later)
 
-answered_one : (x y : Moment) (line : List ℕ) (reply : Reply) → length line ≤ 65536 → y.manner ≡ x.manner → 1 ≤ x.room → y.room + 1 ≡ x.room
+answered_one : (x y : Moment) (line : List ℕ) (reply : Reply) → length line ≤ 65536 → y.manner ≡ x.manner → 1 ≤ x.capacity → y.capacity + 1 ≡ x.capacity
     → (a : Answered x.manner (ask_of line) x.rooms y.rooms x.outcomes y.outcomes x.store.faults y.store.faults reply) → AnswersAsks x y (line ∷ []) (reply_text reply)
 answered_one x y line reply short same some left a =
     let f = short_line line short in
@@ -69,8 +69,8 @@ answered_one x y line reply short same some left a =
       matched = sym (asks_one line [] f);
       rooms_are = a.moved ∙ sym (rooms_one x.manner x.rooms line [] a.outcome [] f);
       text_is = ap reply_text a.replied ∙ sym (append-nil (reply_text (x.manner.reply x.rooms (ask_of line) a.outcome))) ∙ sym (said_one x.manner x.rooms line [] a.outcome [] f);
-      room_left = rw (asks_one line [] f) left;
-      within = within_one x.room line some;
+      capacity_left = rw (asks_one line [] f) left;
+      within = within_one x.capacity line some;
       later = a.later;
       steady = λ none. a.steady (no_fault a.outcome none);
       risen = risen_by a.outcome x.store.faults y.store.faults a.later (λ is. (a.failed is).0);
@@ -79,7 +79,7 @@ answered_one x y line reply short same some left a =
 
 -- what a desk says of one ask is what is said of its line
 pub one_serves : (x y : Moment) (line : List ℕ) (reply : Reply)
-    → length line ≤ 65536 → y.manner ≡ x.manner → 1 ≤ x.room → y.room + 1 ≡ x.room → (a : Answered x.manner (ask_of line) x.rooms y.rooms x.outcomes y.outcomes x.store.faults y.store.faults reply)
+    → length line ≤ 65536 → y.manner ≡ x.manner → 1 ≤ x.capacity → y.capacity + 1 ≡ x.capacity → (a : Answered x.manner (ask_of line) x.rooms y.rooms x.outcomes y.outcomes x.store.faults y.store.faults reply)
     → y.store.told ≡ x.store.told → (IsTrue x.store.told → y.store.names ≡ x.store.names) → IsSame y.exact x.exact → IsSame y.within x.within
     → (IsTrue x.store.told → (log : ℕ) → x.within x.rooms log (x.store.logs log).state → Gained (λ s. x.within x.rooms log s ⊎ x.within y.rooms log s) (x.store.logs log) (y.store.logs log))
     → (IsTrue x.store.told → (log : ℕ) → x.within x.rooms log (x.store.logs log).state → y.within y.rooms log (y.store.logs log).state)
@@ -99,13 +99,13 @@ one_serves x y line reply short same some left a tells named exactly wholly pass
         passed = λ t log w. gained_map (λ s. x.within x.rooms log s ⊎ x.within y.rooms log s) (IsPassed x.manner x.rooms (line ∷ []) (a.outcome ∷ []) x.within log) (x.store.logs log) (y.store.logs log) (λ s p. by_side log s p) (passed t log w);
         ends_within = ends;
         ends_exact = λ t none log e. only (λ bad. no_fault a.outcome none (last_is x.outcomes a.outcome JournalFault (sym a.added ∙ bad))) t log e;
-        in_hand = λ t log w. leaves_all_map (GivesRooms x.exact log) (GivesRooms x.exact log) (IsOneOf x.rooms (x.manner.next x.rooms (ask_of line) Given)) (IsInHand x.manner x.rooms (line ∷ []) (a.outcome ∷ [])) (x.store.logs log) (y.store.logs log)
+        in_hand = λ t log w. leaves_all_map (GivesRooms x.exact log) (GivesRooms x.exact log) (IsOneOf x.rooms (x.manner.next x.rooms (ask_of line) Given)) (IsLineInHand x.manner x.rooms (line ∷ []) (a.outcome ∷ [])) (x.store.logs log) (y.store.logs log)
             (λ r bytes one g. (r, in_turn r one, g)) (hand t log w);
         others = others;
       },
     )
   where
-    in_turn : (r : List Room) → IsOneOf x.rooms (x.manner.next x.rooms (ask_of line) Given) r → IsInHand x.manner x.rooms (line ∷ []) (a.outcome ∷ []) r
+    in_turn : (r : List Room) → IsOneOf x.rooms (x.manner.next x.rooms (ask_of line) Given) r → IsLineInHand x.manner x.rooms (line ∷ []) (a.outcome ∷ []) r
     in_turn r (inl e) = inl (record { first = []; more = line ∷ []; split = refl; are = e })
     in_turn r (inr e) = inr (record { first = []; line = line; more = []; split = refl; short = short_line line short; are = e })
 
@@ -133,7 +133,7 @@ missed x y line reply idle always is added stays = record {
     unlike e = cc
 
 pub missed_serves : (x y : Moment) (line : List ℕ) (reply : Reply) → y.store ≡ x.store
-    → length line ≤ 65536 → y.manner ≡ x.manner → 1 ≤ x.room → y.room + 1 ≡ x.room → IsConstant x.manner → reply ≡ Fixed constant.NoMemory → y.outcomes ≡ x.outcomes ++ NoMemory ∷ [] → y.rooms ≡ x.rooms → IsSame y.exact x.exact → IsSame y.within x.within
+    → length line ≤ 65536 → y.manner ≡ x.manner → 1 ≤ x.capacity → y.capacity + 1 ≡ x.capacity → IsConstant x.manner → reply ≡ Fixed constant.NoMemory → y.outcomes ≡ x.outcomes ++ NoMemory ∷ [] → y.rooms ≡ x.rooms → IsSame y.exact x.exact → IsSame y.within x.within
     → AnswersDurably x y (line ∷ []) (reply_text reply)
 missed_serves x y line reply idle short same some left always is added stays exactly wholly =
     let logs = λ (log : ℕ). ap (λ (s : StoreState). s.logs log) idle in

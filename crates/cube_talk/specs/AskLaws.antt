@@ -100,7 +100,7 @@ up_to_none : (n : ℕ) → up_to_asks n [] ≡ []
 up_to_none zero = refl
 up_to_none (suc n) = refl
 
--- lines that all come while there is room, and then others
+-- lines that all come while there is space, and then others
 pub up_to_over : (n k : ℕ) (xs ys : List (List ℕ)) → up_to_asks n xs ≡ xs → n ≡ k + asks_in xs → up_to_asks n (xs ++ ys) ≡ xs ++ up_to_asks k ys
 up_to_over n k [] ys e is = let same : n ≡ k = omega (arith, is) in ap (λ (i : ℕ). up_to_asks i ys) same
 up_to_over zero k (line ∷ rest) ys e is = cc
@@ -171,8 +171,8 @@ none x = record {
   matched = refl;
   rooms_are = refl;
   text_is = refl;
-  room_left = omega arith;
-  within = up_to_none x.room;
+  capacity_left = omega arith;
+  within = up_to_none x.capacity;
   later = omega arith;
   steady = λ e. refl;
   risen = omega arith;
@@ -192,8 +192,8 @@ onward x y z first more text behind h k =
       matched = rw (length-append, asks_append first more) (omega (arith, h.matched, k.matched));
       rooms_are = k.rooms_are ∙ over ∙ sym (rooms_append x.manner first more k.added x.rooms h.added h.matched);
       text_is = ap (λ (l : List ℕ). l ++ behind) h.text_is ∙ ap (λ (l : List ℕ). said x.manner x.rooms first h.added ++ l) (k.text_is ∙ said_over) ∙ sym (said_append x.manner first more k.added x.rooms h.added h.matched);
-      room_left = rw (asks_append first more) (omega (arith, h.room_left, k.room_left));
-      within = up_to_over x.room y.room first more h.within (sym h.room_left) ∙ ap (λ (l : List (List ℕ)). first ++ l) k.within;
+      capacity_left = rw (asks_append first more) (omega (arith, h.capacity_left, k.capacity_left));
+      within = up_to_over x.capacity y.capacity first more h.within (sym h.capacity_left) ∙ ap (λ (l : List (List ℕ)). first ++ l) k.within;
       later = omega (arith, h.later, k.later);
       steady = λ none.
           let sum = faults_append h.added k.added in
@@ -215,13 +215,13 @@ onward_adds x y z first more text behind h k = refl
 pub too_long : (line : List ℕ) → 65536 < length line → is_too_long line ≡ true
 too_long line h = grind (arith, nat_tests)
 
-pub within_one : (room : ℕ) (line : List ℕ) → 1 ≤ room → up_to_asks room (line ∷ []) ≡ line ∷ []
+pub within_one : (capacity : ℕ) (line : List ℕ) → 1 ≤ capacity → up_to_asks capacity (line ∷ []) ≡ line ∷ []
 within_one zero line h = absurd (omega (arith, h))
 within_one (suc n) line h = ap (λ (l : List (List ℕ)). line ∷ l) (up_to_none (if is_too_long line then suc n else n))
 
-has_room : (room : ℕ) (line : List ℕ) → up_to_asks room (line ∷ []) ≡ line ∷ [] → 1 ≤ room
-has_room zero line e = cc
-has_room (suc n) line e = omega arith
+has_capacity : (capacity : ℕ) (line : List ℕ) → up_to_asks capacity (line ∷ []) ≡ line ∷ [] → 1 ≤ capacity
+has_capacity zero line e = cc
+has_capacity (suc n) line e = omega arith
 
 pub alike : (x y : Moment) (line other text : List ℕ) → 65536 < length line → 65536 < length other → AnswersAsks x y (line ∷ []) text → AnswersAsks x y (other ∷ []) text
 alike x y line other text h k a =
@@ -234,8 +234,8 @@ alike x y line other text h k a =
       matched = a.matched ∙ asks_long line [] l ∙ sym (asks_long other [] o);
       rooms_are = a.rooms_are ∙ rooms_long x.manner x.rooms line [] a.added l ∙ sym (rooms_long x.manner x.rooms other [] a.added o);
       text_is = a.text_is ∙ said_long x.manner x.rooms line [] a.added l ∙ sym (said_long x.manner x.rooms other [] a.added o);
-      room_left = rw (asks_long other [] o) (rw (asks_long line [] l) at a.room_left);
-      within = within_one x.room other (has_room x.room line a.within);
+      capacity_left = rw (asks_long other [] o) (rw (asks_long line [] l) at a.capacity_left);
+      within = within_one x.capacity other (has_capacity x.capacity line a.within);
       later = a.later;
       steady = a.steady;
       risen = a.risen;

@@ -90,7 +90,7 @@ FailedFresh m rooms (line ∷ rest) (o ∷ os) =
     (is_too_long line ≡ true → FailedFresh m rooms rest (o ∷ os))
     × (is_too_long line ≡ false → (o ≡ JournalFault → m.next rooms (ask_of line) Given ≢ rooms) × FailedFresh m (m.next rooms (ask_of line) o) rest os)
 
--- These lines were answered by this text, each ask with one outcome; all of them came while there was room. The count of the store's
+-- These lines were answered by this text, each ask with one outcome; all of them came while there was space. The count of the store's
 -- faults rose by one or more for each ask in which the journal failed, and stayed where it failed in none; it failed only for asks that
 -- would have added to a history.
 pub record AnswersAsks (before after : Moment) (ls : List (List ℕ)) (text : List ℕ) : Type 0 where
@@ -100,8 +100,8 @@ pub record AnswersAsks (before after : Moment) (ls : List (List ℕ)) (text : Li
   pub matched : length added ≡ asks_in ls
   pub rooms_are : after.rooms ≡ rooms_behind before.manner before.rooms ls added
   pub text_is : text ≡ said before.manner before.rooms ls added
-  pub room_left : after.room + asks_in ls ≡ before.room
-  pub within : up_to_asks before.room ls ≡ ls
+  pub capacity_left : after.capacity + asks_in ls ≡ before.capacity
+  pub within : up_to_asks before.capacity ls ≡ ls
   pub later : before.store.faults ≤ after.store.faults
   pub steady : faults_in added ≡ 0 → after.store.faults ≡ before.store.faults
   pub risen : RoseBy (faults_in added) before.store.faults after.store.faults

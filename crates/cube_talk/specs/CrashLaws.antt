@@ -5,11 +5,11 @@ use Rattle.cube_model.specs.declared.outcome.Outcome.TheVariants.{Given}
 use Rattle.cube_model.specs.Rooms.{Room}
 use Rattle.cube_io.specs.Desks.{Manner, GivesRooms, faults_in}
 use Rattle.cube_io.specs.States.{State, settled}
-use Rattle.cube_io.proofs.Hands.{leaves_all_none, leaves_all_then, leaves_all_map}
+use Rattle.cube_io.proofs.Leaving.{leaves_all_none, leaves_all_then, leaves_all_map}
 use Rattle.cube_io.proofs.Trails.{gained_none, gained_then, gained_map}
 use Rattle.cube_talk.specs.AskLaws.{by_test, asks_long, asks_one, asks_append, rooms_long, rooms_one, rooms_append, faults_append, too_long, none, none_adds, onward, onward_adds, alike, alike_adds}
 use Rattle.cube_talk.specs.Asks.{is_too_long, ask_of, asks_in, rooms_behind, AnswersAsks}
-use Rattle.cube_talk.specs.Crashes.{IsOnTheWay, IsWithNext, IsInHand, IsSame, IsPassed, Survives, AnswersDurably}
+use Rattle.cube_talk.specs.Crashes.{IsOnTheWay, IsWithNext, IsLineInHand, IsSame, IsPassed, Survives, AnswersDurably}
 use Rattle.cube_talk.specs.Moments.{Moment}
 
 -- ---- relations on the states of logs
@@ -114,12 +114,12 @@ next_alike m rooms here line os l w = by_first w.first w.split
         longer [] q = cc
         longer (y ∷ ys) q = cc
 
-hand_first : (m : Manner) (rooms here : List Room) (first more : List (List ℕ)) (os ps : List Outcome) → length os ≡ asks_in first → IsInHand m rooms first os here → IsInHand m rooms (first ++ more) (os ++ ps) here
+hand_first : (m : Manner) (rooms here : List Room) (first more : List (List ℕ)) (os ps : List Outcome) → length os ≡ asks_in first → IsLineInHand m rooms first os here → IsLineInHand m rooms (first ++ more) (os ++ ps) here
 hand_first m rooms here first more os ps e (inl w) = inl (way_first m rooms here first more os ps e w)
 hand_first m rooms here first more os ps e (inr w) = inr (next_first m rooms here first more os ps e w)
 
 hand_second : (m m' : Manner) (rooms rooms' here : List Room) (first more : List (List ℕ)) (os ps : List Outcome) → m' ≡ m → rooms' ≡ rooms_behind m rooms first os → length os ≡ asks_in first
-    → IsInHand m' rooms' more ps here → IsInHand m rooms (first ++ more) (os ++ ps) here
+    → IsLineInHand m' rooms' more ps here → IsLineInHand m rooms (first ++ more) (os ++ ps) here
 hand_second m m' rooms rooms' here first more os ps same there e (inl w) = inl (way_second m m' rooms rooms' here first more os ps same there e w)
 hand_second m m' rooms rooms' here first more os ps same there e (inr w) = inr (next_second m m' rooms rooms' here first more os ps same there e w)
 
@@ -158,7 +158,7 @@ survives_none x = record {
   passed = λ t log w. gained_none (IsPassed x.manner x.rooms [] [] x.within log) (x.store.logs log) (x.store.logs log) refl;
   ends_within = λ t log w. w;
   ends_exact = λ t none log e. e;
-  in_hand = λ t log w. leaves_all_none (GivesRooms x.exact log) (IsInHand x.manner x.rooms [] []) (x.store.logs log) (x.store.logs log) refl;
+  in_hand = λ t log w. leaves_all_none (GivesRooms x.exact log) (IsLineInHand x.manner x.rooms [] []) (x.store.logs log) (x.store.logs log) refl;
   others = λ t log no. refl;
 }
 
@@ -179,11 +179,11 @@ survives_onward x y z first more ps a h k =
       ends_within = λ t log w. k.ends_within (tells t) log (h.ends_within t log w);
       ends_exact = λ t none log e. k.ends_exact (tells t) (none_behind a.added ps none) log (h.ends_exact t (none_before a.added ps none) log e);
       in_hand = λ t log w.
-          let both = IsInHand x.manner x.rooms (first ++ more) (a.added ++ ps) in
+          let both = IsLineInHand x.manner x.rooms (first ++ more) (a.added ++ ps) in
           leaves_all_then (GivesRooms x.exact log) both (x.store.logs log) (y.store.logs log) (z.store.logs log)
-          (leaves_all_map (GivesRooms x.exact log) (GivesRooms x.exact log) (IsInHand x.manner x.rooms first a.added) both (x.store.logs log) (y.store.logs log)
+          (leaves_all_map (GivesRooms x.exact log) (GivesRooms x.exact log) (IsLineInHand x.manner x.rooms first a.added) both (x.store.logs log) (y.store.logs log)
           (λ r bytes i g. (r, hand_first x.manner x.rooms r first more a.added ps a.matched i, g)) (h.in_hand t log w))
-          (leaves_all_map (GivesRooms y.exact log) (GivesRooms x.exact log) (IsInHand y.manner y.rooms more ps) both (y.store.logs log) (z.store.logs log)
+          (leaves_all_map (GivesRooms y.exact log) (GivesRooms x.exact log) (IsLineInHand y.manner y.rooms more ps) both (y.store.logs log) (z.store.logs log)
           (λ r bytes i g. (r, hand_second x.manner y.manner x.rooms y.rooms r first more a.added ps a.manner a.rooms_are a.matched i, (h.exact_stays r log (settled bytes)).0 g))
           (k.in_hand (tells t) log (h.ends_within t log w)));
       others = λ t log no. k.others (tells t) log (λ r s p. no r s ((h.within_stays r log s).0 p)) ∙ h.others t log no;
@@ -199,7 +199,7 @@ survives_alike x y line other os h k v = record {
       (λ s p. (p.0, way_alike x.manner x.rooms p.0 line other os (too_long line h) (too_long other k) p.1, p.2)) (v.passed t log w);
   ends_within = v.ends_within;
   ends_exact = v.ends_exact;
-  in_hand = λ t log w. leaves_all_map (GivesRooms x.exact log) (GivesRooms x.exact log) (IsInHand x.manner x.rooms (line ∷ []) os) (IsInHand x.manner x.rooms (other ∷ []) os) (x.store.logs log) (y.store.logs log)
+  in_hand = λ t log w. leaves_all_map (GivesRooms x.exact log) (GivesRooms x.exact log) (IsLineInHand x.manner x.rooms (line ∷ []) os) (IsLineInHand x.manner x.rooms (other ∷ []) os) (x.store.logs log) (y.store.logs log)
       (λ r bytes i g. (r, inl (⊎_elim (λ p. way_alike x.manner x.rooms r line other os (too_long line h) (too_long other k) p) (λ n. absurd (next_alike x.manner x.rooms r line os (too_long line h) n)) i), g)) (v.in_hand t log w);
   others = v.others;
 }

@@ -27,8 +27,8 @@ pub record IsWithNext (m : Manner) (rooms : List Room) (ls : List (List ℕ)) (o
   pub short : is_too_long line ≡ false
   pub are : here ≡ m.next (rooms_behind m rooms first os) (ask_of line) Given
 
-abbrev pub IsInHand : Manner → List Room → List (List ℕ) → List Outcome → List Room → Type 0
-IsInHand m rooms ls os here = IsOnTheWay m rooms ls os here ⊎ IsWithNext m rooms ls os here
+abbrev pub IsLineInHand : Manner → List Room → List (List ℕ) → List Outcome → List Room → Type 0
+IsLineInHand m rooms ls os here = IsOnTheWay m rooms ls os here ⊎ IsWithNext m rooms ls os here
 
 -- the two say the same of the states of logs
 abbrev pub IsSame : (List Room → ℕ → State → Type 0) → (List Room → ℕ → State → Type 0) → Type 0
@@ -51,7 +51,7 @@ pub record Survives (before after : Moment) (ls : List (List ℕ)) (os : List Ou
   pub ends_within : IsTrue before.store.told → (log : ℕ) → before.within before.rooms log (before.store.logs log).state → after.within after.rooms log (after.store.logs log).state
   pub ends_exact : IsTrue before.store.told → faults_in os ≡ 0 → (log : ℕ) → before.exact before.rooms log (before.store.logs log).state → after.exact after.rooms log (after.store.logs log).state
   pub in_hand : IsTrue before.store.told → (log : ℕ) → before.within before.rooms log (before.store.logs log).state
-      → LeavesAll (GivesRooms before.exact log) (IsInHand before.manner before.rooms ls os) (before.store.logs log) (after.store.logs log)
+      → LeavesAll (GivesRooms before.exact log) (IsLineInHand before.manner before.rooms ls os) (before.store.logs log) (after.store.logs log)
   pub others : ForeignStay before.within before.store after.store
 
 -- some lines were answered, and a crash in between left what it may
@@ -62,7 +62,7 @@ AnswersDurably before after ls text = (a : AnswersAsks before after ls text) × 
 -- crash in between left what it may. The count of the store's faults rose by one or more for each ask in which the journal failed, and
 -- stayed where it failed in none; it failed only for asks that would have added to a history.
 pub record TalkedOver {I O : Type 0} (before after : Moment) (end : TalkEnd) (input : Seen SourceState I) (out : Seen SinkState O) : Type 0 where
-  pub talked : Talked before.manner before.rooms (record { stated = before.room; ending = end.ending; outcomes = after.outcomes; bytes = end.bytes }) input out
+  pub talked : Talked before.manner before.rooms (record { stated = before.capacity; ending = end.ending; outcomes = after.outcomes; bytes = end.bytes }) input out
   pub rooms_are : after.rooms ≡ rooms_behind before.manner before.rooms talked.first after.outcomes
   pub survives : Survives before after talked.first after.outcomes
   pub steady : faults_in after.outcomes ≡ 0 → after.store.faults ≡ before.store.faults

@@ -56,9 +56,9 @@ fn ask_of(alloc: Global, line: &[u8]) -> Result<Ask, NoMemory>
 // Asks the desk.
 fn ask<S: Store, D: Desk<S>>(alloc: Global, desk: &mut D, store: &mut S, line: &[u8]) -> Reply
     requires short { length line.now ≤ 65536 }
-    requires room { 1 ≤ D.room desk.old }
+    requires capacity { 1 ≤ D.capacity desk.old }
     requires fits { D.fits desk.old store.old }
-    ensures serves { let at = moment D.manner D.rooms D.outcomes D.room D.exact D.within in
+    ensures serves { let at = moment D.manner D.rooms D.outcomes D.capacity D.exact D.within in
         AnswersDurably (at desk.old (S.state store.old)) (at desk.new (S.state store.new)) (line.now ∷ []) (reply_text result) }
     ensures fits { D.fits desk.new store.new }
 {
@@ -70,23 +70,23 @@ fn ask<S: Store, D: Desk<S>>(alloc: Global, desk: &mut D, store: &mut S, line: &
 
 impl<S: Store, D: Desk<S> + Drop> Responder<S> for Asks<D> {
     ghost says = { λ x s ls y t text.
-        let at = moment D.manner D.rooms D.outcomes D.room D.exact D.within in
+        let at = moment D.manner D.rooms D.outcomes D.capacity D.exact D.within in
         AnswersDurably (at x.desk (S.state s)) (at y.desk (S.state t)) ls text };
 
     ghost stands = { λ x s. D.fits x.desk s };
 
-    ghost done = { λ x. D.room x.desk == 0 };
+    ghost done = { λ x. D.capacity x.desk == 0 };
 
     ghost lacks = { false };
 
-    ghost silent = { λ x s. serves_none (moment D.manner D.rooms D.outcomes D.room D.exact D.within x.desk (S.state s)) };
+    ghost silent = { λ x s. serves_none (moment D.manner D.rooms D.outcomes D.capacity D.exact D.within x.desk (S.state s)) };
 
     ghost onward = { λ x y z s t u first more text behind.
-        let at = moment D.manner D.rooms D.outcomes D.room D.exact D.within in
+        let at = moment D.manner D.rooms D.outcomes D.capacity D.exact D.within in
         serves_onward (at x.desk (S.state s)) (at y.desk (S.state t)) (at z.desk (S.state u)) first more text behind };
 
     ghost alike = { λ x y s t line other text.
-        let at = moment D.manner D.rooms D.outcomes D.room D.exact D.within in
+        let at = moment D.manner D.rooms D.outcomes D.capacity D.exact D.within in
         serves_alike (at x.desk (S.state s)) (at y.desk (S.state t)) line other text };
 
     fn answer(&mut self, alloc: Global, store: &mut S, line: &[u8]) -> Result<Said, NoMemory> {
@@ -113,9 +113,9 @@ pub fn converse_by_asks<S: Store, D: Desk<S> + Drop, I: Source, O: Sink>(
 ) -> (TalkEnd, D)
     requires carry { carry ≡ [] }
     requires fits { D.fits desk store.old }
-    requires room { 1 ≤ D.room desk }
+    requires capacity { 1 ≤ D.capacity desk }
     requires fresh { D.outcomes desk ≡ [] }
-    ensures talked { let at = moment D.manner D.rooms D.outcomes D.room D.exact D.within in
+    ensures talked { let at = moment D.manner D.rooms D.outcomes D.capacity D.exact D.within in
         TalkedOver (at desk (S.state store.old)) (at result.1 (S.state store.new)) result.0 (seen I.state input.old input.new) (seen O.state out.old out.new) }
     ensures later { (S.state store.old).faults ≤ (S.state store.new).faults }
     ensures memory { result.0.ending ≢ Ending.NoMemory }

@@ -8,7 +8,7 @@ use std::marker::Model;
 // So many bytes of a line decide its answer, with a carriage return at its end.
 const KEPT: usize = 65_538;
 
-/// The front of a line, of which no more is kept than decides its answer. Its room is taken once.
+/// The front of a line, of which no more is kept than decides its answer. Its space is taken once.
 #[derive(Drop)]
 pub struct Carry {
     bytes: Vec<u8>,

@@ -199,7 +199,7 @@ pub struct TalkEnd {
 
 // Reads some bytes to the front of the buffer, at most so many: none at the end.
 fn read_piece<I: Source>(input: &mut I, buf: &mut [u8], most: u64) -> Result<usize, Failed>
-    requires room { 0 < length buf.old }
+    requires capacity { 0 < length buf.old }
     requires some { 0 < most }
     ensures bound { IfOk result (λ n. (n ≤ length buf.new) × (n ≤ most)) }
     ensures bytes { IfOk result (λ n. Consumes (I.state input.old).left (I.state input.new).left (take n buf.new)) }
@@ -207,12 +207,12 @@ fn read_piece<I: Source>(input: &mut I, buf: &mut [u8], most: u64) -> Result<usi
     ensures err { OnErr result (Consumes (I.state input.old).left (I.state input.new).left []) }
     ensures cause { HasCause (I.state input.old).faults (I.state input.new).faults result }
 {
-    let room = if most < buf.len() as u64 {
+    let capacity = if most < buf.len() as u64 {
         most as usize
     } else {
         buf.len()
     };
-    input.read(&mut buf[..room])
+    input.read(&mut buf[..capacity])
 }
 
 // The end of the input: a last line without a line feed counts where it isn't empty.

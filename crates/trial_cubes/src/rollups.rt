@@ -4,7 +4,7 @@ ghost use Rattle.cube_fixtures.specs.Worked.{two, pay_core};
 ghost use Rattle.cube_model.specs.Cubes.{are_levels, is_finer};
 ghost use Rattle.cube_model.specs.Dims.{plains};
 ghost use Rattle.cube_model.specs.Requests.{asks, fits, grain, lesser_levels};
-ghost use Rattle.cube_rollup.specs.Cuboids.{StandsFor};
+ghost use Rattle.cube_rollup.specs.Cuboids.{IsCuboidOf};
 
 use crate::makers::make_pay;
 use cube_core::{Core, Steps};
@@ -68,7 +68,7 @@ fn text_of<L: Ledger>(
     requires measure { asks cuboid.now.measure request.now ≡ true }
     requires fits { fits (plains core.now.dims) request.now.group request.now.picks ≡ true }
     requires finer { is_finer cuboid.now.levels (grain request.now) ≡ true }
-    requires stands { StandsFor core.now cuboid.now }
+    requires stands { IsCuboidOf core.now cuboid.now }
 {
     let answer = cuboid.answer(alloc, core.dims(), request, steps)?;
     let mut text = Text::new(alloc);

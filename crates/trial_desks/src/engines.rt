@@ -6,7 +6,7 @@ use std::alloc::Global;
 use std::process::Abort;
 use std::test::Fail;
 
-/// One ask, where there is room for it.
+/// One ask, where there is space for it.
 pub(crate) fn put<S: Store, D: Desk<S>>(
     alloc: Global,
     desk: &mut D,

@@ -24,7 +24,7 @@ fn store_of(alloc: Global, staff: &[u8], board: &[u8]) -> Result<MemStore, Fail>
         Text::from_bytes(alloc, staff)?,
         Text::from_bytes(alloc, board)?,
     ]?;
-    let mut store = MemStore::with_room(alloc, contents, Vec::new(alloc), 64, 2_048)?;
+    let mut store = MemStore::with_capacity(alloc, contents, Vec::new(alloc), 64, 2_048)?;
     match store.attach(&Text::from_bytes(alloc, b"logs")?) {
         Ok(()) => Ok(store),
         Err(_) => Err(Fail::from("no store")),
@@ -49,8 +49,8 @@ fn add(alloc: Global, groups: &mut Groups, store: &mut MemStore, name: &[u8]) ->
     }
 }
 
-/// The group `staff` alone, with room for so many asks.
-fn start_staff(alloc: Global, store: &mut MemStore, room: u64) -> Result<Groups, Fail>
+/// The group `staff` alone, with space for so many asks.
+fn start_staff(alloc: Global, store: &mut MemStore, capacity: u64) -> Result<Groups, Fail>
     requires { IsTrue (⟦<MemStore as Store>⟧.state store.old).attached }
     ensures one { IfOk result (λ groups. length groups.books ≡ 1) }
     ensures free { IfOk result (λ groups. room_of (codes "board") (rooms_of groups.books) ≡ None) }
@@ -58,18 +58,18 @@ fn start_staff(alloc: Global, store: &mut MemStore, room: u64) -> Result<Groups,
     ensures fits { IfOk result (λ groups. ⟦<Groups as Desk<MemStore>>⟧.fits groups store.new) }
     ensures attached { IsTrue (⟦<MemStore as Store>⟧.state store.new).attached }
 {
-    let mut groups = Groups::new(alloc, room)?;
+    let mut groups = Groups::new(alloc, capacity)?;
     add(alloc, &mut groups, store, b"staff")?;
     Ok(groups)
 }
 
-/// The groups `staff` and `board`, with room for so many asks.
-fn start(alloc: Global, store: &mut MemStore, room: u64) -> Result<Groups, Fail>
+/// The groups `staff` and `board`, with space for so many asks.
+fn start(alloc: Global, store: &mut MemStore, capacity: u64) -> Result<Groups, Fail>
     requires { IsTrue (⟦<MemStore as Store>⟧.state store.old).attached }
     ensures fits { IfOk result (λ groups. ⟦<Groups as Desk<MemStore>>⟧.fits groups store.new) }
     ensures attached { IsTrue (⟦<MemStore as Store>⟧.state store.new).attached }
 {
-    let mut groups = start_staff(alloc, store, room)?;
+    let mut groups = start_staff(alloc, store, capacity)?;
     add(alloc, &mut groups, store, b"board")?;
     Ok(groups)
 }
@@ -132,7 +132,7 @@ const OUTCOMES: &[Outcome] = &[
     Outcome::Given,
 ];
 
-/// One ask that found no memory, where there is room for it.
+/// One ask that found no memory, where there is space for it.
 fn miss_one<S: Store, D: Desk<S>>(desk: &mut D, _store: &S) -> Result<(), Fail>
     ensures { D.fits desk.old _store.now → D.fits desk.new _store.now }
 {

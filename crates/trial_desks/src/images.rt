@@ -38,12 +38,12 @@ impl Disk {
             safe: 0,
             ends: Vec::new(alloc),
         };
-        disk.settle(alloc)?;
+        disk.sync(alloc)?;
         Ok(disk)
     }
 
     /// All that a read gives stands on the disk.
-    fn settle(&mut self, alloc: Global) -> Result<(), Fail> {
+    fn sync(&mut self, alloc: Global) -> Result<(), Fail> {
         self.safe = self.now.len();
         self.ends = vec![in alloc; Text::from_bytes(alloc, &self.now)?]?;
         Ok(())
@@ -74,7 +74,7 @@ impl Disk {
             }
             Call::Did(Change::Cut(_, len)) => self.cut(alloc, usize::try_from(len)?, true),
             Call::Did(Change::HalfCut(_, len)) => self.cut(alloc, usize::try_from(len)?, false),
-            Call::Did(Change::Sync(_)) => self.settle(alloc),
+            Call::Did(Change::Sync(_)) => self.sync(alloc),
             _ => Ok(()),
         }
     }
@@ -101,7 +101,7 @@ pub(crate) fn behind(bytes: &[u8], first: usize) -> &[u8] {
 /// A store whose log begins with these bytes.
 fn store_of(alloc: Global, first: &[u8], failing: Vec<Failing>) -> Result<MemStore, Fail> {
     let contents = vec![in alloc; Text::from_bytes(alloc, first)?]?;
-    Ok(MemStore::with_room(alloc, contents, failing, 64, 2_048)?)
+    Ok(MemStore::with_capacity(alloc, contents, failing, 64, 2_048)?)
 }
 
 /// An engine over the log of a store, unless the store fails.

@@ -116,19 +116,19 @@ pub(crate) fn null_store(alloc: Global) -> Result<NullStore, Fail>
     }
 }
 
-/// An engine over a cube, with room for so many asks.
+/// An engine over a cube, with space for so many asks.
 pub(crate) fn make_engine(
     alloc: Global,
     cube: Cube,
     store: &mut NullStore,
-    room: u64,
+    capacity: u64,
 ) -> Result<Engine, Fail>
     requires { IsTrue (⟦<NullStore as Store>⟧.state store.old).attached }
     ensures fits { IfOk result (λ engine. ⟦<Engine as Desk<NullStore>>⟧.fits engine store.new) }
-    ensures room { IfOk result (λ engine. engine.left ≡ room) }
+    ensures capacity { IfOk result (λ engine. engine.left ≡ capacity) }
 {
     let (core, rules) = make(alloc, cube)?;
-    match Engine::start(alloc, core, rules, store, 0, room) {
+    match Engine::start(alloc, core, rules, store, 0, capacity) {
         Ok(engine) => Ok(engine),
         Err(_) => Err(Fail::from("no engine")),
     }

@@ -3,7 +3,7 @@
 use cube_fixtures::{PAY_DIMS, PAY_FACTS, PAY_POLICY};
 use cube_io::{MemFolder, MemSink, MemStore};
 use cube_model::{Outcome, Text};
-use cube_opening::{Room, RuledFiles, Rules, open_ruled};
+use cube_opening::{Message, RuledFiles, Rules, open_ruled};
 use cube_script::ScriptWire;
 use cube_server::Pool;
 use cube_serving::{open_groups, serve_groups};
@@ -64,12 +64,12 @@ fn two_groups_are_opened_and_served(rt: HostRuntime) -> Result<(), Fail> {
         rules: Rules::Groups(text(alloc, b"g")?),
     };
     let mut folder = folder(alloc)?;
-    let mut store = MemStore::with_room(alloc, Vec::new(alloc), Vec::new(alloc), 64, 4_096)?;
-    let Ok(read) = open_ruled(alloc, Room::new(alloc)?, &files, &mut folder) else {
+    let mut store = MemStore::with_capacity(alloc, Vec::new(alloc), Vec::new(alloc), 64, 4_096)?;
+    let Ok(read) = open_ruled(alloc, Message::new(alloc)?, &files, &mut folder) else {
         return Err(Fail::from("no files"));
     };
     let name = text(alloc, b"logs")?;
-    let Ok(opened) = open_groups(alloc, read.room, read.value, &name, 8, &mut store) else {
+    let Ok(opened) = open_groups(alloc, read.message, read.value, &name, 8, &mut store) else {
         return Err(Fail::from("no groups"));
     };
     let mut groups = opened.value;
@@ -80,7 +80,7 @@ fn two_groups_are_opened_and_served(rt: HostRuntime) -> Result<(), Fail> {
     assert!(rt; end.is_ok());
     let outcomes = groups.finish();
     assert_eq!(rt; outcomes.as_slice(), OUTCOMES);
-    let mut out = MemSink::with_room(alloc, 4_096, Vec::new(alloc))?;
+    let mut out = MemSink::with_capacity(alloc, 4_096, Vec::new(alloc))?;
     assert!(rt; wire.write_log(&mut out).is_ok());
     assert!(rt; out.bytes().starts_with(b"sent 1 "));
     assert!(rt; out.bytes().ends_with(CUT));

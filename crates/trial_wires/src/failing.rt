@@ -21,7 +21,7 @@ struct Tabled {
     table: Vec<Row>,
     outcomes: Vec<Outcome>,
     left: u64,
-    ghost room: { vec_len outcomes + left ≤ vec_capacity outcomes },
+    ghost capacity: { vec_len outcomes + left ≤ vec_capacity outcomes },
 }
 
 const ASKS: u64 = 9;
@@ -91,7 +91,7 @@ impl<S: Store> Desk<S> for Tabled {
 
     ghost outcomes = { λ d. d.outcomes.items };
 
-    ghost room = { λ d. d.left };
+    ghost capacity = { λ d. d.left };
 
     ghost fits = { λ d store. ⊤ };
 
@@ -193,7 +193,7 @@ fn make_wire(alloc: Global, script: &[Came], failing: FailingSend) -> Result<Not
     }
     let failing = vec![in alloc; failing]?;
     Ok(Noted {
-        wire: MemWire::with_room(alloc, plays, Vec::new(alloc), failing, 99, 9_999)?,
+        wire: MemWire::with_capacity(alloc, plays, Vec::new(alloc), failing, 99, 9_999)?,
         text: Text::new(alloc),
     })
 }

@@ -1,9 +1,9 @@
-// Scripts that are played, scripts that are refused, and sends that pass the room.
+// Scripts that are played, scripts that are refused, and sends that pass the space.
 ghost use Rattle.std.specs.Prelude.{◌≡◌, length, IfOk};
 
 use cube_io::{Event, MemSink, Wire};
 use cube_model::{NoMemory, Text};
-use cube_script::{ScriptFault, ScriptWire, SendRoom};
+use cube_script::{ScriptFault, ScriptWire, SendCapacity};
 use std::alloc::Global;
 use std::test::Fail;
 
@@ -17,8 +17,8 @@ fn make_buffer(alloc: Global) -> Result<Vec<u8>, NoMemory>
 // How a script is answered: the line that is refused, or 0.
 fn refused_line(alloc: Global, script: &[u8]) -> Result<u64, ScriptFault> {
     let text = Text::from_bytes(alloc, script)?;
-    let none = SendRoom { sends: 0, bytes: 0 };
-    match ScriptWire::with_room(alloc, &text, none) {
+    let none = SendCapacity { sends: 0, bytes: 0 };
+    match ScriptWire::with_capacity(alloc, &text, none) {
         Ok(_) => Ok(0),
         Err(ScriptFault::Line { line }) => Ok(line),
         Err(ScriptFault::NoMemory) => Err(ScriptFault::NoMemory),
@@ -59,7 +59,7 @@ fn written(
     wire: &ScriptWire,
     failing: Vec<u64>,
 ) -> Result<(bool, Vec<u8>), NoMemory> {
-    let mut out = MemSink::with_room(alloc, 100, failing)?;
+    let mut out = MemSink::with_capacity(alloc, 100, failing)?;
     let whole = wire.write_log(&mut out).is_ok();
     Ok((whole, out.bytes().to_vec(alloc)?))
 }
@@ -137,14 +137,14 @@ fn a_script_is_played(rt: HostRuntime) -> Result<(), Fail> {
     Ok(())
 }
 
-// Sends `ab` and then `cde` over a wire with so much room for sends. Tells which went out, where an event came before,
+// Sends `ab` and then `cde` over a wire with so much space for sends. Tells which went out, where an event came before,
 // whether one failed, and whether a further event comes.
 fn two_sends(
     alloc: Global,
-    most: SendRoom,
+    most: SendCapacity,
 ) -> Result<(Option<bool>, Option<bool>, bool, bool), ScriptFault> {
     let script = Text::from_bytes(alloc, b"open 1\nopen 2\nopen 3\n")?;
-    let mut wire = ScriptWire::with_room(alloc, &script, most)?;
+    let mut wire = ScriptWire::with_capacity(alloc, &script, most)?;
     let first = answered(alloc, &mut wire, b"ab")?;
     let second = answered(alloc, &mut wire, b"cde")?;
     let (third, _) = heard(alloc, &mut wire)?;
@@ -161,7 +161,7 @@ fn sends_pass_the_room(rt: HostRuntime) -> Result<(), Fail> {
         (0, 9, (Some(false), None, true, false)),
     ];
     for (sends, bytes, ends) in cases.iter() {
-        let most = SendRoom {
+        let most = SendCapacity {
             sends: *sends,
             bytes: *bytes,
         };
@@ -173,8 +173,8 @@ fn sends_pass_the_room(rt: HostRuntime) -> Result<(), Fail> {
 // What is put of the log of one send and one close, where the put with this number fails.
 fn put_till(alloc: Global, failing: u64) -> Result<(bool, Vec<u8>), ScriptFault> {
     let script = Text::from_bytes(alloc, b"open 1\n")?;
-    let most = SendRoom { sends: 1, bytes: 2 };
-    let mut wire = ScriptWire::with_room(alloc, &script, most)?;
+    let most = SendCapacity { sends: 1, bytes: 2 };
+    let mut wire = ScriptWire::with_capacity(alloc, &script, most)?;
     let _sent = answered(alloc, &mut wire, b"ab")?;
     Ok(written(alloc, &wire, vec![in alloc; failing]?)?)
 }

@@ -16,7 +16,7 @@ use std::test::Fail;
 struct Echo {
     outcomes: Vec<Outcome>,
     left: u64,
-    ghost room: { vec_len outcomes + left ≤ vec_capacity outcomes },
+    ghost capacity: { vec_len outcomes + left ≤ vec_capacity outcomes },
 }
 
 fn make_echo(alloc: Global, left: u64) -> Result<Echo, NoMemory>
@@ -48,7 +48,7 @@ impl<S: Store> Desk<S> for Echo {
 
     ghost outcomes = { λ e. e.outcomes.items };
 
-    ghost room = { λ e. e.left };
+    ghost capacity = { λ e. e.left };
 
     ghost fits = { λ e store. ⊤ };
 
@@ -244,7 +244,7 @@ fn a_wire_that_tells_its_log_is_served(rt: HostRuntime) -> Result<(), Fail> {
     ]?;
     let torn = FailingSend { send: 1, bytes: 0 };
     let failing = vec![in alloc; torn]?;
-    let mut wire = MemWire::with_room(alloc, plays, Vec::new(alloc), failing, 9, 999)?;
+    let mut wire = MemWire::with_capacity(alloc, plays, Vec::new(alloc), failing, 9, 999)?;
     let mut pool = Pool::new(alloc)?;
     let mut desk = make_echo(alloc, 9)?;
     let mut store = NullStore::new();

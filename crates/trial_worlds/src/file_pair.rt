@@ -21,8 +21,8 @@ pub struct FilePair {
     pub other: MemLog,
 }
 
-/// The system has no room.
-pub fn no_room() -> Trouble {
+/// The system has no space.
+pub fn no_space() -> Trouble {
     Trouble::Refused(io::Error::from(ErrorKind::StorageFull))
 }
 
@@ -51,16 +51,16 @@ impl FilePair {
         if path == self.name.as_slice() {
             return match self.file.perform(alloc, deed) {
                 Ok(()) => Ok(()),
-                Err(_) => Err(no_room()),
+                Err(_) => Err(no_space()),
             };
         }
         if path == self.beside.as_slice() {
             return match self.other.perform(alloc, deed) {
                 Ok(()) => Ok(()),
-                Err(_) => Err(no_room()),
+                Err(_) => Err(no_space()),
             };
         }
-        Err(no_room())
+        Err(no_space())
     }
 
     /// Lets the file beside take the place of the other, where all of it is on the disk. It is empty then.
@@ -76,17 +76,17 @@ impl FilePair {
             || to != self.name.as_slice()
             || !self.other.is_clean()
         {
-            return Err(no_room());
+            return Err(no_space());
         }
         let Ok(bytes) = Text::from_bytes(alloc, self.other.bytes()) else {
-            return Err(no_room());
+            return Err(no_space());
         };
         match self.file.perform(alloc, Deed::Become(bytes)) {
             Ok(()) => {
                 self.other = MemLog::new(alloc);
                 Ok(())
             }
-            Err(_) => Err(no_room()),
+            Err(_) => Err(no_space()),
         }
     }
 }

@@ -21,8 +21,8 @@ fn a_reader_is_read_to_its_end(rt: HostRuntime) -> Result<(), Fail> {
 
 #[test]
 fn a_writer_takes_all_of_a_piece_or_fails(rt: HostRuntime) -> Result<(), Fail> {
-    let mut room = [0u8; 4];
-    let mut sink = WriterSink::new(room.as_mut_slice());
+    let mut buf = [0u8; 4];
+    let mut sink = WriterSink::new(buf.as_mut_slice());
     assert_eq!(rt; sink.put(b""), Ok(()));
     assert_eq!(rt; sink.put(b"abc"), Ok(()));
     assert!(rt; sink.put(b"de").is_err());

@@ -2,7 +2,7 @@
 ghost use Rattle.std.specs.Prelude.{◌≡◌, ◌≤◌, ◌++◌, [], Some, None, true, drop, length, IfSome, if◌then◌else◌};
 ghost use Rattle.trial_worlds.specs.Pairs.{disk_over, files_whole};
 
-use crate::file_pair::{FilePair, no_room};
+use crate::file_pair::{FilePair, no_space};
 use crate::mem_log::{Deed, MemLog};
 use cube_edge::{Disk, Extent, Trouble};
 use cube_io::{Failed, ReadFault};
@@ -118,11 +118,11 @@ impl Disk for MemDisk {
 
     fn open(&mut self, path: &str) -> Result<MemFile, Trouble> {
         if self.fails() {
-            return Err(no_room());
+            return Err(no_space());
         }
         match Text::from_bytes(self.alloc, path.as_bytes()) {
             Ok(path) => Ok(MemFile { path }),
-            Err(_) => Err(no_room()),
+            Err(_) => Err(no_space()),
         }
     }
 
@@ -135,7 +135,7 @@ impl Disk for MemDisk {
 
     fn length(&mut self, file: &MemFile) -> Result<u64, Trouble> {
         if self.fails() {
-            return Err(no_room());
+            return Err(no_space());
         }
         match self.files.bytes_at(file.path.as_slice()) {
             Some(bytes) => Ok(bytes.len() as u64),
@@ -159,7 +159,7 @@ impl Disk for MemDisk {
                 self.seen = Seen { any: true, path };
                 Ok(())
             }
-            Err(_) => Err(no_room()),
+            Err(_) => Err(no_space()),
         }
     }
 
@@ -183,11 +183,11 @@ impl Disk for MemDisk {
 
     fn write(&mut self, file: &mut MemFile, piece: &[u8]) -> Result<usize, Trouble> {
         if self.fails() {
-            return Err(no_room());
+            return Err(no_space());
         }
         let front = front(piece, self.most);
         let Ok(text) = Text::from_bytes(self.alloc, front) else {
-            return Err(no_room());
+            return Err(no_space());
         };
         match self
             .files
@@ -200,7 +200,7 @@ impl Disk for MemDisk {
 
     fn cut(&mut self, file: &MemFile, len: u64) -> Result<(), Trouble> {
         if self.fails() {
-            return Err(no_room());
+            return Err(no_space());
         }
         self.files
             .perform(self.alloc, file.path.as_slice(), Deed::Cut(len))
@@ -208,19 +208,19 @@ impl Disk for MemDisk {
 
     fn sync(&mut self, _file: &MemFile, path: &str, _left: Extent) -> Result<(), Trouble> {
         if self.fails() {
-            return Err(no_room());
+            return Err(no_space());
         }
         self.files.perform(self.alloc, path.as_bytes(), Deed::Sync)
     }
 
     fn replace(&mut self, _file: MemFile, from: &str, to: &str) -> Result<(), Trouble> {
         if self.fails() {
-            return Err(no_room());
+            return Err(no_space());
         }
         self.files
             .replace(self.alloc, from.as_bytes(), to.as_bytes())?;
         if self.fails() {
-            return Err(no_room());
+            return Err(no_space());
         }
         Ok(())
     }

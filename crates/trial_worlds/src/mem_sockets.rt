@@ -63,7 +63,7 @@ fn take_byte(coming: &[u8], taken: &mut usize, buf: &mut [u8])
     *taken += 1;
 }
 
-// Puts a front of a piece behind some bytes, where there is room. Tells how many bytes it has.
+// Puts a front of a piece behind some bytes, where there is space. Tells how many bytes it has.
 fn put_front(given: &mut Text, piece: &[u8], most: usize) -> usize
     ensures fits { result ≤ length piece.now }
     ensures bytes { given.new ≡ given.old ++ take result piece.now }

@@ -1,4 +1,4 @@
-// A store whose calls fail half way, and one whose room is used up.
+// A store whose calls fail half way, and one whose space is used up.
 use cube_io::{Failing, MemStore, Reach, Store};
 use cube_model::Text;
 use std::test::Fail;
@@ -17,7 +17,7 @@ fn calls_fail_half_way(rt: HostRuntime) -> Result<(), Fail> {
             reach: Reach::Nothing
         },
     ]?;
-    let mut store = MemStore::with_room(alloc, contents, failing, 8, 16)?;
+    let mut store = MemStore::with_capacity(alloc, contents, failing, 8, 16)?;
     store
         .attach(&Text::from_bytes(alloc, b"log")?)
         .expect(&rt, "attached");
@@ -32,7 +32,7 @@ fn calls_fail_half_way(rt: HostRuntime) -> Result<(), Fail> {
 #[test]
 fn room_is_used_up(rt: HostRuntime) -> Result<(), Fail> {
     let alloc = rt.alloc();
-    let mut store = MemStore::with_room(alloc, Vec::new(alloc), Vec::new(alloc), 8, 5)?;
+    let mut store = MemStore::with_capacity(alloc, Vec::new(alloc), Vec::new(alloc), 8, 5)?;
     store
         .attach(&Text::from_bytes(alloc, b"log")?)
         .expect(&rt, "attached");

@@ -118,7 +118,7 @@ fn a_path_that_is_no_path_takes_nothing(rt: HostRuntime) -> Result<(), Fail> {
 
 // A sink into memory.
 fn make_sink(alloc: Global) -> Result<MemSink, Fail> {
-    Ok(MemSink::with_room(alloc, 8, Vec::new(alloc))?)
+    Ok(MemSink::with_capacity(alloc, 8, Vec::new(alloc))?)
 }
 
 #[test]

@@ -18,7 +18,7 @@ const OTHER: &[u8] = b"facts e3b0c44298fc1c149afbf4c8996fb92427ae41e4649b934ca49
 fn store_of(alloc: Global, bytes: &[u8], failing: Vec<Failing>) -> Result<MemStore, Fail>
     ensures { IfOk result (λ store. IsTrue (⟦<MemStore as Store>⟧.state store).attached) }
 {
-    let mut store = MemStore::with_room(alloc, Vec::new(alloc), failing, 16, 512)?;
+    let mut store = MemStore::with_capacity(alloc, Vec::new(alloc), failing, 16, 512)?;
     match store.attach(&Text::from_bytes(alloc, b"log")?) {
         Ok(()) => {}
         Err(_) => return Err(Fail::from("no store")),

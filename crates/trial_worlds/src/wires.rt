@@ -16,7 +16,7 @@ fn make_wire(alloc: Global) -> Result<TrialWire, Fail>
 {
     let coming = Text::from_bytes(alloc, b"hi")?;
     let sockets = MemSockets::new(alloc, coming, 3);
-    let watch = MemWatch::with_room(alloc, 16, 131_072)?;
+    let watch = MemWatch::with_capacity(alloc, 16, 131_072)?;
     Ok(SocketWire::new(alloc, sockets, watch)?)
 }
 

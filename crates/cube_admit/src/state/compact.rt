@@ -5,7 +5,7 @@ ghost use Rattle.cube_model.specs.Compaction.{compacted, source_entry};
 ghost use Rattle.cube_model.specs.Cores.{shown};
 ghost use Rattle.cube_model.specs.Policies.{IsPolicy};
 ghost use Rattle.cube_admit.specs.Compacting.{held_entries, held_from};
-ghost use Rattle.cube_admit.specs.States.{StandsFor};
+ghost use Rattle.cube_admit.specs.States.{IsStateOf};
 
 use super::State;
 use crate::Held;
@@ -73,7 +73,7 @@ impl State {
         policy: &Policy,
     ) -> Result<History, NoMemory>
         requires policy { IsPolicy core.now.dims policy.now }
-        requires stands { StandsFor (shown core.now policy.now) self.now }
+        requires stands { IsStateOf (shown core.now policy.now) self.now }
         requires none { self.now.pending ≡ None }
         ensures { IfOk result (λ entries. entries ≡ compacted (shown core.now policy.now) self.now.history) }
     {

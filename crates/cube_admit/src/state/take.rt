@@ -11,8 +11,8 @@ ghost use Rattle.cube_model.specs.Policies.{IsPolicy};
 ghost use Rattle.cube_model.specs.Protection.{uncut};
 ghost use Rattle.cube_model.specs.Requests.{is_valid};
 ghost use Rattle.cube_model.specs.Verdicts.{taken as taken_of, taken_by as taken_by_verdict};
-ghost use Rattle.cube_admit.specs.Room.{CanEnd};
-ghost use Rattle.cube_admit.specs.States.{IsTableOf, StandsFor};
+ghost use Rattle.cube_admit.specs.Needs.{CanEnd};
+ghost use Rattle.cube_admit.specs.States.{IsTableOf, IsStateOf};
 ghost use Rattle.cube_admit.specs.Taking.{behind};
 ghost use Rattle.cube_admit.specs.declared.held.Next.TheVariants as next;
 ghost use Rattle.cube_admit.specs.declared.held.Held.TheVariants as kinds;
@@ -47,7 +47,7 @@ fn one_link(alloc: Global, link: Link) -> Result<LinkList, NoMemory>
     Ok(links)
 }
 
-// Puts an entry that is taken at the end of a history that has room for it.
+// Puts an entry that is taken at the end of a history that has space for it.
 fn enter_taken(history: &mut Vec<Entry>, entry: Entry, taken: Taken)
     requires { length history.old.items < vec_capacity history.old }
     ensures { history.new.items ≡ behind history.old.items entry taken }
@@ -92,13 +92,13 @@ impl State {
         request: &Request,
     ) -> Result<Taken, NoMemory>
         requires policy { IsPolicy core.now.dims policy.now }
-        requires stands { StandsFor (shown core.now policy.now) self.old }
+        requires stands { IsStateOf (shown core.now policy.now) self.old }
         requires valid { is_valid (shown core.now policy.now) request.now ≡ true }
         ensures taken { IfOk result (λ taken. taken ≡ taken_of (shown core.now policy.now) self.old.history (entries.Asked request.now)) }
         ensures history { IfOk result (λ taken. self.new.history ≡ behind self.old.history (entries.Asked request.now) taken) }
         ensures err { OnErr result (self.new.history ≡ self.old.history) }
         ensures none { self.new.pending ≡ None }
-        ensures stands { StandsFor (shown core.now policy.now) self.new }
+        ensures stands { IsStateOf (shown core.now policy.now) self.new }
     {
         let verdict = self.verdict(alloc, core, policy, request)?;
         self.commit();
@@ -139,14 +139,14 @@ impl State {
         levels: &Levels,
     ) -> Result<Taken, NoMemory>
         requires policy { IsPolicy core.now.dims policy.now }
-        requires stands { StandsFor (shown core.now policy.now) self.old }
+        requires stands { IsStateOf (shown core.now policy.now) self.old }
         requires none { self.old.pending ≡ None }
         requires allowed { is_allowed (shown core.now policy.now) (entries.Source measure levels.now) ≡ true }
         ensures taken { IfOk result (λ taken. taken ≡ taken_of (shown core.now policy.now) self.old.history (entries.Source measure levels.now)) }
         ensures history { IfOk result (λ taken. self.new.history ≡ behind self.old.history (entries.Source measure levels.now) taken) }
         ensures err { OnErr result (self.new.history ≡ self.old.history) }
         ensures none { self.new.pending ≡ None }
-        ensures stands { StandsFor (shown core.now policy.now) self.new }
+        ensures stands { IsStateOf (shown core.now policy.now) self.new }
     {
         let _rules = core.dims();
         let asked = levels.copied(alloc)?;
@@ -170,14 +170,14 @@ impl State {
         measure: u32,
         link: Link,
     ) -> Result<Taken, NoMemory>
-        requires stands { StandsFor (shown core.now policy.now) self.old }
+        requires stands { IsStateOf (shown core.now policy.now) self.old }
         requires none { self.old.pending ≡ None }
         requires allowed { is_allowed (shown core.now policy.now) (entries.Linked measure link) ≡ true }
         ensures taken { IfOk result (λ taken. taken ≡ taken_of (shown core.now policy.now) self.old.history (entries.Linked measure link)) }
         ensures history { IfOk result (λ taken. self.new.history ≡ behind self.old.history (entries.Linked measure link) taken) }
         ensures err { OnErr result (self.new.history ≡ self.old.history) }
         ensures none { self.new.pending ≡ None }
-        ensures stands { StandsFor (shown core.now policy.now) self.new }
+        ensures stands { IsStateOf (shown core.now policy.now) self.new }
     {
         let (_core, _policy) = (core, policy);
         let links = one_link(alloc, link)?;
@@ -198,13 +198,13 @@ impl State {
         entry: &Entry,
     ) -> Result<Taken, NoMemory>
         requires policy { IsPolicy core.now.dims policy.now }
-        requires stands { StandsFor (shown core.now policy.now) self.old }
+        requires stands { IsStateOf (shown core.now policy.now) self.old }
         requires allowed { is_allowed (shown core.now policy.now) entry.now ≡ true }
         ensures taken { IfOk result (λ taken. taken ≡ taken_of (shown core.now policy.now) self.old.history entry.now) }
         ensures history { IfOk result (λ taken. self.new.history ≡ behind self.old.history entry.now taken) }
         ensures err { OnErr result (self.new.history ≡ self.old.history) }
         ensures none { self.new.pending ≡ None }
-        ensures stands { StandsFor (shown core.now policy.now) self.new }
+        ensures stands { IsStateOf (shown core.now policy.now) self.new }
     {
         self.drop_pending();
         match entry {

@@ -110,7 +110,7 @@ returns-in_default-clause-answers g c =
           facts = guarded.facts;
           files_make = c.in-Ok.ensures.ok.1;
           digest = c.in-Ok.ensures.digest;
-          unstarted = inr (inl ((e.0, e.1, e.2 ∙ c.with.ensures ∙ ap (λ (t : List ℕ). t ++ codes "no memory\n") y.room), y.steady));
+          unstarted = inr (inl ((e.0, e.1, e.2 ∙ c.with.ensures ∙ ap (λ (t : List ℕ). t ++ codes "no memory\n") y.message), y.steady));
           passed = y.crash;
           seals = y.seals;
         },

@@ -5,7 +5,7 @@ use Rattle.cube_app.proofs.TwinFiles.{twin_talks_are_the_same, twin_logs_are_the
 use Rattle.cube_app.proofs.run.run.Goals as goal
 
 pub returns-in-Err-clause-run : goal.returns-in-Err-clause-run
-returns-in-Err-clause-run g c = not_begun c.args.words.now (orders_of c.args.words.now) c.no_room-in-Err.ensures (refl, refl, refl, refl, refl)
+returns-in-Err-clause-run g c = not_begun c.args.words.now (orders_of c.args.words.now) c.no_message-in-Err.ensures (refl, refl, refl, refl, refl)
 
 pub returns-in_default-clause-talks : goal.returns-in_default-clause-talks
 returns-in_default-clause-talks g c = twin_talks_are_the_same

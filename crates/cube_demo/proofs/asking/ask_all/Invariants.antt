@@ -4,5 +4,5 @@ use Rattle.cube_demo.proofs.asking.ask_all.Given as goal
 abbrev pub invariant-queries : goal.invariant-queries
 invariant-queries l = record {
   attached : IsTrue l.store.attached;
-  room : l.engine.left + l.query-index ≡ length l.queries;
+  capacity : l.engine.left + l.query-index ≡ length l.queries;
 }

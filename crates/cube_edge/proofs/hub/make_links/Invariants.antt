@@ -5,6 +5,6 @@ use Rattle.cube_edge.proofs.hub.make_links.Given as goal
 abbrev pub invariant-loop-place : goal.invariant-loop-place
 invariant-loop-place l = record {
   full : vec_len l.links ≡ l._place;
-  room : 128 ≤ vec_capacity l.links;
+  capacity : 128 ≤ vec_capacity l.links;
   free : All (λ link. link.stage ≡ stage.Free) l.links.items;
 }

@@ -6,7 +6,7 @@ returns c = (
   record {
     goes_on = rw c.clear.ensures.items nothing_goes_on;
     empty = c.clear-2.ensures.items;
-    room = record { head = rw c.clear.ensures.capacity c.requires.head; body = rw c.clear-2.ensures.capacity c.requires.body };
+    capacity = record { head = rw c.clear.ensures.capacity c.requires.head; body = rw c.clear-2.ensures.capacity c.requires.body };
   },
   c.clear.ensures.items,
 )

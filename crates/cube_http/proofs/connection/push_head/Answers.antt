@@ -14,5 +14,5 @@ pub loop-place-preserved : goal.loop-place-preserved
 loop-place-preserved c = record {
   kept = kept_more c.args.head.now.items _ _ c.args.piece.now c.loop-place.place _ c.loop-place-test.true c.loop-place.invariant.kept c.push_byte.ensures.kept refl;
   goes_on = c.if-push_byte.ensures.stops;
-  room = c.push_byte.ensures.room;
+  capacity = c.push_byte.ensures.capacity;
 }

@@ -8,5 +8,5 @@ abbrev pub invariant-loop-place : goal.invariant-loop-place
 invariant-loop-place l = record {
   kept : l.head.items ≡ rest is_break (l.initial.head.items ++ take l.place l.piece);
   goes_on : GoesOn l.head.items;
-  room : most_head ≤ vec_capacity l.head;
+  capacity : most_head ≤ vec_capacity l.head;
 }

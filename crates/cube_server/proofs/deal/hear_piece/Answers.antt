@@ -22,7 +22,7 @@ returns-then-is_empty-clause-deals g c = λ told stream k.
 
 pub returns-then-left-eq0-clause-deals : goal.returns-then-left-eq0-clause-deals
 returns-then-left-eq0-clause-deals g c = λ told stream k.
-    let none : g.D.Desk.room c.items.desk ≡ 0 = sym c.left.ensures ∙ c.if-left-eq0.true in
+    let none : g.D.Desk.capacity c.items.desk ≡ 0 = sym c.left.ensures ∙ c.if-left-eq0.true in
     record {
       deals = piece_spent (g.D.Desk.manner c.args.desk.now) c.args.c stream c.args.piece.now c.items.rest.now _ _ _ _ _ (c.items.invariant.progress told stream k) (c.items.invariant.talks told) none;
       goes = λ some. absurd (omega (arith, some, none));

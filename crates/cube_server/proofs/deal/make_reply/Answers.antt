@@ -9,8 +9,8 @@ returns-in-Ok-clause-deals g c = rw (sym c.in-Ok.ensures) c.reply_to.ensures.dea
 pub returns-in-Err-clause-deals : goal.returns-in-Err-clause-deals
 returns-in-Err-clause-deals g c = λ q n log log' live s.
     let m = c.miss.ensures in
-    missed_deals _ n q _ _ log log' live (g.met.D.Desk.failures c.args.desk.now) (record { manner = m.manner; rooms = m.rooms; room = m.room; added = m.outcomes }) (rw m.reply at s)
+    missed_deals _ n q _ _ log log' live (g.met.D.Desk.failures c.args.desk.now) (record { manner = m.manner; rooms = m.rooms; capacity = m.capacity; added = m.outcomes }) (rw m.reply at s)
 
 pub returns-in-Err-clause-endures : goal.returns-in-Err-clause-endures
 returns-in-Err-clause-endures g c = let m = c.miss.ensures in
-    endures_miss _ _ _ _ _ _ _ (record { manner = m.manner; rooms = m.rooms; room = m.room; added = m.outcomes }) m.within_stays m.exact_stays
+    endures_miss _ _ _ _ _ _ _ (record { manner = m.manner; rooms = m.rooms; capacity = m.capacity; added = m.outcomes }) m.within_stays m.exact_stays

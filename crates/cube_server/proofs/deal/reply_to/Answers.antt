@@ -4,7 +4,7 @@ use Rattle.cube_server.proofs.deal.reply_to.Goals as goal
 
 pub returns-in-Asked-clause-deals : goal.returns-in-Asked-clause-deals
 returns-in-Asked-clause-deals g c = let a = c.answer.ensures.answered in
-    rw c.in-Asked.is (λ q n log log' live s. asked_deals n q c.in-Asked.ask a.outcome c.answer.result _ _ log log' live a.added a.replied a.moved c.answer.ensures.room (λ is. (a.failed is).1) s)
+    rw c.in-Asked.is (λ q n log log' live s. asked_deals n q c.in-Asked.ask a.outcome c.answer.result _ _ log log' live a.added a.replied a.moved c.answer.ensures.capacity (λ is. (a.failed is).1) s)
 
 pub returns-in-Constant-clause-deals : goal.returns-in-Constant-clause-deals
 returns-in-Constant-clause-deals g c = rw c.in-Constant.is (λ q n log log' live s. constant_deals n q c.in-Constant.fixed _ log log' live s)
@@ -14,7 +14,7 @@ returns-in-Asked-clause-endures g c = let a = c.answer.ensures in
     endures_answer c.in-Asked.ask c.answer.result _ _ _ _ _ _ _ _ (record {
       answered = a.answered;
       manner = a.manner;
-      room = a.room;
+      capacity = a.capacity;
       told = a.told;
       names = a.names;
       within_stays = a.within_stays;

@@ -9,7 +9,7 @@ use Rattle.cube_server.proofs.serving.serve_lines.Goals as goal
 pub events-init : goal.events-init
 events-init g c = record {
   few = search rules;
-  more = c.requires.room;
+  more = c.requires.capacity;
   lines = c.requires.lines;
   fits = c.requires.fits;
   endures = endures_none _ _ _ _;
@@ -54,8 +54,8 @@ returns-then-left-eq0-clause-unended g c = λ told.
 pub returns-then-left-eq0-clause-spent : goal.returns-then-left-eq0-clause-spent
 returns-then-left-eq0-clause-spent g c =
     let was = c.events.invariant in
-    let none : g.D.Desk.room c.take_event.new.desk ≡ 0 = sym c.left.ensures ∙ c.if-left-eq0.true in (
-      omega (arith, c.in-More.ensures.endures.counted, was.endures.counted, none, c.left-room.ensures),
+    let none : g.D.Desk.capacity c.take_event.new.desk ≡ 0 = sym c.left.ensures ∙ c.if-left-eq0.true in (
+      omega (arith, c.in-More.ensures.endures.counted, was.endures.counted, none, c.left-capacity.ensures),
       (λ told.
           let takes = c.in-More.ensures.takes refl (rw (← was.sending.plays.told) at told) in
           (onward _ _ _ c.args.events c.events.taken _ _ _ _ (was.stands told) c.in-More.ensures.endures.manner c.events-test.true was.more takes).longer

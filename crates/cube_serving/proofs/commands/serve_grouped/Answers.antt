@@ -49,7 +49,7 @@ returns-in-Err-listen-clause-answers g c =
     let behind = subst (λ (ns : List (List ℕ)). GotBehind ns files) (sym (append-nil (ruled_names cube x.ok.0))) x.ok.2 in
     inr (inl (
       unserved cube [] files x.ok.0 ruled.core ruled.facts ruled.groups g.S.Store.state c.args.store.now c.open_groups.new.store c.in-Ok-open_groups.started.value.books x.ok.1 x.digest behind y.ok y.over y.rules y.agreed y.sealed y.seals y.passed,
-      inl ((e.0, e.1, e.2 ∙ c.with-in-Err-listen.ensures ∙ ap (λ (t : List ℕ). t ++ codes "wire failed\n") y.room), c.in-Err-listen.ensures.cause.failed),
+      inl ((e.0, e.1, e.2 ∙ c.with-in-Err-listen.ensures ∙ ap (λ (t : List ℕ). t ++ codes "wire failed\n") y.message), c.in-Err-listen.ensures.cause.failed),
       λ told. c.in-Err-listen.ensures.log told ∙ c.requires.quiet told,
     ))
 
@@ -64,7 +64,7 @@ returns-in_default-clause-answers g c =
     let behind = subst (λ (ns : List (List ℕ)). GotBehind ns files) (sym (append-nil (ruled_names cube x.ok.0))) x.ok.2 in
     inr (inl (
       unserved cube [] files x.ok.0 ruled.core ruled.facts ruled.groups g.S.Store.state c.args.store.now c.open_groups.new.store c.in-Ok-open_groups.started.value.books x.ok.1 x.digest behind y.ok y.over y.rules y.agreed y.sealed y.seals y.passed,
-      inr (e.0, e.1, e.2 ∙ c.with.ensures ∙ ap (λ (t : List ℕ). t ++ codes "no memory\n") y.room),
+      inr (e.0, e.1, e.2 ∙ c.with.ensures ∙ ap (λ (t : List ℕ). t ++ codes "no memory\n") y.message),
       c.requires.quiet,
     ))
 

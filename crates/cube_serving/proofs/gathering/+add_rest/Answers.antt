@@ -36,7 +36,7 @@ add_rest-requires g t c κs within =
     let names = subst (λ (l : List RuledGroup). AreNew (map (λ (b : NamedBook). b.name) bs) (map (λ (y : RuledGroup). y.name) l)) (sym whole) c.requires.new in
     let falls : length gs < t = (let d = c.decreases in omega (arith, d, long)) in
     let few : length c.in-Ok.opened.value.books + length gs ≤ 16 = (let f = c.requires.few in let l = more.longer in omega (arith, f, l, long)) in
-    (falls, (within, (x.room, (few, (short.1, (subst (λ (ns : List (List ℕ)). AreNew ns (map (λ (y : RuledGroup). y.name) gs)) (sym more.names) names.1, (more.alike c.requires.alike, (policies.1, (x.gathers.attached, λ told. x.kept (subst IsTrue x.gathers.told told))))))))))
+    (falls, (within, (x.message, (few, (short.1, (subst (λ (ns : List (List ℕ)). AreNew ns (map (λ (y : RuledGroup). y.name) gs)) (sym more.names) names.1, (more.alike c.requires.alike, (policies.1, (x.gathers.attached, λ told. x.kept (subst IsTrue x.gathers.told told))))))))))
 
 pub returns-clause-ok : goal.returns-clause-ok
 returns-clause-ok g t c =

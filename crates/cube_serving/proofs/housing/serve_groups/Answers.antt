@@ -1,6 +1,7 @@
+use Rattle.std.proofs.Common.{refl}
 use Rattle.cube_engine.specs.Kept.{IsWithin}
 use Rattle.cube_serving.specs.NamedBooks.{dims_of}
-use Rattle.cube_serving.proofs.Shared.{desk_at, foreign, serves, survive, wired}
+use Rattle.cube_serving.proofs.Shared.{desk_at, foreign, hold, serves, survive, wired, wired_calls}
 use Rattle.cube_serving.proofs.Phrases.{phrased}
 use Rattle.cube_serving.proofs.Wired.{ends, rose_for}
 use Rattle.cube_serving.proofs.housing.serve_groups.Goals as goal
@@ -16,9 +17,12 @@ returns-clause-served g c = λ core over.
     let told = (g.W.Wire.state c.args.wire.now).told in
     let log = (g.W.Wire.state c.serve.new.wire).log in
     let order = c.len-order.ensures.order in
-    let w = wired core e last c.requires.some over c.requires.rules order c.requires.unasked x.endures.manner x.endures.asked c.serve.result told log (ends c.serve.result told (desk_at e) (desk_at last) log x.ended x.unended x.room x.spent) x.endures.counted x.log in
-    let v = survive core e last c.requires.some over c.requires.rules order c.requires.unasked x.endures.manner x.endures.asked g.S.Store.state c.args.store.now c.serve.new.store x.endures in
-    serves core e last c.requires.some over c.requires.rules order c.requires.unasked x.endures.manner x.endures.asked g.S.Store.state c.args.store.now c.serve.new.store c.serve.result told log w v
+    let ended = ends c.serve.result told (desk_at e) (desk_at last) log x.ended x.unended x.capacity x.spent in
+    let w = wired core e last c.requires.some over c.requires.rules order c.requires.unasked x.endures.manner x.endures.asked c.serve.result told log ended x.endures.counted x.log in
+    let v = survive core e last c.requires.some over c.requires.rules order c.requires.unasked x.endures.manner x.endures.asked g.S.Store.state c.args.store.now c.serve.new.store x.endures refl in
+    let h = hold core e last c.requires.some over c.requires.rules order c.requires.unasked x.endures.manner x.endures.asked g.S.Store.state c.args.store.now c.serve.new.store x.endures refl in
+    let calls = wired_calls core e last c.requires.some over c.requires.rules order c.requires.unasked x.endures.manner x.endures.asked c.serve.result told log ended x.endures.counted x.log in
+    serves core e last c.requires.some over c.requires.rules order c.requires.unasked x.endures.manner x.endures.asked g.S.Store.state c.args.store.now c.serve.new.store c.serve.result told log w calls v h
 
 pub returns-clause-asks : goal.returns-clause-asks
 returns-clause-asks g c = rose_for c.args.groups.now.outcomes c.serve.new.desk.outcomes (g.S.Store.state c.args.store.now).faults (g.S.Store.state c.serve.new.store).faults c.requires.unasked c.serve.ensures.endures.risen

@@ -101,7 +101,7 @@ returns-in_default-clause-answers g c =
         passed = y.crash;
         exact = y.exact;
       },
-      (e.0, e.1, e.2 ∙ c.with.ensures ∙ ap (λ (t : List ℕ). t ++ codes "no memory\n") y.room),
+      (e.0, e.1, e.2 ∙ c.with.ensures ∙ ap (λ (t : List ℕ). t ++ codes "no memory\n") y.message),
       record { asked = asked_then (names_of c.args.cube.now) (c.args.script_name.now ∷ []) g.F.Folder.state c.args.files.now c.open_guarded.new.files c.open_script.new.files x.behind.asked z.asks; steady = z.reads.steady ∙ x.behind.steady },
       refl,
     )))

@@ -56,7 +56,7 @@ returns-in-Err-listen-clause-answers g c =
         passed = y.crash;
         exact = y.exact;
       },
-      inl ((e.0, e.1, e.2 ∙ c.with-in-Err-listen.ensures ∙ ap (λ (t : List ℕ). t ++ codes "wire failed\n") y.room), c.in-Err-listen.ensures.cause.failed),
+      inl ((e.0, e.1, e.2 ∙ c.with-in-Err-listen.ensures ∙ ap (λ (t : List ℕ). t ++ codes "wire failed\n") y.message), c.in-Err-listen.ensures.cause.failed),
       files.ensures.behind,
       λ told. c.in-Err-listen.ensures.log told ∙ c.requires.quiet told,
     ))
@@ -129,7 +129,7 @@ returns-in_default-clause-answers g c =
         passed = y.crash;
         exact = y.exact;
       },
-      inr (e.0, e.1, e.2 ∙ c.with.ensures ∙ ap (λ (t : List ℕ). t ++ codes "no memory\n") y.room),
+      inr (e.0, e.1, e.2 ∙ c.with.ensures ∙ ap (λ (t : List ℕ). t ++ codes "no memory\n") y.message),
       files.ensures.behind,
       c.requires.quiet,
     ))

@@ -26,11 +26,11 @@ returns-clause-wired g c =
     record {
       wired = record {
         ended = ended_as c.serve.result tells (desk_at e) (desk_before e.core e.policy a) (desk_at last) (desk_behind e.core e.policy a) log c.requires.unasked refl refl
-            (ends c.serve.result tells (desk_at e) (desk_at last) log c.serve.ensures.ended c.serve.ensures.unended c.serve.ensures.room c.serve.ensures.spent);
+            (ends c.serve.result tells (desk_at e) (desk_at last) log c.serve.ensures.ended c.serve.ensures.unended c.serve.ensures.capacity c.serve.ensures.spent);
         counted = omega (arith, c.serve.ensures.endures.counted, ap (λ (os : List Outcome). length os) c.requires.unasked);
         asked = called e.core e.policy a e.outcomes (desk_at last) c.requires.unasked refl refl c.serve.ensures.endures.asked;
         tells = λ are. told e.core e.policy a (desk_at last) log rules.core rules.policy rules.admissible refl refl refl
-            (subst (λ (os : List Outcome). Serves (record { manner = manner e.core.dims; rooms = alone (world e.core e.policy) e.history; room = e.left; outcomes = os }) (desk_at last) max_input log) c.requires.unasked (c.serve.ensures.log are));
+            (subst (λ (os : List Outcome). Serves (record { manner = manner e.core.dims; rooms = alone (world e.core e.policy) e.history; capacity = e.left; outcomes = os }) (desk_at last) max_input log) c.requires.unasked (c.serve.ensures.log are));
       };
       held = subst (λ (calls : List Call). HoldsFrom g.S.Store.state e.core e.policy e.history calls c.args.store.now c.serve.new.store)
           (sym (called_calls e.core e.policy a e.outcomes (desk_at last) c.requires.unasked refl refl c.serve.ensures.endures.asked))

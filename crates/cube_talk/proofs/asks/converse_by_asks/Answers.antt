@@ -12,8 +12,8 @@ use Rattle.cube_talk.proofs.asks.converse_by_asks.Goals as goal
 pub returns-clause-talked : goal.returns-clause-talked
 returns-clause-talked g c =
     let v = c.converse-end.ensures.conversed in
-    let x = moment g.D.Desk.manner g.D.Desk.rooms g.D.Desk.outcomes g.D.Desk.room g.D.Desk.exact g.D.Desk.within c.args.desk (g.S.Store.state c.args.store.now) in
-    let y = moment g.D.Desk.manner g.D.Desk.rooms g.D.Desk.outcomes g.D.Desk.room g.D.Desk.exact g.D.Desk.within c.converse-end.new.responder.desk (g.S.Store.state c.converse-end.new.store) in
+    let x = moment g.D.Desk.manner g.D.Desk.rooms g.D.Desk.outcomes g.D.Desk.capacity g.D.Desk.exact g.D.Desk.within c.args.desk (g.S.Store.state c.args.store.now) in
+    let y = moment g.D.Desk.manner g.D.Desk.rooms g.D.Desk.outcomes g.D.Desk.capacity g.D.Desk.exact g.D.Desk.within c.converse-end.new.responder.desk (g.S.Store.state c.converse-end.new.store) in
     let a = v.answered.0 in
     let same = added_are x y v.first v.said c.requires.fresh a in
     record {

@@ -4,7 +4,7 @@ use Rattle.cube_model.specs.declared.entry.Entry.TheVariants.{Source as SourceOf
 use Rattle.cube_model.specs.declared.entry.Taken.TheVariants.{Taken, Refused}
 use Rattle.cube_model.specs.Cores.{shown}
 use Rattle.cube_admit.specs.Sources.{IsLong}
-use Rattle.cube_admit.specs.Room.{CanEnd}
+use Rattle.cube_admit.specs.Needs.{CanEnd}
 use Rattle.cube_admit.specs.States.{source_in, IsTableOf}
 use Rattle.cube_admit.specs.declared.held.Held.{Held}
 use Rattle.cube_admit.specs.declared.held.Held.TheVariants as held

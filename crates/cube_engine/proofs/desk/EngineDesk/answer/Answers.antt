@@ -27,3 +27,6 @@ returns-clause-renewed g c = λ fine told log within.
     let x = c.answer_uncounted.new.self in
     let said = c.answer_uncounted.ensures in
     log_renewed e.core x.core e.policy x.policy x.history (g.S.Store.state c.args.store.now).logs (g.S.Store.state c.answer_uncounted.new.store).logs e.journal.log x.journal.log log within.0 said.core said.policy said.log (said.renewed fine told)
+
+pub returns-clause-calls : goal.returns-clause-calls
+returns-clause-calls g c = c.answer_uncounted.ensures.works.calls

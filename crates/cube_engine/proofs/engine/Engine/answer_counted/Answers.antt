@@ -1,9 +1,11 @@
-use Rattle.std.proofs.Common.{◌≡◌, ◌≢◌, ap, ◌∙◌, subst, IsTrue, [], ◌∷◌, ◌++◌}
+use Rattle.std.proofs.Common.{◌≡◌, ◌≢◌, ap, sym, ◌∙◌, subst, cond, IsTrue, [], ◌∷◌, ◌++◌}
 use Rattle.cube_model.specs.declared.outcome.Outcome.{Outcome}
-use Rattle.cube_model.specs.declared.outcome.Outcome.TheVariants.{JournalFault}
+use Rattle.cube_model.specs.declared.outcome.Outcome.TheVariants.{JournalFault, NoMemory}
 use Rattle.cube_model.specs.Cores.{Core}
 use Rattle.cube_model.specs.Dims.{IsDims}
-use Rattle.cube_io.specs.Desks.{Answered}
+use Rattle.cube_io.specs.Desks.{Answered, has_fault, most_calls}
+use Rattle.cube_io.specs.Told.{Works}
+use Rattle.cube_io.proofs.Outcomes.{last_outcome, works_more}
 use Rattle.cube_engine.specs.Books.{Book, IsRenewed}
 use Rattle.cube_engine.specs.Engines.{Engine, book_of, rooms_of}
 use Rattle.cube_engine.specs.Kept.{IsWithin}
@@ -63,3 +65,19 @@ returns-clause-renewed g c =
     c.self.view_is
     (λ fine told. subst (λ (a : Book). IsRenewed a s.new.book.history (before.logs a.journal.log) (now.logs a.journal.log)) c.prepare-prepared.ensures.same
     (s.ensures.renewed (λ failed. fine (c.record.ensures.outcomes ∙ ap (λ (o : Outcome). x.turns.outcomes ++ o ∷ []) failed)) told))
+
+pub returns-clause-works : goal.returns-clause-works
+returns-clause-works g c =
+    let x = c.self.inside in
+    let before = g.S.Store.state c.args.store.now in
+    let now = g.S.Store.state c.conclude-reply.new.store in
+    subst (λ (e : Engine). Works before now (most_calls e.outcomes)) c.self.view_is
+    (works_more x.book.journal.failed (has_fault x.turns.outcomes) before now c.self.invariant.1
+    (subst (λ (a : Book). Works before now (cond a.journal.failed 4 2)) c.prepare-prepared.ensures.same c.conclude-reply.ensures.works))
+
+pub returns-clause-memory : goal.returns-clause-memory
+returns-clause-memory g c =
+    let x = c.self.inside in
+    let s = c.conclude-reply in
+    subst (λ (e : Engine). c.record.new.self.outcomes ≡ e.outcomes ++ NoMemory ∷ [] → s.new.store ≡ c.args.store.now) c.self.view_is
+    (λ none. s.ensures.memory (last_outcome x.turns.outcomes s.result.1 NoMemory (sym c.record.ensures.outcomes ∙ none)))

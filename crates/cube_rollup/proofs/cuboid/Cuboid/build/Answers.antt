@@ -8,14 +8,14 @@ use Rattle.cube_model.specs.Cores.{Core, IsCore, shown}
 use Rattle.cube_model.specs.Cubes.{are_levels}
 use Rattle.cube_model.specs.Dims.{plains}
 use Rattle.cube_model.specs.Requests.{rows}
-use Rattle.cube_rollup.specs.Cuboids.{Cuboid, StandsFor, AreRowsOf, whole, first_of_row}
+use Rattle.cube_rollup.specs.Cuboids.{Cuboid, IsCuboidOf, AreRowsOf, whole, first_of_row}
 use Rattle.cube_core.specs.Tallies.{summed_row}
 use Rattle.cube_rollup.proofs.Cells.{no_policy, few_in_rows, whole_fits, are_rows, stands, few_cells, bounded}
 use Rattle.cube_rollup.proofs.cuboid.Cuboid.build.Goals as goal
 
 -- the parts together stand for the core
 together : (c : Core) (m : ℕ) (levels kept : List ℕ) (r : Request) (all seen : List Row) (cells : List AnswerRow) (points : List (List ℕ)) → IsCore c → are_levels (plains c.dims) levels ≡ true → m < length c.dims.measures → kept ≡ levels → r ≡ whole m levels
-    → ((p : Policy) → all ≡ rows (shown c p) r) → cells ≡ map (summed_row (get_or c.cube m [])) all → seen ≡ all → points ≡ map (first_of_row c) seen → StandsFor c (record { levels = kept; measure = m; cells = cells; points = points })
+    → ((p : Policy) → all ≡ rows (shown c p) r) → cells ≡ map (summed_row (get_or c.cube m [])) all → seen ≡ all → points ≡ map (first_of_row c) seen → IsCuboidOf c (record { levels = kept; measure = m; cells = cells; points = points })
 together c m levels kept r all seen cells points ok e l same request is sums own firsts =
     let made : Cuboid = record { levels = kept; measure = m; cells = cells; points = points } in
     let whole_points : points ≡ map (first_of_row c) all = firsts ∙ ap (map (first_of_row c)) own in
@@ -53,7 +53,7 @@ pub from_parts-requires-clause-bounded : goal.from_parts-requires-clause-bounded
 from_parts-requires-clause-bounded g c = bounded c.args.core.now _ (together c.args.core.now c.args.measure c.args.levels.now c.in_ok-kept.kept c.in_ok-request.request c.in_ok-rows.rows c.as_slice.result.now c.in_ok-cells.cells c.in_ok-points.points c.dims-rules.ensures.rules c.requires.levels c.requires.measure c.in_ok-kept.ensures c.in_ok-request.ensures c.in_ok-rows.ensures.rows c.in_ok-cells.ensures.sums c.as_slice.ensures c.in_ok-points.ensures)
 
 pub returns-clause-stands : goal.returns-clause-stands
-returns-clause-stands g c = subst (StandsFor c.args.core.now) (sym c.from_parts.ensures) (together c.args.core.now c.args.measure c.args.levels.now c.in_ok-kept.kept c.in_ok-request.request c.in_ok-rows.rows c.as_slice.result.now c.in_ok-cells.cells c.in_ok-points.points c.dims-rules.ensures.rules c.requires.levels c.requires.measure c.in_ok-kept.ensures c.in_ok-request.ensures c.in_ok-rows.ensures.rows c.in_ok-cells.ensures.sums c.as_slice.ensures c.in_ok-points.ensures)
+returns-clause-stands g c = subst (IsCuboidOf c.args.core.now) (sym c.from_parts.ensures) (together c.args.core.now c.args.measure c.args.levels.now c.in_ok-kept.kept c.in_ok-request.request c.in_ok-rows.rows c.as_slice.result.now c.in_ok-cells.cells c.in_ok-points.points c.dims-rules.ensures.rules c.requires.levels c.requires.measure c.in_ok-kept.ensures c.in_ok-request.ensures c.in_ok-rows.ensures.rows c.in_ok-cells.ensures.sums c.as_slice.ensures c.in_ok-points.ensures)
 
 pub returns-clause-steps : goal.returns-clause-steps
 returns-clause-steps g c = once c.args.core.now c.in_ok-request.request c.in_ok-rows.rows c.args.steps.now c.sum_rows.new.steps c.in_ok-rows.ensures.rows c.sum_rows.ensures.steps

@@ -1,19 +1,19 @@
 use Rattle.std.proofs.Common.{arith}
 use Rattle.cube_script.specs.Plays.{played}
-use Rattle.cube_script.proofs.Ready.{next_room, ready_next, next_some, next_none}
+use Rattle.cube_script.proofs.Ready.{next_owes, ready_next, next_some, next_none}
 use Rattle.cube_script.proofs.script_wire.ScriptWireWire.next.Goals as goal
 
 pub play_event-event-requires-clause-playable : goal.play_event-event-requires-clause-playable
-play_event-event-requires-clause-playable c = (next_room _ _ (played c.in-Some.play.now) c.self.invariant.0 (rw c.deref.ensures.value at c.in-Some.ensures.some.1)).0
+play_event-event-requires-clause-playable c = (next_owes _ _ (played c.in-Some.play.now) c.self.invariant.0 (rw c.deref.ensures.value at c.in-Some.ensures.some.1)).0
 
 pub play_event-event-requires-clause-entry : goal.play_event-event-requires-clause-entry
-play_event-event-requires-clause-entry c = (next_room _ _ (played c.in-Some.play.now) c.self.invariant.0 (rw c.deref.ensures.value at c.in-Some.ensures.some.1)).1
+play_event-event-requires-clause-entry c = (next_owes _ _ (played c.in-Some.play.now) c.self.invariant.0 (rw c.deref.ensures.value at c.in-Some.ensures.some.1)).1
 
 pub play_event-event-requires-clause-bytes : goal.play_event-event-requires-clause-bytes
-play_event-event-requires-clause-bytes c = (next_room _ _ (played c.in-Some.play.now) c.self.invariant.0 (rw c.deref.ensures.value at c.in-Some.ensures.some.1)).2
+play_event-event-requires-clause-bytes c = (next_owes _ _ (played c.in-Some.play.now) c.self.invariant.0 (rw c.deref.ensures.value at c.in-Some.ensures.some.1)).2
 
 pub overflow_add-self : goal.overflow_add-self
-overflow_add-self c = omega (arith, c.entries_owed.ensures, (next_room _ _ (played c.in-Some.play.now) c.self.invariant.0 (rw c.deref.ensures.value at c.in-Some.ensures.some.1)).3)
+overflow_add-self c = omega (arith, c.entries_owed.ensures, (next_owes _ _ (played c.in-Some.play.now) c.self.invariant.0 (rw c.deref.ensures.value at c.in-Some.ensures.some.1)).3)
 
 pub invariant_of-self : goal.invariant_of-self
 invariant_of-self c =

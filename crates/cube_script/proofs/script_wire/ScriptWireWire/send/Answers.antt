@@ -1,25 +1,25 @@
 use Rattle.std.proofs.Common.{◌≡◌, ◌||◌, true, sym, subst, arith, length}
 use Rattle.cube_io.specs.Wires.{IsSound}
-use Rattle.cube_script.specs.Playing.{Playing, passes_room_by}
-use Rattle.cube_script.proofs.Ready.{torn_room, ready_torn, ready_sent, fails_behind, fails_sends, fails_bytes}
+use Rattle.cube_script.specs.Playing.{Playing, passes_capacity_by}
+use Rattle.cube_script.proofs.Ready.{torn_owes, ready_torn, ready_sent, fails_behind, fails_sends, fails_bytes}
 use Rattle.cube_script.proofs.script_wire.ScriptWireWire.send.Goals as goal
 use Rattle.cube_script.proofs.script_wire.ScriptWireWire.send.Goals.{then-self-via-then-self, then-self-via-else-self+then-self-eq0, then-self-via-else-self+else-self-eq0+then-self-piece}
 
 pub add-requires-clause-entry : goal.add-requires-clause-entry
 add-requires-clause-entry c =
     let sound = subst (λ (w : Playing). IsSound c.args.c w.log) (sym c.self.view_is) c.requires in
-    (torn_room _ _ c.args.c c.self.invariant.0 sound).1
+    (torn_owes _ _ c.args.c c.self.invariant.0 sound).1
 
 pub overflow_sub-self : goal.overflow_sub-self
 overflow_sub-self c =
     let sound = subst (λ (w : Playing). IsSound c.args.c w.log) (sym c.self.view_is) c.requires in
-    (torn_room _ _ c.args.c c.self.invariant.0 sound).0
+    (torn_owes _ _ c.args.c c.self.invariant.0 sound).0
 
 pub invariant_of-self : goal.invariant_of-self
 invariant_of-self c =
     let sound = subst (λ (w : Playing). IsSound c.args.c w.log) (sym c.self.view_is) c.requires in
     let len = length c.args.piece.now in
-    let why : (c.self.inside.overrun || passes_room_by c.self.inside.most c.self.inside.scroll.log len) ≡ true =
+    let why : (c.self.inside.overrun || passes_capacity_by c.self.inside.most c.self.inside.scroll.log len) ≡ true =
     elim c.then-self.branch [
       | then-self-via-then-self w ↦ fails_behind c.self.inside.overrun c.self.inside.most c.self.inside.scroll.log len w.if-self.true
       | then-self-via-else-self+then-self-eq0 w ↦ fails_sends _ _ len c.self.invariant.0 w.if-self-eq0.true

@@ -1,0 +1,20 @@
+-- Two asks of the pay cube, one behind the other.
+use Rattle.std.specs.Prelude.{List, [], ◌∷◌, codes}
+use Rattle.cube_model.specs.declared.ask.Question.TheVariants.{Query}
+use Rattle.cube_model.specs.declared.outcome.Outcome.TheVariants.{Given}
+use Rattle.cube_model.specs.declared.request.Request.{Request}
+use Rattle.cube_model.specs.declared.request.What.TheVariants.{Measure}
+use Rattle.cube_answers.specs.Examples.{grouped}
+use Rattle.cube_engine.specs.Examples.{own}
+use Rattle.cube_server.specs.Logs.{Call}
+
+-- pay by area
+abbrev pub areas : Request
+areas = grouped (Measure 0) 1 2
+
+-- pay by month is answered, and pay by area behind it is refused
+abbrev pub two_calls : List Call
+two_calls =
+    record { ask = own (Query (codes "slice pay by time.month")); outcome = Given }
+    ∷ record { ask = own (Query (codes "slice pay by region.area")); outcome = Given }
+    ∷ []
