@@ -26,6 +26,11 @@ MONTHS = "slice pay by time.month"
 AREAS = "slice pay by region.area"
 CUT = "source: the cuboid (region.area, time.month) does not cut the cell (region.city=Lyon, time.month=Feb)\n"
 
+UNKNOWN = "unknown group\n"
+MONTH_ROWS = "time.month,pay\nJan,80\nFeb,70\n"
+AREA_ROWS = "region.area,pay\nSouth,60\nNorth,90\n"
+PHRASES = {200: "OK", 403: "Forbidden", 404: "Not Found"}
+
 JANUARY = "source: the cuboid (region.area, time.month) does not cut the cell (region.branch=Nantes, time.month=Jan)\n"
 
 
@@ -82,7 +87,7 @@ def side_by_side(folder):
         ("/g/staff/v1/query?q=slice+pay+by+time.month", 200, 29),
         ("/g/board/v1/query?q=slice+pay+by+region.area", 200, 34),
         ("/g/staff/v1/query?q=slice+pay+by+region.area", 403, len(CUT)),
-        ("/g/none/v1/shape", 404, len("unknown group\n")),
+        ("/g/none/v1/shape", 404, len(UNKNOWN)),
         ("/v1/shape", 404, len("not found\n")),
         ("/g/no.name/v1/shape", 404, len("not found\n")),
         ("/g/board/v1/witness?q=cell+pay+region.city%3DLyon,time.month%3DFeb", 200, None),
@@ -94,15 +99,43 @@ def side_by_side(folder):
             print(f"{status} {path}")
     names = sorted(it.name for it in cube.folder.iterdir() if it.name.startswith("journal"))
     check(names == ["journal", "journal.1", "journal.seal"], f"the journals are {names}")
+    kept = [(cube.folder / name).read_text().splitlines()[1:] for name in ("journal", "journal.1")]
+    check(kept == [[f"q {MONTHS}"], [f"q {AREAS}"]], f"the journals hold {kept}")
     print("the journals are", *names)
     with cube.serving() as address:
         check(asked(address, "staff", AREAS) == (403, CUT), "the staff's history was lost")
-        check(asked(address, "board", AREAS)[0] == 200, "the board's history was lost")
+        check(asked(address, "staff", MONTHS) == (200, MONTH_ROWS), "the staff is not told again what it was told")
+        check(asked(address, "board", AREAS) == (200, AREA_ROWS), "the board's history was lost")
         check(asked(address, "board", MONTHS) == (403, CUT), "the board has the history of the staff")
     print("started again, each has its own history")
     told = cube.run("witness", *cube.words(("--policy", "policy"), "journal.1"), "--cell", "cell pay region.city=Lyon, time.month=Feb")
     check(told.returncode == 0, f"witness over the board's journal ended with {told.returncode}: {told.stderr.decode()}")
     print("witness takes the journal of a group by its policy")
+
+
+def sent(connection, status, body):
+    """What the log of `replay` has of a reply."""
+    kind = "csv" if status == 200 else "plain"
+    head = f"HTTP/1.1 {status} {PHRASES[status]}\r\nContent-Type: text/{kind}; charset=utf-8\r\nContent-Length: {len(body)}\r\n\r\n"
+    return "".join(f"sent {connection} {len(piece)}\n{piece}\n" for piece in (head, body))
+
+
+def played(folder):
+    """A script of two connections, on which groups are asked in turns."""
+    cube = Cube(folder, listed(("staff", "policy"), ("board", "policy")))
+    rows = [
+        (1, "/g/staff/v1/query?q=slice+pay+by+time.month", 200, MONTH_ROWS),
+        (2, "/g/board/v1/query?q=slice+pay+by+region.area", 200, AREA_ROWS),
+        (2, "/g/none/v1/shape", 404, UNKNOWN),
+        (2, "/v1/shape", 404, "not found\n"),
+        (1, "/g/staff/v1/query?q=slice+pay+by+region.area", 403, CUT),
+    ]
+    asks = [f"data {connection} " + f"GET {path} HTTP/1.1\r\nHost: a\r\n\r\n".encode().hex() for connection, path, *_ in rows]
+    (cube.folder / "script").write_text("".join(f"{line}\n" for line in ["open 1", "open 2", *asks]))
+    ran = cube.run("replay", *cube.words(), "--script", "script")
+    wanted = "".join(sent(connection, status, body) for connection, _, status, body in rows)
+    check((ran.returncode, ran.stdout.decode()) == (0, wanted), f"replay ended with {ran.returncode}: {ran.stdout.decode()}")
+    print("a script of two connections is played to groups, byte for byte")
 
 
 def query(chance):
@@ -210,6 +243,7 @@ def main():
     with tempfile.TemporaryDirectory() as made:
         folder = pathlib.Path(made)
         side_by_side(folder / "two")
+        played(folder / "played")
         at_random(folder / "random", 1)
         refusals(folder / "refused")
         as_typed(folder)

@@ -1,7 +1,7 @@
 """Plays the rows of streams.py to `cube replay`, and holds each log to the expected bytes.
 
-Each row's stream is played whole, in pieces of one byte, and in two pieces, cut at each place of a short stream and at 50
-places of a long one, each time on a connection of its own. Behind a row whose last reply leaves the connection open comes
+Each row's stream is played whole, in pieces of one byte, and in two and in three pieces, cut at each place of a short stream
+and at 50 places of a long one, each time on a connection of its own. Behind a row whose last reply leaves the connection open comes
 one request more, which has to be answered; behind one that closes it comes the same, and nothing may be said.
 """
 
@@ -44,6 +44,8 @@ def cuts(stream):
     yield "in pieces of one byte", in_pieces(stream, 1)
     for at in places(len(stream)):
         yield f"cut at byte {at}", in_pieces(stream[:at], PIECE) + in_pieces(stream[at:], PIECE)
+        first = at // 2
+        yield f"cut at bytes {first} and {at}", in_pieces(stream[:first], PIECE) + in_pieces(stream[first:at], PIECE) + in_pieces(stream[at:], PIECE)
 
 
 def script_of(connection, pieces):

@@ -372,6 +372,51 @@ def journals_are_written_down():
         expect(Room({**PAY, "log": out}).run(words), 0, out, "", "once more")
 
 
+# ---- connections
+
+REPLAY = ASK.replace("ask", "replay") + " --script s"
+
+
+def get(path):
+    return f"GET {path} HTTP/1.1\r\nHost: a\r\n\r\n".encode()
+
+
+def script_of(*pieces):
+    return "open 7\n" + "".join(f"data 7 {piece.hex()}\n" for piece in pieces)
+
+
+def sent(*pieces):
+    return "".join(f"sent 7 {len(piece)}\n{piece}\n" for piece in pieces)
+
+
+def head_of(kind, length):
+    return f"HTTP/1.1 200 OK\r\nContent-Type: {kind}\r\nContent-Length: {length}\r\n\r\n"
+
+
+def connections_are_played():
+    count = sent(head_of("text/csv; charset=utf-8", 8), "count\n5\n")
+    ask = get("/v1/query?q=cell+count")
+    for requests, pieces, status, replies, text in (
+        ("9", (ask,), 0, 1, ""), ("9", (ask * 2, ask), 0, 3, ""), ("1", (ask, ask), 10, 1, "spent: 1 requests, 2 events\n"), ("2", (ask * 3,), 10, 2, "spent: 2 requests, 2 events\n"),
+    ):
+        room = Room({**PAY, "s": script_of(*pieces)})
+        expect(room.run(f"{REPLAY} --requests {requests}"), status, count * replies, text, (requests, pieces))
+
+
+def sends_pass_the_room():
+    """A send that would pass the 2^28 bytes that may be sent fails, its connection is closed, and it is the last."""
+    leaves = [f"{number:05}" + "x" * 60 for number in range(60_000)]
+    dims = f'[[dimension]]\nname = "region"\nlevels = ["city"]\npaths = {[[leaf] for leaf in leaves]}\n[[measure]]\nname = "pay"\n'.replace("'", '"')
+    paths = ",".join(f'["{leaf}"]' for leaf in leaves)
+    shape = f'{{"dimensions":[{{"levels":["city"],"name":"region","paths":[{paths}]}}],"facts":1,"measures":[{{"decimals":0,"method":"open","name":"pay"}}],"points":1}}'
+    head = head_of("application/json", len(shape))
+    fit = 2**28 // (len(head) + len(shape))
+    room = Room({"d": dims, "f": f"city,pay\n{leaves[0]},1\n", "p": 'measure = [{name = "pay", method = "open"}]\n', "s": script_of(get("/v1/shape") * (fit + 2))})
+    ran = room.run(REPLAY)
+    front = sent(head) if 2**28 % (len(head) + len(shape)) >= len(head) else ""
+    expect(ran, 10, sent(head, shape) * fit + front + "shut 7\n", f"spent: room for sends, {fit + 1} requests, 2 events\n", "the room for sends")
+
+
 # ---- cells, transcripts
 
 def cells_are_told_or_refused():
@@ -417,7 +462,7 @@ def transcripts_are_audited():
 
 CHECKS = (
     wrong_words_are_named, help_is_given_whole_and_by_command, lines_are_summed, what_fails_ends_a_run, files_are_summed_up, refused_fact_files_are_named, refused_policy_files_are_named,
-    notes_show_what_a_report_has_no_room_for, lines_are_asked, sums_are_written, answers_follow_the_history, journals_are_kept_and_looked_at, sources_and_links_are_read, journals_are_written_down, cells_are_told_or_refused,
+    notes_show_what_a_report_has_no_room_for, lines_are_asked, sums_are_written, answers_follow_the_history, journals_are_kept_and_looked_at, sources_and_links_are_read, journals_are_written_down, connections_are_played, sends_pass_the_room, cells_are_told_or_refused,
     changes_and_twins_follow_the_source, transcripts_are_audited,
 )
 

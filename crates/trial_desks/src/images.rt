@@ -1,11 +1,12 @@
 // What a crash may leave of a log while requests are kept in it, and what an engine recovers from each such image.
 ghost use Rattle.std.specs.Prelude.{IsTrue, IfOk, IfSome};
+ghost use Rattle.cube_model.specs.Policies.{IsPolicy};
 
-use crate::engines::{Asking, ask_of, put};
-use crate::makers::{Cube, make};
+use cube_core::Core;
 use cube_engine::Engine;
+use cube_fixtures::{Parts, all_fields, field_policy};
 use cube_io::{Call, Change, Desk, Failing, MemStore, Reach, Store, Target};
-use cube_model::{Ask, Fixed, Reply, Text};
+use cube_model::{Ask, Fixed, NoMemory, Policy, Question, Reply, Text};
 use std::alloc::Global;
 use std::process::Abort;
 use std::test::Fail;
@@ -90,7 +91,7 @@ fn front(bytes: &[u8], most: usize) -> &[u8] {
 }
 
 /// What stands behind the first bytes.
-pub(crate) fn behind(bytes: &[u8], first: usize) -> &[u8] {
+fn behind(bytes: &[u8], first: usize) -> &[u8] {
     if first < bytes.len() {
         &bytes[first..]
     } else {
@@ -104,11 +105,21 @@ fn store_of(alloc: Global, first: &[u8], failing: Vec<Failing>) -> Result<MemSto
     Ok(MemStore::with_capacity(alloc, contents, failing, 64, 2_048)?)
 }
 
+/// Six fields under the parity rule.
+fn all_under(alloc: Global) -> Result<(Core, Policy), NoMemory>
+    ensures { IfOk result (λ made. IsPolicy made.0.dims made.1) }
+{
+    let Parts { dims, shape, cube } = all_fields(alloc)?;
+    let core = Core::new(alloc, dims, shape, cube)?;
+    let rules = field_policy(alloc)?;
+    Ok((core, rules))
+}
+
 /// An engine over the log of a store, unless the store fails.
 fn start(alloc: Global, store: &mut MemStore) -> Result<Option<Engine>, Fail>
     ensures { IfOk result (λ started. IfSome started (λ engine. ⟦<Engine as Desk<MemStore>>⟧.fits engine store.new)) }
 {
-    let (core, rules) = make(alloc, Cube::AllFields)?;
+    let (core, rules) = all_under(alloc)?;
     let name = Text::from_bytes(alloc, b"log")?;
     if store.attach(&name).is_err() {
         return Ok(None);
@@ -171,6 +182,22 @@ fn line_of(alloc: Global, text: &[u8]) -> Result<Vec<u8>, Fail> {
     Ok(line)
 }
 
+/// One ask, where there is space for it.
+fn put<D: Desk<MemStore>>(
+    alloc: Global,
+    desk: &mut D,
+    store: &mut MemStore,
+    ask: &Ask,
+) -> Result<Reply, &'static str>
+    requires { D.fits desk.old store.old }
+    ensures { D.fits desk.new store.new }
+{
+    if desk.left() == 0 {
+        return Err("no room");
+    }
+    Ok(desk.answer(alloc, store, ask))
+}
+
 /// Takes down one ask: a request that is answered is one that is kept.
 fn ask_one<D: Desk<MemStore>>(
     alloc: Global,
@@ -182,7 +209,10 @@ fn ask_one<D: Desk<MemStore>>(
     requires { D.fits desk.old store.old }
     ensures { D.fits desk.new store.new }
 {
-    let ask = ask_of(alloc, Asking::Query, text)?;
+    let ask = Ask {
+        group: None,
+        question: Question::Query(Text::from_bytes(alloc, text)?),
+    };
     ran.note(store)?;
     match put(alloc, desk, store, &ask)? {
         Reply::Made { status: 200, .. } => {
@@ -236,7 +266,7 @@ fn recovered(alloc: Global, image: &[u8]) -> Result<Option<Text>, Fail> {
 }
 
 /// The length of the first line of a log.
-pub(crate) const HEAD_LEN: usize = 80;
+const HEAD_LEN: usize = 80;
 
 /// Whether these lines are what was answered, alone or with one more request.
 fn is_allowed(alloc: Global, lines: &[u8], kept: &[u8]) -> Result<bool, Fail> {

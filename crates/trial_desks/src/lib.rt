@@ -1,15 +1,8 @@
-//! Trials of cubes that are asked: engines over logs and stores that fail, and groups over one store and on one wire.
+//! Trials of an engine over a store that fails, and over each image that a crash may leave of a log.
 //!
-//! There is nothing here but tests, each of something that no clause of the crates below says, and what they share.
+//! There is nothing here but tests, each of something that no clause of the crates below says. What an engine and groups answer
+//! over a store that works is tried over the program as it is built: `examples/runs`, `examples/groups`.
 #![tactic(auto)]
 
 #[cfg(test)]
-mod engines;
-#[cfg(test)]
-mod groups;
-#[cfg(test)]
 mod images;
-#[cfg(test)]
-mod makers;
-#[cfg(test)]
-mod served_groups;

@@ -1,14 +1,8 @@
-//! Trials of what is said on a wire: streams of bytes as they are heard however they are cut, the bytes of replies, scripts of
-//! connections, and a server over a wire.
+//! Trials of a server over a wire whose sends fail.
 //!
-//! There is nothing here but tests, each of something that no clause of the crates below says.
+//! There is nothing here but tests, each of something that no clause of the crates below says. What is said over a wire whose
+//! sends go well is tried over the program as it is built: `examples/hostile`, `examples/groups`, `examples/runs`.
 #![tactic(auto)]
 
 #[cfg(test)]
 mod failing;
-#[cfg(test)]
-mod scripts;
-#[cfg(test)]
-mod servers;
-#[cfg(test)]
-mod streams;
