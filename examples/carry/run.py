@@ -257,7 +257,7 @@ def two_lives_of_pay(case):
     dims = (PAY / "dims.toml").read_text()
     policy = (PAY / "policy.toml").read_text()
 
-    def first(months):
+    def first(months, policy=policy):
         """The files with so many months of the year."""
         gone = tuple("Jan Feb Mar Apr May Jun Jul Aug Sep Oct Nov Dec".split()[months:])
         kept = "".join(line for line in dims.splitlines(True) if not line.startswith(tuple(f'  ["{month}"' for month in gone)))
@@ -274,14 +274,14 @@ def two_lives_of_pay(case):
         for measure in ("pay", "hours"):
             twin = new.run("twin", "--journal", new.path("journal"), "--cell", f"cell {measure} {where}")
             silent(old, new, QUERIES, QUERIES, twin, 3)
-    finer = "slice pay by region.area, time.quarter, grade.grade"
+    finer, monthly = "slice pay by region.area, time.quarter, grade.grade", policy.replace('region = "branch",', 'region = "branch", time = "month",')
     outcomes = []
     for before, behind in ((3, 4), (9, 10), (9, 12)):
-        old, new = case.cube(first(before)), case.cube(first(behind))
+        old, new = case.cube(first(before, monthly)), case.cube(first(behind, monthly))
         old.ask("journal", finer)
         outcomes.append(carry(new, old)[0])
     check(outcomes == [3, 3, 0], f"sources by quarter are carried as {outcomes}")
-    return "nine months and then the year of examples/pay: both lives reply the same over both twins; sources by quarter wait for its end"
+    return "nine months and then the year of examples/pay: both lives reply the same over both twins; where months alone are protected, sources by quarter wait for its end"
 
 
 def grown(random_, case):
