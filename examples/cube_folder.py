@@ -25,13 +25,14 @@ class Cube:
         names = {"dims": "dims", "facts": facts, "policy": "policy"}
         return [word for kind, name in names.items() for word in (f"--{before}{kind}", self.path(name))]
 
-    def ends(self, command, *words, given="", facts="facts"):
+    def ends(self, command, *words, given="", facts="facts", **how):
         """Runs a command to its end: its status, what it wrote, and its notes and text."""
-        done = subprocess.run([CUBE, command, *self.files(facts=facts), *words], input=given.encode(), capture_output=True, timeout=PATIENCE)
+        words = [CUBE, command, *self.files(facts=facts), *words]
+        done = subprocess.run(words, input=given.encode(), capture_output=True, timeout=PATIENCE, **how)
         return done.returncode, done.stdout.decode(), done.stderr.decode()
 
-    def run(self, command, *words, given="", facts="facts"):
-        status, written, said = self.ends(command, *words, given=given, facts=facts)
+    def run(self, command, *words, given="", facts="facts", **how):
+        status, written, said = self.ends(command, *words, given=given, facts=facts, **how)
         check(status == 0, f"{command} {words}: status {status}, {said}")
         return written
 

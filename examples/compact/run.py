@@ -5,6 +5,7 @@ Each row says what was compacted and what came of it; the first in which somethi
 status 1. Needs Python 3 alone. The program is the environment's CUBE.
 """
 
+import os
 import pathlib
 import subprocess
 import sys
@@ -97,6 +98,59 @@ def in_place(folder):
     return "--out puts the journal in its own place, whole, or into another file; where it cannot, nothing is changed"
 
 
+def beside(folder):
+    cube = Cube(folder, "beside", PAY)
+    cube.ask("pay", MONTHS)
+    text = cube.compact("pay")
+    cube.path("mine").write_text("mine")
+    cube.path("out.new").symlink_to(cube.path("mine"))
+    cube.run("compact", "--journal", cube.path("pay"), "--out", cube.path("out"), umask=0)
+    check(cube.path("mine").read_text() == "mine", "what a link beside led to was changed")
+    check(cube.path("out").read_text() == text and not cube.path("out").is_symlink(), "no file of its own")
+    check(not os.path.lexists(cube.path("out.new")), "the file beside is still there")
+    check(cube.path("out").stat().st_mode & 0o777 == 0o600, "others may read the new journal")
+    cube.path("pay").rename(cube.path("next.new"))
+    cube.path("pay.seal").rename(cube.path("next.new.seal"))
+    status, _, said = cube.ends("compact", "--journal", cube.path("next.new"), "--out", cube.path("next"))
+    check(status == 6 and "next: in use by another program\n" in said, f"the journal as the file beside: {status} {said}")
+    check(cube.ask("next.new", AREAS) == REFUSED, "the journal was lost as the file beside")
+    return "the file beside is one of its owner's alone, made anew, and never what a link leads to or what is in use"
+
+
+def no_place(folder):
+    cube = Cube(folder, "no_place", PAY)
+    cube.ask("pay", MONTHS)
+    cube.path("folder").mkdir()
+    os.mkfifo(cube.path("pipe"))
+    for link, behind in (("to_folder", "folder"), ("to_pipe", "pipe"), ("to_null", "/dev/null"), ("to_seal", "pay.seal"), ("to_none", "none")):
+        cube.path(link).symlink_to(behind)
+    seal = cube.path("pay.seal").read_text()
+    before = sorted(os.listdir(cube.folder))
+    names = "folder", "pipe", "to_folder", "to_pipe", "to_null", "to_none", "", "pay.seal", "to_seal", "other.seal", "./pay.seal"
+    for name in names:
+        status, written, said = cube.ends("compact", "--journal", "pay", "--out", name, cwd=cube.folder)
+        check((status, written) == (6, "") and said.endswith("\noutput failed\n"), f"{name}: {status} {said}")
+        why = "the name of a seal" if "seal" in name else "no regular file"
+        check(f"{name}: {why}\n" in said, f"{name}: another note: {said}")
+        check(sorted(os.listdir(cube.folder)) == before, f"{name}: a file was left")
+    check(cube.path("pay.seal").read_text() == seal, "the seal was changed")
+    return "a folder, a pipe, links to them, no name and a seal are refused, and nothing is left beside them"
+
+
+def behind_a_link(folder):
+    cube = Cube(folder, "behind", PAY)
+    cube.ask("pay", MONTHS)
+    text = cube.compact("pay")
+    cube.path("link").symlink_to("pay")
+    cube.run("compact", "--journal", cube.path("link"), "--out", cube.path("link"))
+    check(cube.path("link").is_symlink() and cube.path("pay").read_text() == text, "not the journal behind the link was replaced")
+    facts = PAY["facts"].replace("Lyon,Jan,10,1", "Lyon,Jan,11,1")
+    cube.path("corrected").write_text(facts)
+    status, written, said = cube.ends("ask", "--journal", cube.path("link"), given=f"{MONTHS}\n", facts="corrected")
+    check((status, written) == (4, "") and "journal: facts " in said, f"corrected facts: {status} {said}")
+    return "behind a link the journal itself is replaced, and keeps its seal"
+
+
 def a_full_history(folder):
     cube = Cube(folder, "full", LINE)
     cube.path("old").write_text(f"cube-journal 1 {cube.digest}\n" + "".join(f"q range v d.l=l{i}..l{i + 1}\n" for i in range(MOST)))
@@ -115,7 +169,7 @@ def main():
     build()
     with tempfile.TemporaryDirectory() as name:
         try:
-            for act in (a_source, links, nothing, in_place, a_full_history):
+            for act in (a_source, links, nothing, in_place, beside, no_place, behind_a_link, a_full_history):
                 print(act(pathlib.Path(name)), flush=True)
         except (Wrong, OSError, subprocess.TimeoutExpired) as wrong:
             print(f"run.py: {wrong}", file=sys.stderr)

@@ -1,7 +1,7 @@
 #!/usr/bin/env bash
 # One owner: what befalls a journal of examples/pay that two programs want, that is moved away, that another program
-# writes to, where the standard streams are closed, and where a value of the facts was corrected. Each is done, and seen
-# to tell nothing more.
+# writes to, where the standard streams are closed, where a value of the facts was corrected, and where a journal or a
+# seal is a link or has two names. Each is done, and seen to tell nothing more.
 set -eu
 here=$(cd "$(dirname "$0")" && pwd)
 pay=$here/../pay
@@ -39,6 +39,22 @@ wait_for() {
 finish() {
     exec 3>&-
     wait
+}
+
+# Asks over a journal, and perhaps over other facts; sees the status, a note, and that nothing was answered.
+refuses() {
+    local status=0
+    echo "$areas" | "$cube" ask --dims "$pay/dims.toml" --facts "${4:-$pay/facts.csv}" --policy "$pay/policy.toml" --journal "$1" \
+        > "$work/replies" 2> "$work/notes" || status=$?
+    [ "$status" -eq "$2" ] || fail "$(basename "$1"): status $status, not $2"
+    grep -q "$3" "$work/notes" || fail "$(basename "$1"): no note '$3'"
+    [ ! -s "$work/replies" ] || fail "$(basename "$1"): answered"
+}
+
+# Sees that the areas are answered over a journal as they were before.
+answers() {
+    echo "$areas" | "$cube" ask --dims "$pay/dims.toml" --facts "$pay/facts.csv" --policy "$pay/policy.toml" --journal "$1" 2> "$work/notes" |
+        cmp -s - "$work/open" || fail "$(basename "$1"): another reply"
 }
 
 "$cube" --version > /dev/null
@@ -88,11 +104,53 @@ echo "closed standard streams write nothing into the journal"
 sed 's/^Jan,Paris,clerk,2159.79,/Jan,Paris,clerk,2160.79,/' "$pay/facts.csv" > "$work/facts.csv"
 ! cmp -s "$pay/facts.csv" "$work/facts.csv" || fail "no value was corrected"
 cp "$journal" "$work/before"
-status=0
-echo "$areas" | "$cube" ask --dims "$pay/dims.toml" --facts "$work/facts.csv" --policy "$pay/policy.toml" --journal "$journal" \
-    > "$work/replies" 2> "$work/notes" || status=$?
-[ "$status" -eq 4 ] || fail "corrected facts: another status than 4"
-grep -q '^journal: facts [0-9a-f]* are not [0-9a-f]*$' "$work/notes" || fail "corrected facts: another text"
-[ ! -s "$work/replies" ] || fail "corrected facts were answered"
+refuses "$journal" 4 '^journal: facts [0-9a-f]* are not [0-9a-f]*$' "$work/facts.csv"
 cmp -s "$journal" "$work/before" || fail "corrected facts: the journal was changed"
 echo "a journal is not opened over corrected facts"
+
+ln -s "$journal" "$work/link"
+refuses "$work/link" 4 '^journal: facts ' "$work/facts.csv"
+answers "$work/link"
+[ ! -e "$work/link.seal" ] || fail "a link has a seal of its own"
+touch "$work/link.seal"
+refuses "$work/link" 9 'link.seal: another file than the one beside the journal itself'
+rm "$work/link.seal"
+options[7]=$work/link
+begin "$areas" 1
+ln -sfn "$work/before" "$work/link"
+echo "slice hours by region.area" >&3
+wait_for 2
+grep -q '^journal fault$' "$work/replies" || fail "an answer went to a journal to which its link leads no more"
+finish
+ln -s "$work/made" "$work/to-be-made"
+answers "$work/to-be-made"
+[ -s "$work/made.seal" ] || fail "no seal beside what a link led to before it was there"
+echo "a journal behind a link has the seal of the journal itself"
+
+ln "$journal" "$work/other"
+refuses "$journal" 9 'pay.journal: has another name (a hard link)'
+refuses "$work/other" 9 'other: has another name (a hard link)'
+rm "$work/other"
+answers "$journal"
+mv "$journal.seal" "$work/seal"
+ln -s "$work/seal" "$journal.seal"
+refuses "$journal" 9 'pay.journal.seal: a symbolic link'
+mv "$work/seal" "$journal.seal"
+answers "$journal"
+echo "a journal that has two names is refused, and a seal that is a link"
+
+: > "$work/script"
+ln -s "$journal" "$work/groups.journal.1"
+status=0
+(cd "$here/../.." && "$cube" replay --dims "$pay/dims.toml" --facts "$pay/facts.csv" --groups examples/groups/groups.toml \
+    --journal "$work/groups.journal" --script "$work/script") > "$work/replies" 2> "$work/notes" || status=$?
+[ "$status" -eq 9 ] || fail "a link for the journal of a group: status $status"
+grep -q 'groups.journal.1: a symbolic link' "$work/notes" || fail "no note on the link of a group"
+echo "the journal of a further group is no link"
+
+(umask 0 && answers "$work/new.journal")
+chmod 640 "$journal"
+answers "$journal"
+modes=$(stat -c %a "$work/new.journal" "$work/new.journal.seal" "$journal" | xargs)
+[ "$modes" = "600 600 640" ] || fail "modes $modes"
+echo "a journal and a seal are made for their owner alone, and a journal that is there keeps its mode"

@@ -122,7 +122,7 @@ fn main(rt: HostRuntime) -> ExitCode {
     let out = match named {
         None => EitherSink::First(WriterSink::new(io::writer(&rt))),
         Some(path) => {
-            match OutFile::new(rt.alloc(), MachineDisk::new(&rt), rt.stderr(), &path) {
+            match OutFile::new(rt.alloc(), MachineDisk::for_outputs(&rt), rt.stderr(), &path) {
                 Ok(file) => EitherSink::Second(file),
                 Err(_) => return ExitCode::from(7),
             }

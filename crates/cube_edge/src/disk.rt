@@ -7,7 +7,7 @@ ghost use Rattle.cube_edge.specs.Disks.{DiskState, Rests, WorksAt, WorksAtTwo, I
 
 use cube_io::{Failed, ReadFault};
 use cube_model::Text;
-use std::alloc::Global;
+use std::alloc::{AllocError, Global};
 use std::{fmt, io};
 
 /// Why a file is not worked on.
@@ -23,6 +23,20 @@ pub enum Trouble {
     Moved,
     /// It is longer or shorter than this program left it.
     Changed,
+    /// It has another name besides, a hard link.
+    TwoNames,
+    /// It is a symbolic link.
+    Link,
+    /// Its path as it was given leads to another file than the one beside the journal itself.
+    Another,
+    /// It is the seal of a journal, which no output takes the place of.
+    Seal,
+}
+
+impl From<AllocError> for Trouble {
+    fn from(error: AllocError) -> Trouble {
+        Trouble::Refused(io::Error::from(error))
+    }
 }
 
 impl From<io::Error> for Trouble {
@@ -39,6 +53,10 @@ impl fmt::Display for Trouble {
             Trouble::InUse => write!(f, "in use by another program"),
             Trouble::Moved => write!(f, "moved or deleted"),
             Trouble::Changed => write!(f, "changed by another program"),
+            Trouble::TwoNames => write!(f, "has another name (a hard link)"),
+            Trouble::Link => write!(f, "a symbolic link"),
+            Trouble::Another => write!(f, "another file than the one beside the journal itself"),
+            Trouble::Seal => write!(f, "the name of a seal"),
         }
     }
 }

@@ -12,6 +12,7 @@ mod hub;
 mod link;
 mod machine;
 mod mem_watch;
+mod names;
 mod out_file;
 mod sink;
 mod sockets;

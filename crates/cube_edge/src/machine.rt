@@ -5,31 +5,72 @@ ghost use Rattle.cube_edge.specs.Disks.{silent_disk};
 
 use crate::disk::{Disk, Extent, Trouble};
 use crate::folder::read_rest;
+use crate::names::Names;
+use crate::out_file::ENDING;
 use crate::sink::write_some;
 use cube_io::{Failed, ReadFault};
 use cube_model::Text;
 use std::alloc::Global;
-use std::fs::{File, OpenFile, OpenOptions, TryLockError};
+use std::fs::{File, Metadata, OpenFile, OpenOptions, TryLockError};
 use std::io::{ErrorKind, Read, Seek, SeekFrom};
-use std::os::unix::fs::MetadataExt;
+use std::os::unix::fs::{MetadataExt, OpenOptionsExt};
 use std::rt::Files;
 use std::{fs, io};
 
 /// The most bytes of a log that are read.
 const MAX_LOG: usize = 268_435_456;
 
-/// The files of the machine. It tells nothing of them.
+/// Who may read and write a file that is made: its owner alone.
+const OWNER_ALONE: u32 = 0o600;
+
+/// What the name of a seal ends with.
+const SEAL: &str = ".seal";
+
+/// The files of the machine. It tells nothing of them. A file that it makes is its owner's alone. No file is worked on that
+/// has two names, or by a symbolic link; but the name that `attach` takes may lead over some, and then the files lie where it
+/// leads. Of one for outputs each file is to take the place of another, and is made anew.
 #[derive(Drop)]
 pub struct MachineDisk<'a, R: Files<File = File> + AllocGlobal> {
     rt: &'a R,
+    // None where there was no memory for them.
+    names: Option<Names>,
+    is_for_outputs: bool,
 }
 
 impl<'a, R: Files<File = File> + AllocGlobal> MachineDisk<'a, R> {
     pub fn new(rt: &'a R) -> Self
         ensures told { (⟦<MachineDisk<'a, R> as Disk>⟧.state result).told ≡ false }
     {
-        MachineDisk { rt }
+        MachineDisk {
+            rt,
+            names: None,
+            is_for_outputs: false,
+        }
     }
+
+    /// A disk for an `OutFile`. Each file that is opened has the path of another and `.new`, and that other is a regular file
+    /// or none, and no seal.
+    pub fn for_outputs(rt: &'a R) -> Self
+        ensures told { (⟦<MachineDisk<'a, R> as Disk>⟧.state result).told ≡ false }
+    {
+        MachineDisk {
+            rt,
+            names: None,
+            is_for_outputs: true,
+        }
+    }
+
+    /// Takes the name that files begin with.
+    fn take(&mut self, name: &str) {
+        self.names = Names::new(self.rt.alloc(), name).ok();
+    }
+}
+
+/// The names that were taken.
+fn taken(names: &mut Option<Names>) -> Result<&mut Names, Trouble> {
+    names
+        .as_mut()
+        .ok_or(Trouble::Refused(io::Error::from(ErrorKind::OutOfMemory)))
 }
 
 /// Puts the names of a file's folder on the disk.
@@ -42,13 +83,106 @@ fn sync_folder<R: Files + AllocGlobal>(rt: &R, path: &str) -> io::Result<()> {
         .sync_all()
 }
 
-/// Opens a file to read it and to write at its end, and makes it where it isn't there.
-fn open_or_make<R: Files>(rt: &R, path: &str) -> io::Result<R::File> {
+/// What is found, if it is there.
+fn found(looked: io::Result<Metadata>) -> Result<Option<Metadata>, Trouble> {
+    match looked {
+        Ok(there) => Ok(Some(there)),
+        Err(error) if error.kind() == ErrorKind::NotFound => Ok(None),
+        Err(error) => Err(Trouble::Refused(error)),
+    }
+}
+
+/// Finds what a name really is, and makes the file where it isn't there.
+fn find<R: Files + AllocGlobal>(rt: &R, names: &mut Names) -> Result<(), Trouble> {
+    if names.are_found() {
+        return Ok(());
+    }
+    match fs::canonicalize(rt, names.given()) {
+        Ok(real) => return names.set_real(real.as_path().as_str()),
+        Err(error) if error.kind() == ErrorKind::NotFound => {}
+        Err(error) => return Err(Trouble::Refused(error)),
+    }
+    // Where a link leads to no file, this makes the file that it leads to.
+    OpenOptions::new()
+        .append(true)
+        .create(true)
+        .mode(OWNER_ALONE)
+        .open(rt, names.given())?;
+    let real = fs::canonicalize(rt, names.given())?;
+    names.set_real(real.as_path().as_str())
+}
+
+/// Finds what the name of an output really is, if it may be replaced.
+fn find_output<R: Files + AllocGlobal>(rt: &R, names: &mut Names) -> Result<(), Trouble> {
+    match fs::canonicalize(rt, names.given()) {
+        Ok(real) => names.set_real(real.as_path().as_str())?,
+        Err(error) if error.kind() == ErrorKind::NotFound => names.set_real_as_given()?,
+        Err(error) => return Err(Trouble::Refused(error)),
+    }
+    if names.real().ends_with(SEAL) {
+        return Err(Trouble::Seal);
+    }
+    if names.real().is_empty() || !is_free(rt, names.real())? {
+        return Err(Trouble::NoFile);
+    }
+    Ok(())
+}
+
+/// Whether a path is that of a regular file, or of nothing.
+fn is_free<R: Files>(rt: &R, path: &str) -> Result<bool, Trouble> {
+    match found(fs::symlink_metadata(rt, path))? {
+        Some(there) => Ok(there.is_file()),
+        None => Ok(true),
+    }
+}
+
+/// Makes a file.
+fn make<R: Files>(rt: &R, path: &str) -> io::Result<R::File> {
     OpenOptions::new()
         .read(true)
         .append(true)
-        .create(true)
+        .create_new(true)
+        .mode(OWNER_ALONE)
         .open(rt, path)
+}
+
+/// Opens a file that is there to read it and to write at its end.
+fn open<R: Files>(rt: &R, path: &str) -> io::Result<R::File> {
+    OpenOptions::new().read(true).append(true).open(rt, path)
+}
+
+/// Opens a file to read it and to write at its end, and makes it where it isn't there. What is no regular file isn't opened.
+fn open_or_make<R: Files>(rt: &R, path: &str) -> Result<R::File, Trouble> {
+    match make(rt, path) {
+        Ok(file) => return Ok(file),
+        Err(error) if error.kind() == ErrorKind::AlreadyExists => {}
+        Err(error) => return Err(Trouble::Refused(error)),
+    }
+    let there = fs::symlink_metadata(rt, path)?;
+    if there.is_symlink() {
+        return Err(Trouble::Link);
+    }
+    if !there.is_file() {
+        return Err(Trouble::NoFile);
+    }
+    Ok(open(rt, path)?)
+}
+
+/// Takes away what an earlier run left of a file beside: a regular file that nobody has locked, or a link, but not what that
+/// leads to.
+fn clear<R: Files<File = File>>(rt: &R, path: &str) -> Result<(), Trouble> {
+    let Some(there) = found(fs::symlink_metadata(rt, path))? else {
+        return Ok(());
+    };
+    if there.is_symlink() {
+        return Ok(fs::remove_file(rt, path)?);
+    }
+    if !there.is_file() {
+        return Err(Trouble::NoFile);
+    }
+    let file = open(rt, path)?;
+    lock(&file)?;
+    Ok(fs::remove_file(rt, path)?)
 }
 
 /// Locks a file until it is closed, however the program ends.
@@ -60,35 +194,32 @@ fn lock(file: &File) -> Result<(), Trouble> {
     }
 }
 
-/// How long an open file is, where its name stands for it.
-fn length_behind<R: Files>(rt: &R, path: &str, file: &File) -> Result<u64, Trouble> {
+/// Whether both tell of one file.
+fn is_same(one: &Metadata, other: &Metadata) -> bool {
+    one.dev() == other.dev() && one.ino() == other.ino()
+}
+
+/// How long an open file is, where its path stands for it, and no other name.
+fn length_behind<R: Files>(rt: &R, real_path: &str, file: &File) -> Result<u64, Trouble> {
     let open = file.metadata()?;
-    let named = match fs::metadata(rt, path) {
-        Ok(named) => named,
-        Err(error) if error.kind() == ErrorKind::NotFound => return Err(Trouble::Moved),
-        Err(error) => return Err(Trouble::Refused(error)),
-    };
-    if open.nlink() == 0 || open.dev() != named.dev() || open.ino() != named.ino() {
-        return Err(Trouble::Moved);
+    match found(fs::symlink_metadata(rt, real_path))? {
+        Some(named) if open.nlink() > 0 && is_same(&open, &named) => {}
+        _ => return Err(Trouble::Moved),
+    }
+    if open.nlink() > 1 {
+        return Err(Trouble::TwoNames);
     }
     Ok(open.len())
 }
 
-/// Sees that the name of a file stands for it, and that it is as this program left it.
-fn look<R: Files>(rt: &R, file: &File, path: &str, left: Extent) -> Result<(), Trouble> {
-    if left.allows(length_behind(rt, path, file)?) {
-        Ok(())
-    } else {
-        Err(Trouble::Changed)
-    }
-}
-
-/// Whether a regular file stands behind a path, or nothing.
-fn is_free<R: Files>(rt: &R, path: &str) -> io::Result<bool> {
-    match fs::metadata(rt, path) {
-        Ok(there) => Ok(there.is_file()),
-        Err(error) if error.kind() == ErrorKind::NotFound => Ok(true),
-        Err(error) => Err(error),
+/// Sees that a path as it was given leads to an open file. A path that only begins with the given name may lead nowhere:
+/// where that name is a link the file isn't beside it.
+fn look_as_given<R: Files>(rt: &R, given: &str, path: &str, file: &File) -> Result<(), Trouble> {
+    match found(fs::metadata(rt, path))? {
+        Some(there) if is_same(&file.metadata()?, &there) => Ok(()),
+        Some(_) if path != given => Err(Trouble::Another),
+        None if path != given => Ok(()),
+        _ => Err(Trouble::Moved),
     }
 }
 
@@ -102,6 +233,36 @@ fn read_log<F: Read + Seek>(file: &mut F, alloc: Global) -> Result<Text, ReadFau
     read_rest(file, alloc, MAX_LOG, &mut None)
 }
 
+impl<R: Files<File = File> + AllocGlobal> MachineDisk<'_, R> {
+    /// Sees that the path of a file stands for it, and that it is as this program left it.
+    fn look_at(&mut self, file: &File, path: &str, left: Extent) -> Result<(), Trouble> {
+        let names = taken(&mut self.names)?;
+        names.turn_to(path)?;
+        let length = length_behind(self.rt, names.real_path(), file)?;
+        if !self.is_for_outputs {
+            look_as_given(self.rt, names.given(), path, file)?;
+        }
+        if left.allows(length) {
+            Ok(())
+        } else {
+            Err(Trouble::Changed)
+        }
+    }
+
+    /// Makes the file that is to take the place of another.
+    fn make_beside(&mut self, path: &str) -> Result<File, Trouble> {
+        let Some(output) = path.strip_suffix(ENDING) else {
+            return Err(Trouble::NoFile);
+        };
+        self.take(output);
+        let names = taken(&mut self.names)?;
+        find_output(self.rt, names)?;
+        names.turn_to(path)?;
+        clear(self.rt, names.real_path())?;
+        Ok(make(self.rt, names.real_path())?)
+    }
+}
+
 impl<R: Files<File = File> + AllocGlobal> Disk for MachineDisk<'_, R> {
     type Opened = File;
 
@@ -113,22 +274,26 @@ impl<R: Files<File = File> + AllocGlobal> Disk for MachineDisk<'_, R> {
 
     ghost whole = { λ s p told. Prim.search rules };
 
-    fn attach(&mut self, _name: &str) -> Result<(), Failed> {
+    fn attach(&mut self, name: &str) -> Result<(), Failed> {
+        self.take(name);
         Ok(())
     }
 
     fn open(&mut self, path: &str) -> Result<File, Trouble> {
-        let file = open_or_make(self.rt, path)?;
-        if file.metadata()?.is_file() {
-            Ok(file)
-        } else {
-            Err(Trouble::NoFile)
+        if self.is_for_outputs {
+            return self.make_beside(path);
         }
+        let names = taken(&mut self.names)?;
+        find(self.rt, names)?;
+        names.turn_to(path)?;
+        open_or_make(self.rt, names.real_path())
     }
 
     fn lock(&mut self, file: File, path: &str) -> Result<File, Trouble> {
         lock(&file)?;
-        sync_folder(self.rt, path)?;
+        let names = taken(&mut self.names)?;
+        names.turn_to(path)?;
+        sync_folder(self.rt, names.real_path())?;
         Ok(file)
     }
 
@@ -137,7 +302,7 @@ impl<R: Files<File = File> + AllocGlobal> Disk for MachineDisk<'_, R> {
     }
 
     fn look(&mut self, file: &File, path: &str, left: Extent) -> Result<(), Trouble> {
-        look(self.rt, file, path, left)
+        self.look_at(file, path, left)
     }
 
     fn read(&mut self, file: &mut File, alloc: Global) -> Result<Text, ReadFault> {
@@ -154,14 +319,16 @@ impl<R: Files<File = File> + AllocGlobal> Disk for MachineDisk<'_, R> {
 
     fn sync(&mut self, file: &File, path: &str, left: Extent) -> Result<(), Trouble> {
         file.sync_all()?;
-        look(self.rt, file, path, left)
+        self.look_at(file, path, left)
     }
 
     fn replace(&mut self, _file: File, from: &str, to: &str) -> Result<(), Trouble> {
-        if !is_free(self.rt, to)? {
+        let names = taken(&mut self.names)?;
+        if to != names.given() || !is_free(self.rt, names.real())? {
             return Err(Trouble::NoFile);
         }
-        fs::rename(self.rt, from, to)?;
-        Ok(sync_folder(self.rt, to)?)
+        names.turn_to(from)?;
+        fs::rename(self.rt, names.real_path(), names.real())?;
+        Ok(sync_folder(self.rt, names.real())?)
     }
 }

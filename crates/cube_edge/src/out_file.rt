@@ -16,7 +16,7 @@ use std::marker::Model;
 use std::str;
 
 /// What the path of the file beside has behind the path of the file.
-const ENDING: &str = ".new";
+pub(crate) const ENDING: &str = ".new";
 
 /// The longest path of a file in bytes: that of the file beside it is no longer than `MAX_PATH`.
 const MAX_OUT_PATH: usize = MAX_PATH - 4;
