@@ -133,8 +133,12 @@ def no_place(folder):
         why = "the name of a seal" if "seal" in name else "no regular file"
         check(f"{name}: {why}\n" in said, f"{name}: another note: {said}")
         check(sorted(os.listdir(cube.folder)) == before, f"{name}: a file was left")
+    for name in (os.fsdecode(b"\xff"), "a" * 4_093, "none/out"):
+        status, written, said = cube.ends("compact", "--journal", "pay", "--out", name, cwd=cube.folder)
+        check((status, written) == (6, "") and said.endswith("output failed\n"), f"{name}: {status} {said}")
+        check(sorted(os.listdir(cube.folder)) == before, f"{name}: a file was left")
     check(cube.path("pay.seal").read_text() == seal, "the seal was changed")
-    return "a folder, a pipe, links to them, no name and a seal are refused, and nothing is left beside them"
+    return "a folder, a pipe, links to them, what is no name and a seal are refused, and nothing is left beside them"
 
 
 def behind_a_link(folder):

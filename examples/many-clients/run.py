@@ -232,15 +232,18 @@ def resets(server, asks):
 def slow_client(server, large):
     asked, expected = large
     count = request("cell count"), response(f"count\n{SIZE * SIZE}\n")
+    last = request("cell count", "Connection: close\r\n"), response(f"count\n{SIZE * SIZE}\n", fields="Connection: close\r\n")
     slow = server.connect(receive_room=65_536)
-    slow.sendall(asked * LARGE)
+    slow.sendall(asked * LARGE + last[0])
     other = server.connect()
     for _ in range(REQUESTS):
         ask(other, count)
     for _ in range(LARGE):
         receive(slow, expected)
-    ask(slow, count)
-    return f"a client that does not take {LARGE * len(expected):,} bytes lets others be served, and gets all in the end"
+        ask(other, count)
+    receive(slow, last[1])
+    receive_end(slow)
+    return f"a client that does not take {LARGE * len(expected):,} bytes lets others be served, and gets all before its connection is closed"
 
 
 def few_files(folder, pay, asks):

@@ -74,16 +74,21 @@ wait_for 2
 grep -q '^journal fault$' "$work/replies" || fail "an answer went to a journal without a name"
 grep -q 'moved or deleted' "$work/notes" || fail "no note on the move"
 [ ! -e "$journal" ] || fail "a journal was made anew"
-mv "$work/away" "$journal"
+echo other > "$journal"
 echo "slice hours by region.area" >&3
 wait_for 3
+[ "$(grep -c '^journal fault$' "$work/replies")" -eq 2 ] || fail "an answer went to another file than the journal"
+[ "$(cat "$journal")" = other ] || fail "another file in the place of the journal was changed"
+mv "$work/away" "$journal"
+echo "slice hours by region.area" >&3
+wait_for 4
 cmp -s <(head -n 2 "$journal") "$work/before" || fail "a moved journal was changed"
-echo "a journal that is moved away gets nothing, and goes on once it is back"
+echo "a journal that is moved away gets nothing, nor does what stands in its place, and it goes on once it is back"
 
 echo 'q slice pay by time.month' >> "$journal"
 cp "$journal" "$work/before"
 echo "slice hours by time.month" >&3
-wait_for 4
+wait_for 5
 grep -q 'changed by another program' "$work/notes" || fail "no note on the change"
 cmp -s "$journal" "$work/before" || fail "a line of another program was cut away"
 finish

@@ -1,5 +1,5 @@
 #!/usr/bin/env python3
-"""Refused: what the program does where the machine refuses it an address, a journal or room on a disk.
+"""Refused: what the program does where the machine refuses it an address, a file, a journal or room on a disk.
 
 Each row says what was refused and what the program did; the first in which it did something else ends the script with
 status 1. Needs Python 3 alone; as root also a file system of a megabyte is filled and freed. The program is the
@@ -79,6 +79,19 @@ def privileged_port(folder):
     return "a privileged port ends with status 8 and the system's word"
 
 
+# ---- files
+
+def files(folder):
+    for name, status, said_last, note in (
+        ("none", 5, b"cannot read none\n", b"none: No such file or directory"), (folder, 5, f"cannot read {folder}\n".encode(), b"Is a directory"),
+        (b"\xff", 5, b"cannot read \xff\n", b""), ("/dev/zero", 3, b"dims: limit file 67108864\n", b""), ("/dev/null", 3, b"dims: missing dimension\n", b""),
+    ):
+        words = [CUBE, "check", "--dims", name, "--facts", PAY / "facts.csv", "--policy", PAY / "policy.toml"]
+        done = subprocess.run(words, cwd=folder, capture_output=True, timeout=PATIENCE, check=False)
+        check((done.returncode, done.stdout) == (status, b"") and done.stderr.endswith(said_last) and note in done.stderr, f"{name}: {done}")
+    return "no file, a folder, no text for a name and an endless file are refused, and an empty one is read"
+
+
 # ---- journals
 
 def journals(folder):
@@ -86,7 +99,9 @@ def journals(folder):
     os.mkfifo(folder / "pipe")
     for journal in (folder / "folder", folder / "pipe", "/dev/full", folder / "none" / "journal"):
         refuses(["ask", *FILES, "--journal", journal], 9, "store failed\n", f"{journal}: ", given=b"cell count\n")
-    return "a folder, a pipe, a full device and a journal in no folder end with status 9 and a note that names them"
+    for name in ("", "a" * 4_097, os.fsdecode(b"\xff")):
+        refuses(["ask", *FILES, "--journal", name], 9, "store failed\n", "", given=b"cell count\n")
+    return "a folder, a pipe, a full device, a journal in no folder and what is no name end with status 9, the first with a note that names them"
 
 
 def link_to_nothing(folder):
@@ -220,7 +235,7 @@ def still_peers(folder):
     return "a connection without a whole request for --idle seconds is closed, whatever it sends, and one that asks goes on"
 
 
-ROWS = addresses, privileged_port, journals, link_to_nothing, seals, full_disk, peers, still_peers
+ROWS = addresses, privileged_port, files, journals, link_to_nothing, seals, full_disk, peers, still_peers
 
 
 def main():
