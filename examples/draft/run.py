@@ -4,6 +4,7 @@ cannot be drafted is told with its column. Takes the program in CUBE, or else ./
 
 import csv
 import io
+import json
 import os
 import subprocess
 import sys
@@ -100,6 +101,159 @@ def levels_are_found(folder):
     assert rows(folder, dims, facts, "slice pay by time.year, age.age") == ["2026,30,27.00", "2026,45,15.75"]
 
 
+def paths(text, name):
+    """The paths of a drafted dimension, in their order."""
+    table = text.split(f'[[dimension]]\nname = "{name}"\n')[1].split("[[")[0]
+    return [json.loads(line.strip().rstrip(",")) for line in table.splitlines() if line.startswith("  [")]
+
+
+def standing(text):
+    """The levels of which a dimension file says that their members stand as they appear."""
+    return [line.removeprefix("# the members of ").removesuffix(" stand as they appear") for line in text.splitlines() if line.startswith("#")]
+
+
+# Members as they appear, and as they are to stand.
+ORDERED = [
+    ("whole numbers", "10 9 -1 100 0 +7", "-1 0 +7 9 10 100"),
+    ("large numbers", "10000000000000000001 99999999999999999999 9 -10000000000000000001", "-10000000000000000001 9 10000000000000000001 99999999999999999999"),
+    ("decimals", "0.5 0.25 1.5 -0.5 -0.75 0.250000000000000001", "-0.75 -0.5 0.25 0.250000000000000001 0.5 1.5"),
+    ("numbers of both kinds", "10 9.5 9 10.5", "9 9.5 10 10.5"),
+    ("numbers that are the same", "2.0 1 2 1.0", "1 1.0 2.0 2"),
+    ("years", "2020 1999 2019", "1999 2019 2020"),
+    ("dates", "2026-02-01 2025-12-31 2026-01-15 2026-01-02", "2025-12-31 2026-01-02 2026-01-15 2026-02-01"),
+    ("months of years", "2019-03 2020-01 2019-12 2019-01", "2019-01 2019-03 2019-12 2020-01"),
+    ("quarters", "Q3 Q1 Q4 q2", "Q1 q2 Q3 Q4"),
+    ("quarters of years", "2020-Q1 2019-Q4 2019-Q2", "2019-Q2 2019-Q4 2020-Q1"),
+    ("quarters of years, written otherwise", "Q1|2020 2019Q4 2019|Q2 Q3-2019 2018-q4", "2018-q4 2019|Q2 Q3-2019 2019Q4 Q1|2020"),
+    ("weekdays", "Fri MON Sunday tuesday wed Sat Thursday", "MON tuesday wed Thursday Fri Sat Sunday"),
+    ("months", "March dec jan SEPTEMBER Feb Apr may Aug jul June Nov October", "jan Feb March Apr may June jul Aug SEPTEMBER October Nov dec"),
+]
+
+# Members that are not all of one kind stand as they appear.
+UNORDERED = [
+    ("words", "Lyon Brest Paris"),
+    ("dates and months", "2026-02-01 2026-01"),
+    ("months and quarters", "2019-03 2019-Q1 2019-01"),
+    ("quarters with a year and without", "Q2 2019-Q1"),
+    ("a month that is none", "2026-13 2026-01"),
+    ("a day that is none", "2026-01-32 2026-01-01"),
+    ("a quarter that is none", "Q5 Q1"),
+    ("a date with something behind it", "2026-01-02T 2026-01-01T"),
+    ("a year of two digits", "02-01 01-01"),
+    ("weekdays and months", "Sun Mon Mar"),
+    ("words that begin as months", "Marchand Janvier"),
+    ("four letters", "Sept Augu"),
+    ("no digit before the point", "1.5 .5"),
+    ("no digit behind the point", "2. 1."),
+    ("too many digits", "123456789012345678901 1"),
+    ("too many decimals", "0.1234567890123456789 0.1"),
+    ("a number and a word", "10 9 none"),
+]
+
+
+def of_members(folder, members):
+    """A draft for a file with a record for each of these members."""
+    names = [member.replace("|", " ") for member in members.split()]
+    facts = written(folder, "members.csv", "a,v\n" + "".join(f"{name},1\n" for name in names))
+    status, text = draft(facts, "--members", "a")
+    assert status == 0, (members, text)
+    return text
+
+
+def members_stand_in_their_order(folder):
+    for name, members, wanted in ORDERED:
+        text = of_members(folder, members)
+        assert paths(text, "a") == [[member.replace("|", " ")] for member in wanted.split()], (name, text)
+        assert standing(text) == [], (name, text)
+    for name, members in UNORDERED:
+        text = of_members(folder, members)
+        assert paths(text, "a") == [[member] for member in members.split()], (name, text)
+        assert standing(text) == ["a"], (name, text)
+    # One member needs no order.
+    assert standing(of_members(folder, "Lyon")) == []
+
+
+# A file, what is stated of it, a dimension, its paths as they are to stand, and the levels whose members stand as they appear.
+HIERARCHIES = [
+    ("month,quarter,v\nApr,Q2,1\nMar,Q1,1\nJan,Q1,1\nJun,Q2,1\n", (), "month", [["Jan", "Q1"], ["Mar", "Q1"], ["Apr", "Q2"], ["Jun", "Q2"]], []),
+    # The leaves have no order, the level above them has: within it they stand as they appear.
+    ("shop,size,v\nLyon,10,1\nNice,9,1\nBrest,10,1\nAix,9,1\n", ("--levels", "shop=shop,size"), "shop", [["Nice", "9"], ["Aix", "9"], ["Lyon", "10"], ["Brest", "10"]], ["shop"]),
+    # The order of the leaves goes before that of a level above them. The first of the second days is a Tuesday.
+    ("day,weekday,v\n2026-01-12,Mon,1\n2026-01-13,Tue,1\n2026-01-06,Tue,1\n2026-01-05,Mon,1\n", (), "day", [["2026-01-05", "Mon"], ["2026-01-06", "Tue"], ["2026-01-12", "Mon"], ["2026-01-13", "Tue"]], []),
+    ("day,weekday,v\n2026-01-12,Mon,1\n2026-01-13,Tue,1\n2026-01-06,Tue,1\n", (), "day", [["2026-01-06", "Tue"], ["2026-01-12", "Mon"], ["2026-01-13", "Tue"]], ["weekday"]),
+    ("branch,area,v\nLyon,South,1\nParis,North,1\nNice,South,1\n", (), "branch", [["Lyon", "South"], ["Paris", "North"], ["Nice", "South"]], ["branch", "area"]),
+]
+
+
+def hierarchies_stand_in_one_order(folder):
+    for facts, words, name, wanted, unordered in HIERARCHIES:
+        status, text = draft(written(folder, "hierarchy.csv", facts), *words)
+        assert status == 0 and paths(text, name) == wanted and standing(text) == unordered, (wanted, text)
+
+
+def a_range_sums_what_it_says(folder):
+    # The months stand as 2019-03, 2019-01, 2019-04, 2019-02 in the file.
+    facts = written(folder, "range.csv", "month,branch,pay\n2019-03,Lyon,4\n2019-01,Lyon,1\n2019-04,Lyon,8\n2019-02,Nice,2\n2019-03,Nice,16\n")
+    status, text = draft(facts)
+    assert status == 0, text
+    dims = written(folder, "range.toml", text)
+    for first, last, wanted in [("2019-01", "2019-03", "23"), ("2019-01", "2019-02", "3"), ("2019-02", "2019-03", "22"), ("2019-03", "2019-04", "28"), ("2019-01", "2019-04", "31")]:
+        assert rows(folder, dims, facts, f'range pay month.month="{first}".."{last}"') == [wanted], (first, last)
+    # What is said in comments changes nothing of what is read.
+    assert standing(text) == ["branch"], text
+    bare = written(folder, "bare.toml", "".join(line for line in text.splitlines(True) if not line.startswith("#")))
+    policy = written(folder, "range-policy.toml", draft(facts, "--policy")[1])
+    assert summary(dims, facts, policy) == summary(bare, facts, policy)
+
+
+def notes(policy):
+    """The comments of a policy file, which stand before all else."""
+    lines = policy.splitlines()
+    said = [line for line in lines if line.startswith("#")]
+    assert lines[:len(said)] == said and 0 < len(said) < 8, policy
+    return " ".join(said)
+
+
+# A file, what is stated of it, `below` as it is to stand, words of the comments, and how many cells are protected.
+POLICIES = [
+    # Four points, and two persons over all time.
+    ("person,month,pay\nAl,Jan,1\nBo,Jan,2\nAl,Feb,4\nBo,Feb,8\n", (), '{ "person" = "person" }', ["cell of person.person, at each time and over all time.", "Time is month:"], 6),
+    # Four points; two in each quarter; and two persons over all time.
+    ("person,month,quarter,pay\nAl,Jan,Q1,1\nBo,Jan,Q1,2\nAl,Apr,Q2,4\nBo,Apr,Q2,8\n", (), '{ "person" = "person" }', ["Time is month:"], 10),
+    # Three points; without the day three, without the year three, without both two.
+    ("person,year,day,pay\nAl,2025,Mon,1\nBo,2025,Tue,2\nAl,2026,Tue,4\n", ("--members", "year"), '{ "person" = "person" }', ["Time is year, day:"], 11),
+    # No dimension is time: three points.
+    ("person,grade,pay\nAl,A1,1\nBo,A1,2\nAl,A2,4\n", (), '{ "person" = "person", "grade" = "grade" }', ["cell of person.person, grade.grade.", "No dimension is plainly time."], 3),
+    # Each dimension is time: three points.
+    ("month,weekday,pay\nJan,Mon,1\nFeb,Mon,2\nJan,Tue,4\n", (), '{ "month" = "month", "weekday" = "weekday" }', ["cell of month.month, weekday.weekday.", "Each dimension is time"], 3),
+    # Numbers that are no years are no time: four points.
+    ("person,age,pay\nAl,1899,1\nBo,1900,2\nAl,2100,3\nBo,1899,4\n", ("--members", "age"), '{ "person" = "person", "age" = "age" }', ["No dimension is plainly time."], 4),
+    ("person,at,pay\nAl,2026-01-31,1\nBo,2026-01-30,2\nAl,2026-01-30,3\n", (), '{ "person" = "person" }', ["Time is at:"], 5),
+    ("person,at,pay\nAl,2026-Q1,1\nBo,2025Q1,2\nAl,2025Q1,3\n", (), '{ "person" = "person" }', ["Time is at:"], 5),
+    ("person,at,pay\nAl,2026-02,1\nBo,2026-01,2\nAl,2026-01,3\n", (), '{ "person" = "person" }', ["Time is at:"], 5),
+    ("person,at,pay\nAl,2026-02,1\nBo,total,2\nAl,total,3\n", (), '{ "person" = "person", "at" = "at" }', ["No dimension is plainly time."], 3),
+]
+
+
+def a_person_is_protected_over_time(folder):
+    for facts, words, below, said, protected in POLICIES:
+        facts = written(folder, "policy.csv", facts)
+        status, text = draft(facts, *words)
+        assert status == 0, text
+        status, policy = draft(facts, "--policy", *words)
+        assert status == 0 and f"below = {below}\n" in policy, (below, policy)
+        assert all(word in notes(policy) for word in [*said, "Not protected: ", "people are not"]), policy
+        held = summary(written(folder, "policy-dims.toml", text), facts, written(folder, "policy.toml", policy))
+        assert held["protected"] == str(protected), (below, held)
+    facts = written(folder, "person.csv", POLICIES[0][0])
+    dims = written(folder, "person.toml", draft(facts)[1])
+    policy = written(folder, "person-policy.toml", draft(facts, "--policy")[1])
+    asked = ["slice pay by person.person", "slice pay by person.person, month.month", "slice pay by month.month"]
+    ran = cube("ask", "--dims", dims, "--facts", facts, "--policy", policy, "--journal", os.path.join(folder, "person-journal"), given="\n".join(asked) + "\n")
+    heads = [line.split(" ")[0] for line in ran.stdout.decode().splitlines() if line[:3] in ("200", "403")]
+    assert heads == ["403", "403", "200"], ran
+
+
 def texts_are_read_as_they_are(folder):
     """Quotes, commas, line feeds, a byte order mark, CRLF, and names that TOML has to escape."""
     fields = ['a"b', "c,d", "back\\slash", "é", "all", "count"]
@@ -191,7 +345,8 @@ def what_comes_late_is_found(folder):
 
 def main():
     with tempfile.TemporaryDirectory() as folder:
-        checks = (the_pay_of_an_office, levels_are_found, texts_are_read_as_they_are, what_cannot_be_drafted_is_told, what_comes_late_is_found)
+        checks = (the_pay_of_an_office, levels_are_found, members_stand_in_their_order, hierarchies_stand_in_one_order, a_range_sums_what_it_says,
+                  a_person_is_protected_over_time, texts_are_read_as_they_are, what_cannot_be_drafted_is_told, what_comes_late_is_found)
         for check in checks:
             check(folder)
             print("draft:", check.__name__.replace("_", " "))

@@ -6,7 +6,7 @@ ghost use Rattle.cube_model.specs.Dims.{IsDims};
 ghost use Rattle.cube_draft.specs.Drafts.{IsAmong, AreTrue, is_used};
 ghost use Rattle.cube_draft.specs.Kept.{IsMarked, Holds, IsKept, kept_path, level_names};
 
-use crate::columns::name_at;
+use crate::columns::{finest_of, name_at};
 use crate::hierarchy::has_mark;
 use crate::plan::Planned;
 use crate::table::Table;
@@ -107,25 +107,35 @@ pub(crate) fn have_same(table: &Table, columns: &[usize], one: usize, other: usi
     true
 }
 
+// The place in which the path of a leaf is expected.
+fn expected_at(places: &[usize], leaf: usize) -> usize {
+    match places.get(leaf) {
+        Some(place) => *place,
+        None => leaf,
+    }
+}
+
 // Whether the fields of a row in some columns are a path among others, where those of the earlier rows are. Only the first row of
-// a leaf is compared byte by byte.
-fn goes_on(paths: &[Texts], table: &Table, columns: &[usize], finest: usize, row: usize) -> bool
+// a leaf is compared byte by byte, with the path in the place that is expected.
+fn goes_on(paths: &[Texts], table: &Table, columns: &[usize], places: &[usize], row: usize) -> bool
     requires { (k : ℕ) → k < row → IsAmong paths.now (kept_path table.now.fields.items columns.now k) }
     ensures { result ≡ true → IsAmong paths.now (kept_path table.now.fields.items columns.now row) }
 {
+    let finest = finest_of(columns);
     let first = first_in(table, finest, row);
     if first < row && have_same(table, columns, first, row) {
         return true;
     }
-    has_path(paths, table, columns, number_in(table, finest, row), row)
+    let leaf = number_in(table, finest, row);
+    has_path(paths, table, columns, expected_at(places, leaf), row)
 }
 
 // Whether the fields of each row in some columns are a path among others.
-fn have_paths(paths: &[Texts], table: &Table, columns: &[usize], finest: usize) -> bool
+fn have_paths(paths: &[Texts], table: &Table, columns: &[usize], places: &[usize]) -> bool
     ensures { result ≡ true → (row : ℕ) → row < table.now.rows → IsAmong paths.now (kept_path table.now.fields.items columns.now row) }
 {
     for row in 0..table.rows {
-        if !goes_on(paths, table, columns, finest, row) {
+        if !goes_on(paths, table, columns, places, row) {
             return false;
         }
     }
@@ -151,8 +161,8 @@ fn is_marked(members: &[bool], place: usize) -> bool
     place < members.len() && members[place]
 }
 
-// Whether some columns make a dimension.
-fn are_levels(dimension: &Dimension, table: &Table, columns: &[usize]) -> bool
+// Whether some columns make a dimension, its paths in these places.
+fn are_levels(dimension: &Dimension, table: &Table, columns: &[usize], places: &[usize]) -> bool
     ensures { result ≡ true → IsKept table.now.header table.now.members.items table.now.fields.items table.now.rows dimension.now }
 {
     let [finest, ..] = columns else {
@@ -162,7 +172,7 @@ fn are_levels(dimension: &Dimension, table: &Table, columns: &[usize]) -> bool
     are_same(dimension.column(), name_at(header, *finest))
         && are_named(dimension.levels(), header, columns)
         && are_marked(table.members.as_slice(), columns)
-        && have_paths(dimension.paths(), table, columns, *finest)
+        && have_paths(dimension.paths(), table, columns, places)
 }
 
 // Whether a name is one of these.
@@ -214,7 +224,8 @@ pub(crate) fn are_true(dims: &Dims, table: &Table, planned: &[Planned]) -> bool
     }
     for number in 0..dimensions.len() {
         let columns = planned[number].columns.as_slice();
-        if !are_levels(&dimensions[number], table, columns) {
+        let places = planned[number].order.places.as_slice();
+        if !are_levels(&dimensions[number], table, columns, places) {
             return false;
         }
     }

@@ -18,6 +18,16 @@ use std::alloc::Global;
 /// The most columns: one for each level of each dimension, and one for each measure.
 pub(crate) const MAX_COLUMNS: usize = 56;
 
+/// The place of the finest of some columns.
+pub(crate) fn finest_of(columns: &[usize]) -> usize
+    ensures { result ≡ slice_index_or columns.now 0 0 }
+{
+    match columns {
+        [finest, ..] => *finest,
+        [] => 0,
+    }
+}
+
 /// A copy of a name.
 pub(crate) fn copy_name(alloc: Global, name: &[u8]) -> Result<Text, NoMemory>
     ensures { IfOk result (λ text. text ≡ name.now) }

@@ -7,6 +7,8 @@ mod choices;
 mod columns;
 mod fault;
 mod hierarchy;
+mod kind;
+mod order;
 mod plan;
 mod shown;
 mod table;

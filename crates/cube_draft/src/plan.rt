@@ -5,6 +5,7 @@ use crate::choices::{Choices, Stated};
 use crate::columns::{copy_name, name_at, places_of};
 use crate::fault::DraftFault;
 use crate::hierarchy::{Determined, column_determines, count_of, take_mark};
+use crate::order::Order;
 use crate::table::Table;
 use cube_dims::is_name;
 use cube_model::{Items, LimitKind, NoMemory, NumberedNames, Text};
@@ -18,11 +19,13 @@ const MAX_LEAVES: usize = 65_536;
 
 const MAX_CUBOIDS: usize = 256;
 
-/// A dimension of a draft: its name, and the places of its columns, the finest first.
+/// A dimension of a draft: its name, the places of its columns, the finest first, and the order of
+/// its paths.
 #[derive(Drop)]
 pub(crate) struct Planned {
     pub(crate) name: Text,
     pub(crate) columns: Items<usize>,
+    pub(crate) order: Order,
 }
 
 /// The dimensions of a draft, and the places of the columns of its measures.
@@ -99,14 +102,25 @@ fn check_parents(alloc: Global, table: &Table, columns: &[usize]) -> Result<(), 
     Ok(())
 }
 
+// A dimension of some columns.
+fn plan_columns(
+    alloc: Global,
+    table: &Table,
+    name: &[u8],
+    columns: Items<usize>,
+) -> Result<Planned, NoMemory> {
+    Ok(Planned {
+        name: copy_name(alloc, name)?,
+        order: Order::of(alloc, table, columns.as_slice())?,
+        columns,
+    })
+}
+
 // A dimension that is stated.
 fn plan_stated(alloc: Global, table: &Table, stated: &Stated) -> Result<Planned, DraftFault> {
     let columns = places_of(alloc, table.header.as_slice(), stated)?;
     check_parents(alloc, table, columns.as_slice())?;
-    Ok(Planned {
-        name: copy_name(alloc, stated.name.as_slice())?,
-        columns,
-    })
+    Ok(plan_columns(alloc, table, stated.name.as_slice(), columns)?)
 }
 
 // Takes the marks of some places away.
@@ -150,10 +164,8 @@ fn plan_found(
     finest: usize,
 ) -> Result<Planned, DraftFault> {
     let columns = determined.chain(alloc, table, left, finest)?;
-    Ok(Planned {
-        name: copy_name(alloc, name_at(table.header.as_slice(), finest))?,
-        columns,
-    })
+    let name = name_at(table.header.as_slice(), finest);
+    Ok(plan_columns(alloc, table, name, columns)?)
 }
 
 // All dimensions.
