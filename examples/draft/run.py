@@ -217,20 +217,20 @@ def notes(policy):
 # A file, what is stated of it, `below` as it is to stand, words of the comments, and how many cells are protected.
 POLICIES = [
     # Four points, and two persons over all time.
-    ("person,month,pay\nAl,Jan,1\nBo,Jan,2\nAl,Feb,4\nBo,Feb,8\n", (), '{ "person" = "person" }', ["cell of person.person, at each time and over all time.", "Time is month:"], 6),
+    ("person,month,pay\nAl,Jan,1\nBo,Jan,2\nAl,Feb,4\nBo,Feb,8\n", (), '{ "person" = "person" }', ["cell of person.person, at each time and over all time.", "are protected too: month."], 6),
     # Four points; two in each quarter; and two persons over all time.
-    ("person,month,quarter,pay\nAl,Jan,Q1,1\nBo,Jan,Q1,2\nAl,Apr,Q2,4\nBo,Apr,Q2,8\n", (), '{ "person" = "person" }', ["Time is month:"], 10),
+    ("person,month,quarter,pay\nAl,Jan,Q1,1\nBo,Jan,Q1,2\nAl,Apr,Q2,4\nBo,Apr,Q2,8\n", (), '{ "person" = "person" }', ["are protected too: month."], 10),
     # Three points; without the day three, without the year three, without both two.
-    ("person,year,day,pay\nAl,2025,Mon,1\nBo,2025,Tue,2\nAl,2026,Tue,4\n", ("--members", "year"), '{ "person" = "person" }', ["Time is year, day:"], 11),
+    ("person,year,day,pay\nAl,2025,Mon,1\nBo,2025,Tue,2\nAl,2026,Tue,4\n", ("--members", "year"), '{ "person" = "person" }', ["are protected too: year, day."], 11),
     # No dimension is time: three points.
     ("person,grade,pay\nAl,A1,1\nBo,A1,2\nAl,A2,4\n", (), '{ "person" = "person", "grade" = "grade" }', ["cell of person.person, grade.grade.", "No dimension is plainly time."], 3),
     # Each dimension is time: three points.
     ("month,weekday,pay\nJan,Mon,1\nFeb,Mon,2\nJan,Tue,4\n", (), '{ "month" = "month", "weekday" = "weekday" }', ["cell of month.month, weekday.weekday.", "Each dimension is time"], 3),
     # Numbers that are no years are no time: four points.
     ("person,age,pay\nAl,1899,1\nBo,1900,2\nAl,2100,3\nBo,1899,4\n", ("--members", "age"), '{ "person" = "person", "age" = "age" }', ["No dimension is plainly time."], 4),
-    ("person,at,pay\nAl,2026-01-31,1\nBo,2026-01-30,2\nAl,2026-01-30,3\n", (), '{ "person" = "person" }', ["Time is at:"], 5),
-    ("person,at,pay\nAl,2026-Q1,1\nBo,2025Q1,2\nAl,2025Q1,3\n", (), '{ "person" = "person" }', ["Time is at:"], 5),
-    ("person,at,pay\nAl,2026-02,1\nBo,2026-01,2\nAl,2026-01,3\n", (), '{ "person" = "person" }', ["Time is at:"], 5),
+    ("person,at,pay\nAl,2026-01-31,1\nBo,2026-01-30,2\nAl,2026-01-30,3\n", (), '{ "person" = "person" }', ["are protected too: at."], 5),
+    ("person,at,pay\nAl,2026-Q1,1\nBo,2025Q1,2\nAl,2025Q1,3\n", (), '{ "person" = "person" }', ["are protected too: at."], 5),
+    ("person,at,pay\nAl,2026-02,1\nBo,2026-01,2\nAl,2026-01,3\n", (), '{ "person" = "person" }', ["are protected too: at."], 5),
     ("person,at,pay\nAl,2026-02,1\nBo,total,2\nAl,total,3\n", (), '{ "person" = "person", "at" = "at" }', ["No dimension is plainly time."], 3),
 ]
 

@@ -277,9 +277,10 @@ fn push_times(text: &mut Text, dimensions: &[Planned], named: &[bool]) -> Result
 // Says which dimensions are time, and whether sums over it are protected.
 fn push_time_note(text: &mut Text, dimensions: &[Planned], named: &[bool]) -> Result<(), NoMemory> {
     if named.contains(&false) {
-        text.extend(b", at each time and over all time.\n# Time is")?;
+        text.extend(b", at each time and over all time.\n")?;
+        text.extend(b"# Time is left out of \"below\", so that sums over it are protected too:")?;
         push_times(text, dimensions, named)?;
-        text.extend(b": left out of \"below\", so that sums over it are protected too.\n")
+        text.extend(b".\n")
     } else if dimensions.iter().any(|dimension| dimension.order.is_time) {
         text.extend(b".\n# Each dimension is time, so that sums over time are not protected.\n")
     } else {
