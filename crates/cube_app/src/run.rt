@@ -353,6 +353,7 @@ fn obey<F: Folder, S: Store, I: Source, O: Sink, W: Wire>(
             files: cube,
             older,
             journal,
+            out: _out,
         } => carry_over(alloc, message, &cube, &older, &journal, files, store, out),
         Orders::Why {
             files: cube,

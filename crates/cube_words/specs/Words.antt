@@ -100,7 +100,7 @@ allowed command.Ask = Dims ∷ Facts ∷ Policy ∷ Journal ∷ Requests ∷ []
 allowed command.Witness = Dims ∷ Facts ∷ Policy ∷ Journal ∷ Cell ∷ []
 allowed command.Twin = Dims ∷ Facts ∷ Policy ∷ Journal ∷ Cell ∷ []
 allowed command.Compact = Dims ∷ Facts ∷ Policy ∷ Journal ∷ Out ∷ []
-allowed command.Carry = Dims ∷ Facts ∷ Policy ∷ FromDims ∷ FromFacts ∷ FromPolicy ∷ FromJournal ∷ []
+allowed command.Carry = Dims ∷ Facts ∷ Policy ∷ FromDims ∷ FromFacts ∷ FromPolicy ∷ FromJournal ∷ Out ∷ []
 allowed command.Why = Dims ∷ Facts ∷ Policy ∷ Journal ∷ Query ∷ Reason ∷ []
 allowed command.Audit = Dims ∷ Facts ∷ Policy ∷ Transcript ∷ []
 allowed command.Advise = Dims ∷ Facts ∷ Policy ∷ Journal ∷ Workload ∷ []
@@ -233,7 +233,7 @@ orders_with command.Ask words = orders.Ask (files_of words) (value_of Journal wo
 orders_with command.Witness words = orders.Witness (files_of words) (value_of Journal words) (value_of Cell words)
 orders_with command.Twin words = orders.Twin (files_of words) (value_of Journal words) (value_of Cell words)
 orders_with command.Compact words = orders.Compact (files_of words) (value_of Journal words) (value_behind (option_word Out) words)
-orders_with command.Carry words = orders.Carry (files_of words) (older_files_of words) (value_of FromJournal words)
+orders_with command.Carry words = orders.Carry (files_of words) (older_files_of words) (value_of FromJournal words) (value_behind (option_word Out) words)
 orders_with command.Why words = orders.Why (files_of words) (value_of Journal words) (value_of Query words) (value_behind (option_word Reason) words)
 orders_with command.Audit words = orders.Audit (files_of words) (value_of Transcript words)
 orders_with command.Advise words = orders.Advise (files_of words) (value_behind (option_word Journal) words) (value_behind (option_word Workload) words)
@@ -282,6 +282,7 @@ orders_of (word ∷ words) = with_command words (command_of word)
 -- the file that the output is put into, where one is given
 abbrev pub out_of : Orders → Option (List ℕ)
 out_of (orders.Compact files journal out) = out
+out_of (orders.Carry files older journal out) = out
 out_of other = None
 
 -- the files of the cube, where one policy is for all users
@@ -291,7 +292,7 @@ cube_of (orders.Ask files journal stated) = Some files
 cube_of (orders.Witness files journal cell) = Some files
 cube_of (orders.Twin files journal cell) = Some files
 cube_of (orders.Compact files journal out) = Some files
-cube_of (orders.Carry files older journal) = Some files
+cube_of (orders.Carry files older journal out) = Some files
 cube_of (orders.Why files journal query reason) = Some files
 cube_of (orders.Audit files transcript) = Some files
 cube_of (orders.Advise files journal workload) = Some files

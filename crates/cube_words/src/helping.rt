@@ -38,7 +38,7 @@ fn usage(command: Command) -> &'static [u8]
         Command::Compact =>
             b"cube compact --dims FILE --facts FILE --policy FILE --journal FILE [--out FILE]\n    prints the journal written down as what it holds, or puts it into a file, whole\n",
         Command::Carry =>
-            b"cube carry --dims FILE --facts FILE --policy FILE --from-dims FILE --from-facts FILE --from-policy FILE --from-journal FILE\n    prints the journal of an older cube written down for one that continues it, with a month more for instance\n",
+            b"cube carry --dims FILE --facts FILE --policy FILE --from-dims FILE --from-facts FILE --from-policy FILE --from-journal FILE [--out FILE]\n    prints the journal of an older cube written down for one that continues it, with a month more for instance, or puts it into a file,\n    whole\n",
         Command::Why =>
             b"cube why --dims FILE --facts FILE --policy FILE --journal FILE --query QUERY [--reason FILE]\n    prints why a query is refused, for anybody to check, or says whether a file is such a reason\n",
         Command::Audit =>

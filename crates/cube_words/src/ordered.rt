@@ -71,11 +71,12 @@ pub enum Orders {
         journal: Text,
         out: Option<Text>,
     },
-    /// Write the journal of an older cube down for one that continues it.
+    /// Write the journal of an older cube down for one that continues it, into a file where one is named.
     Carry {
         files: CubeFiles,
         older: CubeFiles,
         journal: Text,
+        out: Option<Text>,
     },
     /// Say why a query is refused behind the history of the journal; or, where the file of a reason is named, whether that
     /// is one.
@@ -139,7 +140,7 @@ impl Orders {
         ensures { option_copied result ≡ out_of self.now }
     {
         match self {
-            Orders::Compact { out, .. } => out.as_ref(),
+            Orders::Compact { out, .. } | Orders::Carry { out, .. } => out.as_ref(),
             _ => None,
         }
     }
@@ -390,6 +391,7 @@ fn carry_with(alloc: Global, words: &[Text]) -> Result<Orders, NoMemory>
         files: files_of(alloc, words, command)?,
         older: older_files_of(alloc, words, command)?,
         journal: needed_text(alloc, words, command, Setting::FromJournal)?,
+        out: given_text(alloc, words, Setting::Out)?,
     })
 }
 

@@ -293,6 +293,7 @@ impl Command {
                 Setting::FromFacts,
                 Setting::FromPolicy,
                 Setting::FromJournal,
+                Setting::Out,
             ],
             Command::Why => &[
                 Setting::Dims,

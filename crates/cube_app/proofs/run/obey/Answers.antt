@@ -181,7 +181,7 @@ returns-in-Compact g c =
 pub returns-in-Carry : goal.returns-in-Carry
 returns-in-Carry g c =
     let x = c.carry_over.ensures in
-    obeyed_as c.args.orders (orders.Carry c.in-Carry.cube c.in-Carry.older c.in-Carry.journal) c.in-Carry.is (record {
+    obeyed_as c.args.orders (orders.Carry c.in-Carry.cube c.in-Carry.older c.in-Carry.journal c.in-Carry._out) c.in-Carry.is (record {
       does = record { answers = x.answers; named_journal = x.names; few_calls = x.calls; complete = x.complete };
       leaves = (refl, refl, x.outcomes);
       causes = record {
