@@ -20,21 +20,26 @@ use cube_edge::{
     EitherSink, FileFolder, FileStore, MachineDisk, MarkingSink, NoWatch, OutFile, ReaderSource,
     SocketWire, TcpSockets, TypedSource, WriterSink, hold_streams,
 };
-use cube_io::Folder;
+use cube_io::{Failed, Folder};
 use cube_model::{Items, NoMemory, Text, Texts};
 use cube_opening::Report;
 use cube_words::{Orders, orders_of};
 use noting::note;
 use run::run;
-use std::alloc::Global;
+use std::alloc::{AllocError, Global};
 use std::cell::Cell;
 use std::env::{Env, FillError};
-use std::io;
-use std::io::{IsTerminal, Write};
+use std::fs::{File, Metadata, TryLockError};
+use std::io::{IsTerminal, Read, Write};
+use std::os::unix::fs::MetadataExt;
 use std::process::ExitCode;
+use std::{fs, io, str};
 
 // A word of a command line has fewer bytes than this.
 const MAX_WORD: usize = 131_072;
+
+// The first line of a journal has fewer bytes than this.
+const FIRST_LINE: usize = 128;
 
 // The words behind the program's name, of any bytes.
 fn words_of(rt: &HostRuntime) -> Option<Texts> {
@@ -71,6 +76,103 @@ fn out_named(alloc: Global, words: &[Text]) -> Result<Option<Text>, NoMemory>
         return Ok(None);
     };
     out_of(alloc, &orders)
+}
+
+// The journal whose history is to go on in another file, by its name.
+fn carried_on(orders: &Orders) -> Option<&str> {
+    match orders {
+        Orders::Carry { journal, .. }
+        | Orders::Compact {
+            journal,
+            out: Some(_),
+            ..
+        } => str::from_utf8(journal.as_slice()).ok(),
+        _ => None,
+    }
+}
+
+// The disk of an output. What is compacted takes the seal of its journal along.
+fn disk_for_output<'a>(
+    rt: &'a HostRuntime,
+    orders: Option<&Orders>,
+) -> Result<MachineDisk<'a, HostRuntime>, AllocError> {
+    let disk = MachineDisk::for_outputs(rt);
+    match orders {
+        Some(Orders::Compact { journal, .. }) => match str::from_utf8(journal.as_slice()) {
+            Ok(journal) => disk.sealed_as(journal),
+            Err(_) => Ok(disk),
+        },
+        _ => Ok(disk),
+    }
+}
+
+// Whether a path is that of the other file.
+fn is_same(rt: &HostRuntime, there: &Metadata, other: &str) -> bool {
+    match fs::metadata(rt, other) {
+        Ok(other) => there.dev() == other.dev() && there.ino() == other.ino(),
+        Err(_) => false,
+    }
+}
+
+// Locks the file that the output takes the place of, where one is there that isn't the journal itself: no program goes on
+// with what is no longer behind its name. Fails where another program has it.
+fn lock_output(rt: &HostRuntime, path: &str, journal: &str) -> Result<Option<File>, Failed> {
+    let Ok(there) = fs::metadata(rt, path) else {
+        return Ok(None);
+    };
+    if !there.is_file() || is_same(rt, &there, journal) {
+        return Ok(None);
+    }
+    let Ok(file) = File::open(rt, path) else {
+        return Ok(None);
+    };
+    match file.try_lock() {
+        Ok(()) => Ok(Some(file)),
+        Err(TryLockError::WouldBlock) => Err(Failed),
+        Err(TryLockError::Error(_)) => Ok(None),
+    }
+}
+
+// Whether a file is there and begins with a whole line, as each journal does that was begun.
+fn is_begun(rt: &HostRuntime, path: &str) -> bool {
+    let mut line = [0u8; FIRST_LINE];
+    let Ok(mut file) = File::open(rt, path) else {
+        return false;
+    };
+    match file.read(&mut line) {
+        Ok(count) => line[..count.min(FIRST_LINE)].contains(&b'\n'),
+        Err(_) => false,
+    }
+}
+
+// Says of a journal why nothing goes on from it into another file, and gives the status.
+fn refuse(rt: &HostRuntime, path: &str, why: &str) -> ExitCode {
+    let _ = writeln!(rt.stderr(), "{path}: {why}\nstore failed");
+    ExitCode::from(9)
+}
+
+// What is held while a history goes on in another file: the lock of what stands there. Refuses a journal that was never begun,
+// since what would go on from it is an empty history, and a file that another program has.
+fn hold_output(rt: &HostRuntime, orders: Option<&Orders>) -> Result<Option<File>, ExitCode> {
+    let Some(orders) = orders else {
+        return Ok(None);
+    };
+    let Some(journal) = carried_on(orders) else {
+        return Ok(None);
+    };
+    if !is_begun(rt, journal) {
+        return Err(refuse(rt, journal, "missing or empty"));
+    }
+    let Some(path) = orders.out() else {
+        return Ok(None);
+    };
+    let Ok(path) = str::from_utf8(path.as_slice()) else {
+        return Ok(None);
+    };
+    match lock_output(rt, path, journal) {
+        Ok(held) => Ok(held),
+        Err(Failed) => Err(refuse(rt, path, "in use by another program")),
+    }
 }
 
 // Whether these words order lines to be answered as asks.
@@ -110,6 +212,14 @@ fn main(rt: HostRuntime) -> ExitCode {
     let Some(words) = words_of(&rt) else {
         return ExitCode::from(7);
     };
+    let orders = match orders_of(rt.alloc(), words.as_slice()) {
+        Ok(orders) => orders.ok(),
+        Err(_) => return ExitCode::from(7),
+    };
+    let held = match hold_output(&rt, orders.as_ref()) {
+        Ok(held) => held,
+        Err(status) => return status,
+    };
     let mut files = FileFolder::new(&rt, rt.stderr());
     let Ok(mut store) = FileStore::new(rt.alloc(), MachineDisk::new(&rt), rt.stderr()) else {
         return ExitCode::from(7);
@@ -122,7 +232,10 @@ fn main(rt: HostRuntime) -> ExitCode {
     let out = match named {
         None => EitherSink::First(WriterSink::new(io::writer(&rt))),
         Some(path) => {
-            match OutFile::new(rt.alloc(), MachineDisk::for_outputs(&rt), rt.stderr(), &path) {
+            let Ok(disk) = disk_for_output(&rt, orders.as_ref()) else {
+                return ExitCode::from(7);
+            };
+            match OutFile::new(rt.alloc(), disk, rt.stderr(), &path) {
                 Ok(file) => EitherSink::Second(file),
                 Err(_) => return ExitCode::from(7),
             }
@@ -146,6 +259,7 @@ fn main(rt: HostRuntime) -> ExitCode {
         &mut wire,
     );
     wire.settle();
+    drop(held);
     if let Some(noted) = note_on(rt.alloc(), words.as_slice(), &report, &mut files) {
         let _ = rt.stderr().write_all(noted.as_slice());
     }

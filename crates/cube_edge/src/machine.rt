@@ -10,9 +10,9 @@ use crate::out_file::ENDING;
 use crate::sink::write_some;
 use cube_io::{Failed, ReadFault};
 use cube_model::Text;
-use std::alloc::Global;
+use std::alloc::{AllocError, Global};
 use std::fs::{File, Metadata, OpenFile, OpenOptions, TryLockError};
-use std::io::{ErrorKind, Read, Seek, SeekFrom};
+use std::io::{ErrorKind, Read, Seek, SeekFrom, Write};
 use std::os::unix::fs::{MetadataExt, OpenOptionsExt};
 use std::rt::Files;
 use std::{fs, io};
@@ -26,6 +26,9 @@ const OWNER_ALONE: u32 = 0o600;
 /// What the name of a seal ends with.
 const SEAL: &str = ".seal";
 
+/// A seal has fewer bytes than this.
+const MAX_SEAL: usize = 128;
+
 /// The files of the machine. It tells nothing of them. A file that it makes is its owner's alone. No file is worked on that
 /// has two names, or by a symbolic link; but the name that `attach` takes may lead over some, and then the files lie where it
 /// leads. Of one for outputs each file is to take the place of another, and is made anew.
@@ -35,6 +38,8 @@ pub struct MachineDisk<'a, R: Files<File = File> + AllocGlobal> {
     // None where there was no memory for them.
     names: Option<Names>,
     is_for_outputs: bool,
+    // The journal whose seal an output takes along.
+    sealed_as: Option<String>,
 }
 
 impl<'a, R: Files<File = File> + AllocGlobal> MachineDisk<'a, R> {
@@ -45,6 +50,7 @@ impl<'a, R: Files<File = File> + AllocGlobal> MachineDisk<'a, R> {
             rt,
             names: None,
             is_for_outputs: false,
+            sealed_as: None,
         }
     }
 
@@ -57,7 +63,20 @@ impl<'a, R: Files<File = File> + AllocGlobal> MachineDisk<'a, R> {
             rt,
             names: None,
             is_for_outputs: true,
+            sealed_as: None,
         }
+    }
+
+    /// The same, where what is put goes on from a journal: before a file takes the place of another, the seal of that journal
+    /// stands beside it too.
+    pub fn sealed_as(self, journal: &str) -> Result<Self, AllocError>
+        ensures told { IfOk result (λ disk. (⟦<MachineDisk<'a, R> as Disk>⟧.state disk).told ≡ false) }
+    {
+        let journal = String::from_str(self.rt.alloc(), journal)?;
+        Ok(MachineDisk {
+            sealed_as: Some(journal),
+            ..self
+        })
     }
 
     /// Takes the name that files begin with.
@@ -183,6 +202,33 @@ fn clear<R: Files<File = File>>(rt: &R, path: &str) -> Result<(), Trouble> {
     let file = open(rt, path)?;
     lock(&file)?;
     Ok(fs::remove_file(rt, path)?)
+}
+
+/// Puts the seal of a journal beside an output, whole, if the output isn't the journal itself.
+fn bring_seal<R: Files<File = File> + AllocGlobal>(
+    rt: &R,
+    journal: &str,
+    output: &str,
+) -> Result<(), Trouble> {
+    let real = fs::canonicalize(rt, journal)?;
+    if real.as_path().as_str() == output {
+        return Ok(());
+    }
+    let from = format!(in rt.alloc(); "{}{SEAL}", real.as_path().as_str())?;
+    let to = format!(in rt.alloc(); "{output}{SEAL}")?;
+    let beside = format!(in rt.alloc(); "{to}{ENDING}")?;
+    let mut seal = [0u8; MAX_SEAL];
+    let count = File::open(rt, &from)?.read(&mut seal)?;
+    clear(rt, &beside)?;
+    write_all(make(rt, &beside)?, &seal[..count.min(MAX_SEAL)])?;
+    fs::rename(rt, &beside, &to)?;
+    Ok(sync_folder(rt, &to)?)
+}
+
+/// Writes bytes to a file, and puts them on the disk.
+fn write_all(mut file: File, bytes: &[u8]) -> io::Result<()> {
+    file.write_all(bytes)?;
+    file.sync_all()
 }
 
 /// Locks a file until it is closed, however the program ends.
@@ -328,6 +374,9 @@ impl<R: Files<File = File> + AllocGlobal> Disk for MachineDisk<'_, R> {
             return Err(Trouble::NoFile);
         }
         names.turn_to(from)?;
+        if let Some(journal) = &self.sealed_as {
+            bring_seal(self.rt, journal, names.real())?;
+        }
         fs::rename(self.rt, names.real_path(), names.real())?;
         Ok(sync_folder(self.rt, names.real())?)
     }
