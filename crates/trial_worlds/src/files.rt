@@ -8,8 +8,15 @@ use cube_model::Text;
 use std::alloc::Global;
 use std::test::Fail;
 
-// A store over a disk with an empty file of the name `log`, which writes at most three bytes at once. The call of the disk
-// with this number fails.
+// A disk with an empty file of the name `log`, which writes at most three bytes at once. The call of the disk with this
+// number fails.
+fn make_disk(alloc: Global, failing: u64) -> Result<MemDisk, Fail> {
+    let name = Text::from_bytes(alloc, b"log")?;
+    let beside = Text::from_bytes(alloc, b"beside")?;
+    Ok(MemDisk::new(alloc, name, beside, 3, vec![in alloc; failing]?))
+}
+
+// A store over such a disk.
 fn make_store<'a>(
     alloc: Global,
     failing: u64,
@@ -17,12 +24,8 @@ fn make_store<'a>(
 ) -> Result<FileStore<MemDisk, &'a mut [u8]>, Fail>
     ensures { IfOk result (λ store. IsTrue (⟦<FileStore<MemDisk, &'a mut [u8]> as Store>⟧.state store).attached) }
 {
-    let name = Text::from_bytes(alloc, b"log")?;
-    let beside = Text::from_bytes(alloc, b"beside")?;
-    let failing = vec![in alloc; failing]?;
-    let disk = MemDisk::new(alloc, Text::from_bytes(alloc, b"log")?, beside, 3, failing);
-    let mut store = FileStore::new(alloc, disk, notes)?;
-    store.attach(&name)?;
+    let mut store = FileStore::new(alloc, make_disk(alloc, failing)?, notes)?;
+    store.attach(&Text::from_bytes(alloc, b"log")?)?;
     Ok(store)
 }
 
@@ -93,18 +96,35 @@ fn cut_behind<S: Store>(store: &mut S, alloc: Global, len: usize) -> bool
     }
 }
 
+// Whether a store takes another name, and then its own again.
+fn try_names<S: Store>(store: &mut S, alloc: Global) -> Result<(bool, bool), Fail>
+    ensures { IfOk result (λ took. IsTrue took.1 → IsTrue (S.state store.new).attached) }
+{
+    let other = store.attach(&Text::from_bytes(alloc, b"other")?).is_ok();
+    let own = store.attach(&Text::from_bytes(alloc, b"log")?).is_ok();
+    Ok((other, own))
+}
+
+// How a cut that fails and one that goes well leave a log, and whether they went well.
+fn try_cuts<S: Store>(store: &mut S, alloc: Global) -> (bool, bool, bool)
+    requires { IsTrue (S.state store.old).attached }
+    ensures { IsTrue (S.state store.new).attached }
+{
+    let kept = store.append(0, b"keptor").is_ok();
+    let first = cut_behind(store, alloc, 4);
+    let next = cut_behind(store, alloc, 4);
+    (kept, first, next)
+}
+
 #[test]
 fn a_log_is_cut_and_opened_again(rt: HostRuntime) -> Result<(), Fail> {
-    let alloc = rt.alloc();
     let mut notes = [0u8; 64];
     // The append is six calls, the read two, and of the cut the look is one.
-    let mut store = make_store(alloc, 10, &mut notes)?;
-    assert!(rt; store.append(0, b"keptor").is_ok());
-    assert!(rt; !cut_behind(&mut store, alloc, 4));
-    assert!(rt; cut_behind(&mut store, alloc, 4));
-    assert!(rt; store.attach(&Text::from_bytes(alloc, b"other")?).is_err());
-    assert!(rt; store.attach(&Text::from_bytes(alloc, b"log")?).is_ok());
-    assert_eq!(rt; store.read_all(alloc, 0)?.as_slice(), b"kept".as_slice());
+    let mut store = make_store(rt.alloc(), 10, &mut notes)?;
+    assert_eq!(rt; try_cuts(&mut store, rt.alloc()), (true, false, true));
+    assert_eq!(rt; try_names(&mut store, rt.alloc())?, (false, true));
+    let kept = store.read_all(rt.alloc(), 0)?;
+    assert_eq!(rt; kept.as_slice(), b"kept".as_slice());
     drop(store);
     assert!(rt; notes.starts_with(b"log: new\nlog: no storage space\nlog: new\nlog: new\n\0"));
     Ok(())

@@ -1,16 +1,12 @@
 //! Trials of what lies outside the program: stores in memory whose calls fail, outputs into files, the seals that stand in them, a wire over sockets
-//! in memory, and the streams, files and connections of the machine.
+//! in memory, and readers and writers. The files and connections of the machine are tried with the program as it is built, by the scripts of `examples/`.
 //!
 //! There is nothing here but tests, each of something that no clause of the crates below says, and a disk in memory on which some stand.
 #![tactic(auto)]
 
-#[cfg(test)]
-mod connections;
 mod file_pair;
 #[cfg(test)]
 mod files;
-#[cfg(test)]
-mod machine;
 mod mem_disk;
 mod mem_log;
 #[cfg(test)]
@@ -21,5 +17,7 @@ mod memory;
 mod outputs;
 #[cfg(test)]
 mod seals;
+#[cfg(test)]
+mod streams;
 #[cfg(test)]
 mod wires;

@@ -1,10 +1,9 @@
-// Outputs that are put whole into a file, over a disk in memory whose calls fail and over the machine's, and one of two sinks.
+// Outputs that are put whole into a file, over a disk in memory whose calls fail, and one of two sinks.
 use crate::mem_disk::MemDisk;
-use cube_edge::{EitherSink, MachineDisk, OutFile, replace_whole};
+use cube_edge::{EitherSink, OutFile, replace_whole};
 use cube_io::{MemSink, Sink};
 use cube_model::Text;
 use std::alloc::Global;
-use std::fs;
 use std::test::Fail;
 
 // A disk with two empty files, `out` and `out.new`, which writes at most three bytes at once. The call with this number
@@ -15,58 +14,88 @@ fn make_disk(alloc: Global, failing: u64) -> Result<MemDisk, Fail> {
     Ok(MemDisk::new(alloc, name, beside, 3, vec![in alloc; failing]?))
 }
 
-// Puts bytes in the place of those of the file, and tells whether that went well and what stands there then.
-fn replace(alloc: Global, disk: &mut MemDisk, bytes: &[u8]) -> Result<(bool, Text), Fail> {
+// Whether a call went well, and what the file holds then.
+type Went = (bool, Text);
+
+// Whether a call went so, and left the file with these bytes.
+fn is(went: &Went, done: bool, holds: &[u8]) -> bool {
+    went.0 == done && went.1.as_slice() == holds
+}
+
+// Puts bytes in the place of those of the file.
+fn replace(alloc: Global, disk: &mut MemDisk, bytes: &[u8]) -> Result<Went, Fail> {
     let done = replace_whole(disk, "out", "out.new", bytes).is_ok();
     let holds = disk.bytes_at(b"out").unwrap_or(&[]);
     Ok((done, Text::from_bytes(alloc, holds)?))
 }
 
+// Puts bytes in the place of those of the file, and then others, where one call of the disk fails.
+fn replace_twice(
+    alloc: Global,
+    failing: u64,
+    first: &[u8],
+    next: &[u8],
+) -> Result<(Went, Went), Fail> {
+    let mut disk = make_disk(alloc, failing)?;
+    let first = replace(alloc, &mut disk, first)?;
+    let next = replace(alloc, &mut disk, next)?;
+    Ok((first, next))
+}
+
 #[test]
 fn a_file_is_the_old_one_or_the_new(rt: HostRuntime) -> Result<(), Fail> {
-    let alloc = rt.alloc();
     // The first takes eleven calls, and the next one more, since it writes twice. Behind call 21 the file has its place.
     for failing in 11u64..24 {
-        let mut disk = make_disk(alloc, failing)?;
-        let first = replace(alloc, &mut disk, b"old")?;
-        assert!(rt; first.0);
-        assert_eq!(rt; first.1.as_slice(), b"old".as_slice());
-        let next = replace(alloc, &mut disk, b"newer")?;
+        let (first, next) = replace_twice(rt.alloc(), failing, b"old", b"newer")?;
         let wanted: &[u8] = if failing < 22 { b"old" } else { b"newer" };
-        assert_eq!(rt; next.0, failing == 23);
-        assert_eq!(rt; next.1.as_slice(), wanted);
+        assert!(rt; is(&first, true, b"old"));
+        assert!(rt; is(&next, failing == 23, wanted));
     }
     Ok(())
 }
 
 #[test]
 fn what_a_failed_call_left_beside_is_no_part_of_the_next(rt: HostRuntime) -> Result<(), Fail> {
-    let alloc = rt.alloc();
     // The first fails at its second write, or before the file has its place.
     for failing in 7u64..11 {
-        let mut disk = make_disk(alloc, failing)?;
-        let first = replace(alloc, &mut disk, b"longer")?;
-        assert!(rt; !first.0);
-        assert_eq!(rt; first.1.as_slice(), b"".as_slice());
-        let next = replace(alloc, &mut disk, b"new")?;
-        assert!(rt; next.0);
-        assert_eq!(rt; next.1.as_slice(), b"new".as_slice());
+        let (first, next) = replace_twice(rt.alloc(), failing, b"longer", b"new")?;
+        assert!(rt; is(&first, false, b""));
+        assert!(rt; is(&next, true, b"new"));
     }
     Ok(())
 }
 
+// An output into the file of such a disk.
+fn make_out<'a>(
+    alloc: Global,
+    failing: u64,
+    notes: &'a mut [u8],
+) -> Result<OutFile<MemDisk, &'a mut [u8]>, Fail> {
+    let path = Text::from_bytes(alloc, b"out")?;
+    Ok(OutFile::new(alloc, make_disk(alloc, failing)?, notes, &path)?)
+}
+
+// Puts a piece at the end of what was put.
+fn put(alloc: Global, out: &mut OutFile<MemDisk, &mut [u8]>, piece: &[u8]) -> Result<Went, Fail> {
+    let done = out.put(piece).is_ok();
+    let holds = out.disk().bytes_at(b"out").unwrap_or(&[]);
+    Ok((done, Text::from_bytes(alloc, holds)?))
+}
+
 #[test]
 fn each_put_leaves_all_that_was_put(rt: HostRuntime) -> Result<(), Fail> {
-    let alloc = rt.alloc();
     let mut notes = [0u8; 64];
-    let path = Text::from_bytes(alloc, b"out")?;
-    let mut out = OutFile::new(alloc, make_disk(alloc, 64)?, notes.as_mut_slice(), &path)?;
-    assert!(rt; out.put(b"one\n").is_ok());
-    assert_eq!(rt; out.disk().bytes_at(b"out"), Some(b"one\n".as_slice()));
-    assert!(rt; out.put(b"").is_ok());
-    assert!(rt; out.put(b"two\n").is_ok());
-    assert_eq!(rt; out.bytes(), b"one\ntwo\n".as_slice());
-    assert_eq!(rt; out.disk().bytes_at(b"out"), Some(b"one\ntwo\n".as_slice()));
+    let mut out = make_out(rt.alloc(), 64, &mut notes)?;
+    let cases: &[(&[u8], &[u8]); 3] = &[
+        (b"one\n", b"one\n"),
+        (b"", b"one\n"),
+        (b"two\n", b"one\ntwo\n"),
+    ];
+    for (piece, holds) in cases {
+        let went = put(rt.alloc(), &mut out, piece)?;
+        assert!(rt; is(&went, true, holds));
+        assert_eq!(rt; out.bytes(), *holds);
+    }
     drop(out);
     assert!(rt; notes.starts_with(b"\0"));
     Ok(())
@@ -74,45 +103,15 @@ fn each_put_leaves_all_that_was_put(rt: HostRuntime) -> Result<(), Fail> {
 
 #[test]
 fn behind_a_failed_put_each_fails(rt: HostRuntime) -> Result<(), Fail> {
-    let alloc = rt.alloc();
     let mut notes = [0u8; 64];
-    let path = Text::from_bytes(alloc, b"out")?;
-    let mut out = OutFile::new(alloc, make_disk(alloc, 1)?, notes.as_mut_slice(), &path)?;
-    assert!(rt; out.put(b"one\n").is_err());
-    assert!(rt; out.put(b"two\n").is_err());
-    assert!(rt; out.put(b"").is_ok());
-    assert_eq!(rt; out.disk().bytes_at(b"out"), Some(b"".as_slice()));
+    let mut out = make_out(rt.alloc(), 1, &mut notes)?;
+    let cases: &[(&[u8], bool); 3] = &[(b"one\n", false), (b"two\n", false), (b"", true)];
+    for (piece, done) in cases {
+        let went = put(rt.alloc(), &mut out, piece)?;
+        assert!(rt; is(&went, *done, b""));
+    }
     drop(out);
     assert!(rt; notes.starts_with(b"out: in use by another program\n\0"));
-    Ok(())
-}
-
-// Whether a first put into the machine's file of a path goes well.
-fn puts(rt: &HostRuntime, path: &[u8], piece: &[u8]) -> Result<bool, Fail> {
-    let alloc = rt.alloc();
-    let path = Text::from_bytes(alloc, path)?;
-    let mut out = OutFile::new(alloc, MachineDisk::new(rt), rt.stderr(), &path)?;
-    Ok(out.put(piece).is_ok())
-}
-
-#[test]
-fn a_file_of_the_machine_is_replaced(rt: HostRuntime) -> Result<(), Fail> {
-    fs::write(&rt, "replaced.out.new", b"left here by another run")?;
-    assert!(rt; puts(&rt, b"replaced.out", b"first")?);
-    assert!(rt; puts(&rt, b"replaced.out", b"next")?);
-    let bytes = fs::read(&rt, "replaced.out")?;
-    assert_eq!(rt; bytes.as_slice(), b"next".as_slice());
-    assert!(rt; fs::metadata(&rt, "replaced.out.new").is_err());
-    fs::remove_file(&rt, "replaced.out")?;
-    Ok(())
-}
-
-#[test]
-fn a_path_that_is_no_path_takes_nothing(rt: HostRuntime) -> Result<(), Fail> {
-    assert!(rt; !puts(&rt, b"\xFF", b"a")?);
-    assert!(rt; !puts(&rt, &[b'a'; 4_093], b"a")?);
-    assert!(rt; puts(&rt, &[b'a'; 4_093], b"")?);
-    assert!(rt; !puts(&rt, b"no/such/folder", b"a")?);
     Ok(())
 }
 

@@ -58,21 +58,25 @@ fn seals_are_written_and_compared(rt: HostRuntime) -> Result<(), Fail> {
     Ok(())
 }
 
+type Held = Result<(), SealFault>;
+
+// Holds the seal of the fact file `abc` twice, where the call of the store with this number fails, and tells what the log
+// has then.
+fn hold_twice(alloc: Global, call: u64) -> Result<((Held, Held), Text), Fail> {
+    let reach = Reach::Part(7);
+    let mut store = store_of(alloc, b"facts ba", vec![in alloc; Failing { call, reach }]?)?;
+    let facts = digest_of(b"abc");
+    let first = hold_seal(alloc, &mut store, &facts);
+    let next = hold_seal(alloc, &mut store, &facts);
+    Ok(((first, next), store.read_all(alloc, SEAL_LOG)?))
+}
+
 #[test]
 fn a_call_that_fails_is_made_up_for(rt: HostRuntime) -> Result<(), Fail> {
-    let alloc = rt.alloc();
-    let facts = digest_of(b"abc");
     // The store takes two calls before, and the seal four: a read, a cut, an append and a sync.
     for call in 2..6 {
-        let reach = Reach::Part(7);
-        let failing = vec![in alloc; Failing { call, reach }]?;
-        let mut store = store_of(alloc, b"facts ba", failing)?;
-        assert_eq!(rt;
-            hold_seal(alloc, &mut store, &facts),
-            Err(SealFault::Failed)
-        );
-        assert_eq!(rt; hold_seal(alloc, &mut store, &facts), Ok(()));
-        let bytes = store.read_all(alloc, SEAL_LOG)?;
+        let (held, bytes) = hold_twice(rt.alloc(), call)?;
+        assert_eq!(rt; held, (Err(SealFault::Failed), Ok(())));
         assert_eq!(rt; bytes.as_slice(), SEALED);
     }
     Ok(())

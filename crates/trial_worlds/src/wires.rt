@@ -38,14 +38,21 @@ fn answer(wire: &mut TrialWire, buf: &mut [u8]) -> Result<(), Fail>
     Ok(())
 }
 
-#[test]
-fn a_log_has_what_the_sockets_tell(rt: HostRuntime) -> Result<(), Fail> {
-    let mut wire = make_wire(rt.alloc())?;
+// A wire that was answered so, and what it had given before it looked for an event again.
+fn make_answered(alloc: Global) -> Result<(TrialWire, Text), Fail> {
+    let mut wire = make_wire(alloc)?;
     let mut buf = [0u8; 65_536];
     answer(&mut wire, &mut buf)?;
-    // What was sent waits for the next look for an event.
-    assert_eq!(rt; wire.sockets().given(), b"".as_slice());
+    let given = Text::from_bytes(alloc, wire.sockets().given())?;
     wire.settle();
+    Ok((wire, given))
+}
+
+#[test]
+fn a_log_has_what_the_sockets_tell(rt: HostRuntime) -> Result<(), Fail> {
+    let (wire, before) = make_answered(rt.alloc())?;
+    // What was sent waits for the next look for an event.
+    assert_eq!(rt; before.as_slice(), b"".as_slice());
     assert_eq!(rt; wire.sockets().given(), b"hello".as_slice());
     let scroll = wire.watch().scroll();
     let log: &[(Note, &[u8]); 4] = &[
@@ -58,8 +65,7 @@ fn a_log_has_what_the_sockets_tell(rt: HostRuntime) -> Result<(), Fail> {
     for (place, entry) in log.iter().enumerate() {
         if place < scroll.len() {
             let (note, bytes) = scroll.entry(place);
-            assert_eq!(rt; note, entry.0);
-            assert_eq!(rt; bytes, entry.1);
+            assert_eq!(rt; (note, bytes), *entry);
         }
     }
     Ok(())
