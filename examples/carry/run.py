@@ -112,6 +112,26 @@ def a_month_more(case):
     return "pay by area becomes area and month where a month is added, and pay by city is refused behind it; pay by city is not carried"
 
 
+def into_a_file(case):
+    old, new = case.cube(pay(MONTHS[:2])), case.cube(pay(MONTHS[:3]))
+    old.ask("journal", BY_AREA)
+    out, journal = new.path("journal"), old.path("journal")
+    for begun in (None, "what stood there\n"):
+        if begun:
+            out.write_text(begun)
+        status, written, said = new.ends("carry", *old.files("from-"), "--from-journal", journal, "--out", out)
+        check((status, written, out.read_text()) == (0, "", new.text("s 0 1 0")), f"{status} {written!r} {said}")
+    old.ask("told", BY_CITY)
+    before = sorted(new.path("").iterdir())
+    for name, status in (("told", 3), ("typo", 9)):
+        ended = new.ends("carry", *old.files("from-"), "--from-journal", old.path(name), "--out", out)
+        check(ended[:2] == (status, "") and out.read_text() == new.text("s 0 1 0"), f"{name}: {ended}")
+    check(not old.path("typo").exists() and sorted(new.path("").iterdir()) == before, "something was made")
+    status, written, said = new.ends("carry", *old.files("from-"), "--from-journal", old.path("typo"))
+    check((status, written) == (9, "") and said.endswith("typo: missing or empty\nstore failed\n"), f"{status} {said}")
+    return "--out has the carried journal whole, or what stood there; a journal that was never begun is not carried"
+
+
 def a_quarter_ends(case):
     old, new = case.cube(pay(MONTHS[:3])), case.cube(pay(MONTHS))
     old.ask("journal", BY_AREA_AND_QUARTER)
@@ -349,7 +369,7 @@ def lives_at_random(case, rounds=40):
     return f"{kept} pairs of cubes at random are carried over, {stopped} are not; {cells} cells are hidden by both lives"
 
 
-ACTS = (a_month_more, a_quarter_ends, another_order, what_does_not_continue, late_facts, links_that_fix, nothing_told, bad_files, two_lives_of_pay, lives_at_random)
+ACTS = (a_month_more, into_a_file, a_quarter_ends, another_order, what_does_not_continue, late_facts, links_that_fix, nothing_told, bad_files, two_lives_of_pay, lives_at_random)
 
 
 def main():

@@ -5,6 +5,7 @@ Each row says what was compacted and what came of it; the first in which somethi
 status 1. Needs Python 3 alone. The program is the environment's CUBE.
 """
 
+import fcntl
 import os
 import pathlib
 import subprocess
@@ -151,8 +152,51 @@ def behind_a_link(folder):
     facts = PAY["facts"].replace("Lyon,Jan,10,1", "Lyon,Jan,11,1")
     cube.path("corrected").write_text(facts)
     status, written, said = cube.ends("ask", "--journal", cube.path("link"), given=f"{MONTHS}\n", facts="corrected")
-    check((status, written) == (4, "") and "journal: facts " in said, f"corrected facts: {status} {said}")
+    check((status, written) == (4, "") and "journal: values " in said, f"corrected facts: {status} {said}")
     return "behind a link the journal itself is replaced, and keeps its seal"
+
+
+def never_begun(folder):
+    cube = Cube(folder, "never", PAY)
+    cube.ask("pay", MONTHS)
+    kept = cube.path("pay").read_text()
+    cube.path("empty").write_text("")
+    cube.path("half").write_text(f"cube-journal 1 {cube.digest}")
+    before = sorted(os.listdir(cube.folder))
+    for name in ("typo", "empty", "half"):
+        status, written, said = cube.ends("compact", "--journal", name, "--out", "pay", cwd=cube.folder)
+        check((status, written, said) == (9, "", f"{name}: missing or empty\nstore failed\n"), f"{name}: {status} {said}")
+        check(sorted(os.listdir(cube.folder)) == before and cube.path("pay").read_text() == kept, f"{name}: something was made or changed")
+    return "a journal that was never begun takes the place of none"
+
+
+def in_use(folder):
+    cube = Cube(folder, "in_use", PAY)
+    cube.ask("pay", MONTHS)
+    cube.ask("other", "cell pay")
+    kept = cube.path("other").read_text()
+    with open(cube.path("other")) as other:
+        fcntl.flock(other, fcntl.LOCK_EX)
+        status, written, said = cube.ends("compact", "--journal", "pay", "--out", "other", cwd=cube.folder)
+    check((status, written, said) == (9, "", "other: in use by another program\nstore failed\n"), f"{status} {said}")
+    check(cube.path("other").read_text() == kept and not cube.path("other.new").exists(), "a journal in use was replaced")
+    return "a journal that another program has is not replaced"
+
+
+def sealed(folder):
+    cube = Cube(folder, "sealed", PAY)
+    cube.ask("pay", MONTHS)
+    cube.ask("other", "cell pay")
+    cube.path("other.seal").write_text("what stood there")
+    for name in ("new", "other"):
+        cube.run("compact", "--journal", cube.path("pay"), "--out", cube.path(name))
+        check(cube.path(f"{name}.seal").read_bytes() == cube.path("pay.seal").read_bytes(), f"{name} has another seal")
+        check(cube.path(f"{name}.seal").stat().st_mode & 0o777 == 0o600, "others may read the new seal")
+        check(not cube.path(f"{name}.seal.new").exists(), "the file beside the seal is still there")
+    cube.path("corrected").write_text(PAY["facts"].replace("Lyon,Jan,10,1", "Lyon,Jan,11,1"))
+    status, written, said = cube.ends("ask", "--journal", cube.path("new"), given=f"{MONTHS}\n", facts="corrected")
+    check((status, written) == (4, "") and "journal: values " in said, f"corrected facts: {status} {said}")
+    return "under another name the new journal has the seal of the old one"
 
 
 def a_full_history(folder):
@@ -173,7 +217,7 @@ def main():
     build()
     with tempfile.TemporaryDirectory() as name:
         try:
-            for act in (a_source, links, nothing, in_place, beside, no_place, behind_a_link, a_full_history):
+            for act in (a_source, links, nothing, in_place, beside, no_place, behind_a_link, never_begun, in_use, sealed, a_full_history):
                 print(act(pathlib.Path(name)), flush=True)
         except (Wrong, OSError, subprocess.TimeoutExpired) as wrong:
             print(f"run.py: {wrong}", file=sys.stderr)

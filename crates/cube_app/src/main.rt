@@ -20,9 +20,8 @@ use cube_edge::{
     EitherSink, FileFolder, FileStore, MachineDisk, MarkingSink, NoWatch, OutFile, ReaderSource,
     SocketWire, TcpSockets, TypedSource, WriterSink, hold_streams,
 };
-use cube_io::{Failed, Folder};
+use cube_io::Failed;
 use cube_model::{Items, NoMemory, Text, Texts};
-use cube_opening::Report;
 use cube_words::{Orders, orders_of};
 use noting::note;
 use run::run;
@@ -30,7 +29,7 @@ use std::alloc::{AllocError, Global};
 use std::cell::Cell;
 use std::env::{Env, FillError};
 use std::fs::{File, Metadata, TryLockError};
-use std::io::{IsTerminal, Read, Write};
+use std::io::{ErrorKind, IsTerminal, Read, Write};
 use std::os::unix::fs::MetadataExt;
 use std::process::ExitCode;
 use std::{fs, io, str};
@@ -133,8 +132,17 @@ fn lock_output(rt: &HostRuntime, path: &str, journal: &str) -> Result<Option<Fil
     }
 }
 
-// Whether a file is there and begins with a whole line, as each journal does that was begun.
+// Whether a file is there and begins with a whole line, as each journal does that was begun. What is no regular file, or
+// can't be looked at, is left to the run to refuse.
 fn is_begun(rt: &HostRuntime, path: &str) -> bool {
+    match fs::metadata(rt, path) {
+        Ok(there) if there.is_file() => has_line(rt, path),
+        Ok(_) => true,
+        Err(error) => error.kind() != ErrorKind::NotFound,
+    }
+}
+
+fn has_line(rt: &HostRuntime, path: &str) -> bool {
     let mut line = [0u8; FIRST_LINE];
     let Ok(mut file) = File::open(rt, path) else {
         return false;
@@ -181,17 +189,6 @@ fn asks(words: &[Text]) -> bool {
         [first, ..] => first.as_slice() == b"ask".as_slice(),
         [] => false,
     }
-}
-
-// The note beside the report of a run of these words.
-fn note_on<F: Folder>(
-    alloc: Global,
-    words: &[Text],
-    report: &Report,
-    files: &mut F,
-) -> Option<Text> {
-    let orders = orders_of(alloc, words).ok()?.ok()?;
-    note(alloc, &orders, report, files)
 }
 
 // What a person may want to know behind the text of a report.
@@ -260,7 +257,11 @@ fn main(rt: HostRuntime) -> ExitCode {
     );
     wire.settle();
     drop(held);
-    if let Some(noted) = note_on(rt.alloc(), words.as_slice(), &report, &mut files) {
+    let noted = match &orders {
+        Some(orders) => note(rt.alloc(), orders, &report, &mut files),
+        None => None,
+    };
+    if let Some(noted) = noted {
         let _ = rt.stderr().write_all(noted.as_slice());
     }
     let _ = rt.stderr().write_all(report.text.as_slice());
