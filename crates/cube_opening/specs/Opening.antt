@@ -12,7 +12,6 @@ use Rattle.cube_dims.specs.Words as dims
 use Rattle.cube_facts.specs.FactFile.{filled_of}
 use Rattle.cube_facts.specs.Flat.{Flat, flat_of}
 use Rattle.cube_facts.specs.Words as facts
-use Rattle.cube_journal.specs.Digests.{digest_of}
 use Rattle.cube_policy.specs.PolicyFile.{policy_of}
 use Rattle.cube_policy.specs.Words as policy
 use Rattle.cube_opening.specs.Reports.{IsReport, NoMessage}
@@ -117,10 +116,6 @@ pub record MakesCore (dims facts : List ℕ) (core : Core) (known : List (List �
   pub dims_are : FileSays dims_said dims known (Ok core.dims)
   pub facts_are : FileSays (facts_said core.dims) facts known (Ok core)
 
--- this is the digest of the fact file, where the folder tells it
-abbrev pub IsDigestOf : List ℕ → FolderState → List ℕ → Type 0
-IsDigestOf facts folder digest = IfSome folder.files (λ known. IsSomeAnd (file_of known facts) (λ bytes. digest ≡ digest_of bytes))
-
 -- How a run ends at the files of a core: at the dimension file, or at the fact file, by what that one says.
 abbrev pub EndsUnfounded : {F : Type 0} → List ℕ → List ℕ → Seen FolderState F → Report → Type 0
 EndsUnfounded dims facts folder r =
@@ -136,9 +131,6 @@ MakesAll cube core policy known = MakesCore cube.dims cube.facts core known × F
 -- the files make this core and this policy, where the folder tells them
 abbrev pub Make : CubeFiles → FolderState → Core → Policy → Type 0
 Make cube folder core policy = IfSome folder.files (MakesAll cube core policy)
-
-abbrev pub IsDigest : CubeFiles → FolderState → List ℕ → Type 0
-IsDigest cube folder digest = IsDigestOf cube.facts folder digest
 
 -- the names of the three files, in the turn in which they are read
 abbrev pub names_of : CubeFiles → List (List ℕ)

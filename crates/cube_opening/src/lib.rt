@@ -8,8 +8,6 @@ mod ruling;
 pub mod statuses;
 
 pub use cube_files::{CubeFiles, RuledFiles, Rules};
-pub use opening::{
-    Guarded, Opened, Unsealed, open_flat, open_guarded, open_unsealed, read_bytes, refuse,
-};
+pub use opening::{Guarded, Opened, open_flat, open_guarded, read_bytes, refuse};
 pub use report::{Message, Report, no_message, refuse_line, spent_message, with_text};
 pub use ruling::{Ruled, RuledGroup, RuledGroups, called, open_ruled};

@@ -1,5 +1,5 @@
 // The files of a command, read in turn.
-ghost use Rattle.std.specs.Prelude.{◌≡◌, ◌≢◌, ◌⊎◌, ◌≤◌, ◌∷◌, [], length, codes, is_some, Ok, Err, IfOk, IfErr, OnOk, IfSome};
+ghost use Rattle.std.specs.Prelude.{◌≡◌, ◌≢◌, ◌⊎◌, ◌≤◌, ◌∷◌, [], length, codes, Ok, Err, IfOk, IfErr, OnOk, IfSome};
 ghost use Rattle.cube_io.specs.Files.{max_file, file_of};
 ghost use Rattle.cube_io.specs.Seen.{seen};
 ghost use Rattle.cube_dims.specs.Words as dims_words;
@@ -10,8 +10,7 @@ ghost use Rattle.cube_policy.specs.Words as policy_words;
 ghost use Rattle.cube_policy.specs.declared.fault.PolicyFault.TheVariants as policy_faults;
 ghost use Rattle.cube_model.specs.Policies.{IsPolicy};
 ghost use Rattle.cube_opening.specs.Reports.{IsReport, NoMessage};
-ghost use Rattle.cube_journal.specs.Digests.{digest_of as digest_in};
-ghost use Rattle.cube_opening.specs.Opening.{fault_text, unreadable_text as unreadable_words, dims_said, facts_said, policy_said_as, flat_said, FileSays, Unread, AskedFor, AskedUpTo, EndsAt, GotBehind, Reads, MakesCore, IsDigestOf, EndsUnfounded, Make, IsDigest, EndsUnopened, names_of};
+ghost use Rattle.cube_opening.specs.Opening.{fault_text, unreadable_text as unreadable_words, dims_said, facts_said, policy_said_as, flat_said, FileSays, Unread, AskedFor, AskedUpTo, EndsAt, GotBehind, Reads, MakesCore, EndsUnfounded, Make, EndsUnopened, names_of};
 
 use crate::cube_files::CubeFiles;
 use crate::report::{Message, Report, no_message, with_text};
@@ -20,7 +19,6 @@ use cube_core::Core;
 use cube_dims::{DimsFault, read_dims};
 use cube_facts::{FactsFault, Flat, read_facts, read_flat};
 use cube_io::{Folder, ReadFault};
-use cube_journal::{Digest, digest_of};
 use cube_model::{Dims, NoMemory, Policy, Text};
 use cube_policy::{PolicyFault, read_policy};
 use std::alloc::Global;
@@ -50,40 +48,6 @@ pub struct Guarded {
     pub core: Core,
     /// How each measure is controlled, and what is protected.
     pub policy: Policy,
-    /// The digest of the fact file.
-    pub facts: Digest,
-}
-
-/// A core and the policy over it, where nobody asks for the digest of the fact file.
-#[derive(Drop)]
-pub struct Unsealed {
-    /// The core.
-    pub core: Core,
-    /// How each measure is controlled, and what is protected.
-    pub policy: Policy,
-}
-
-/// A core, and where it is asked for the digest of the fact file that it was made of.
-#[derive(Drop)]
-pub(crate) struct Founded {
-    pub(crate) core: Core,
-    pub(crate) facts: Option<Digest>,
-}
-
-// A core, a policy, and where it is asked for that digest.
-#[derive(Drop)]
-struct Parts {
-    core: Core,
-    policy: Policy,
-    facts: Option<Digest>,
-}
-
-// The digest of a fact file, where it is asked for: to take it costs a fifth of a load.
-fn digest_if(sealed: bool, bytes: &[u8]) -> Option<Digest>
-    ensures some { is_some result ≡ sealed }
-    ensures digest { IfSome result (λ digest. digest ≡ digest_in bytes.now) }
-{
-    if sealed { Some(digest_of(bytes)) } else { None }
 }
 
 /// Reads the bytes of a file of a kind, as `dims`, which is named where the file is too long.
@@ -247,14 +211,11 @@ fn open_facts<F: Folder>(
     message: Message,
     name: &Text,
     dims: Dims,
-    sealed: bool,
     files: &mut F,
-) -> Result<Opened<Founded>, Report>
+) -> Result<Opened<Core>, Report>
     requires { message ≡ [] }
-    ensures ok { IfOk result (λ opened. (opened.message ≡ []) × IfSome (F.state files.old).files (λ known. FileSays (facts_said dims) name.now known (Ok opened.value.core))) }
-    ensures dims { IfOk result (λ opened. opened.value.core.dims ≡ dims) }
-    ensures digest { IfOk result (λ opened. IfSome opened.value.facts (IsDigestOf name.now (F.state files.old))) }
-    ensures sealed { IfOk result (λ opened. is_some opened.value.facts ≡ sealed) }
+    ensures ok { IfOk result (λ opened. (opened.message ≡ []) × IfSome (F.state files.old).files (λ known. FileSays (facts_said dims) name.now known (Ok opened.value))) }
+    ensures dims { IfOk result (λ opened. opened.value.dims ≡ dims) }
     ensures err { IfErr result (EndsAt [] (facts_said dims) name.now (seen F.state files.old files.new)) }
     ensures asks { OnOk result (AskedFor (name.now ∷ []) (seen F.state files.old files.new)) }
     ensures reads { Reads (seen F.state files.old files.new) result }
@@ -263,19 +224,7 @@ fn open_facts<F: Folder>(
         Ok(opened) => opened,
         Err(report) => return Err(report),
     };
-    let facts = digest_if(sealed, opened.value.as_slice());
-    match make_core(alloc, opened.message, dims, opened.value.as_slice()) {
-        Ok(
-            Opened {
-                message,
-                value: core,
-            },
-        ) => Ok(Opened {
-            message,
-            value: Founded { core, facts },
-        }),
-        Err(report) => Err(report),
-    }
+    make_core(alloc, opened.message, dims, opened.value.as_slice())
 }
 
 /// Reads a flat fact file.
@@ -335,18 +284,15 @@ pub(crate) fn open_policy<F: Folder>(
 }
 
 /// Reads the dimension file and the fact file, in turn.
-pub(crate) fn open_founded<F: Folder>(
+pub(crate) fn open_core<F: Folder>(
     alloc: Global,
     message: Message,
     dims_name: &Text,
     facts_name: &Text,
-    sealed: bool,
     files: &mut F,
-) -> Result<Opened<Founded>, Report>
+) -> Result<Opened<Core>, Report>
     requires { message ≡ [] }
-    ensures ok { IfOk result (λ opened. (opened.message ≡ []) × IfSome (F.state files.old).files (MakesCore dims_name.now facts_name.now opened.value.core)) }
-    ensures digest { IfOk result (λ opened. IfSome opened.value.facts (IsDigestOf facts_name.now (F.state files.old))) }
-    ensures sealed { IfOk result (λ opened. is_some opened.value.facts ≡ sealed) }
+    ensures ok { IfOk result (λ opened. (opened.message ≡ []) × IfSome (F.state files.old).files (MakesCore dims_name.now facts_name.now opened.value)) }
     ensures err { IfErr result (EndsUnfounded dims_name.now facts_name.now (seen F.state files.old files.new)) }
     ensures behind { OnOk result (GotBehind (dims_name.now ∷ facts_name.now ∷ []) (seen F.state files.old files.new)) }
     ensures reads { Reads (seen F.state files.old files.new) result }
@@ -355,58 +301,10 @@ pub(crate) fn open_founded<F: Folder>(
         Ok(opened) => (opened.message, opened.value),
         Err(report) => return Err(report),
     };
-    open_facts(alloc, message, facts_name, dims, sealed, files)
+    open_facts(alloc, message, facts_name, dims, files)
 }
 
-// Reads the dimension file, the fact file and the policy file, in turn.
-fn open_parts<F: Folder>(
-    alloc: Global,
-    message: Message,
-    cube: &CubeFiles,
-    sealed: bool,
-    files: &mut F,
-) -> Result<Opened<Parts>, Report>
-    requires { message ≡ [] }
-    ensures ok { IfOk result (λ opened. (opened.message ≡ []) × Make cube.now (F.state files.old) opened.value.core opened.value.policy) }
-    ensures rules { IfOk result (λ opened. IsPolicy opened.value.core.dims opened.value.policy) }
-    ensures digest { IfOk result (λ opened. IfSome opened.value.facts (IsDigest cube.now (F.state files.old))) }
-    ensures sealed { IfOk result (λ opened. is_some opened.value.facts ≡ sealed) }
-    ensures err { IfErr result (EndsUnopened cube.now (seen F.state files.old files.new)) }
-    ensures behind { OnOk result (GotBehind (names_of cube.now) (seen F.state files.old files.new)) }
-    ensures reads { Reads (seen F.state files.old files.new) result }
-{
-    let (message, founded) = match open_founded(
-        alloc,
-        message,
-        &cube.dims,
-        &cube.facts,
-        sealed,
-        files,
-    ) {
-        Ok(opened) => (opened.message, opened.value),
-        Err(report) => return Err(report),
-    };
-    let Founded { core, facts } = founded;
-    let opened = open_policy(alloc, message, b"policy", &cube.policy, core.dims(), files);
-    match opened {
-        Ok(
-            Opened {
-                message,
-                value: policy,
-            },
-        ) => Ok(Opened {
-            message,
-            value: Parts {
-                core,
-                policy,
-                facts,
-            },
-        }),
-        Err(report) => Err(report),
-    }
-}
-
-/// Reads the dimension file, the fact file and the policy file, in turn, and takes the digest of the fact file.
+/// Reads the dimension file, the fact file and the policy file, in turn.
 pub fn open_guarded<F: Folder>(
     alloc: Global,
     message: Message,
@@ -416,56 +314,25 @@ pub fn open_guarded<F: Folder>(
     requires { message ≡ [] }
     ensures ok { IfOk result (λ opened. (opened.message ≡ []) × Make cube.now (F.state files.old) opened.value.core opened.value.policy) }
     ensures rules { IfOk result (λ opened. IsPolicy opened.value.core.dims opened.value.policy) }
-    ensures digest { IfOk result (λ opened. IsDigest cube.now (F.state files.old) opened.value.facts) }
     ensures err { IfErr result (EndsUnopened cube.now (seen F.state files.old files.new)) }
     ensures behind { OnOk result (GotBehind (names_of cube.now) (seen F.state files.old files.new)) }
     ensures reads { Reads (seen F.state files.old files.new) result }
 {
-    let (message, parts) = match open_parts(alloc, message, cube, true, files) {
+    let (message, core) = match open_core(alloc, message, &cube.dims, &cube.facts, files) {
         Ok(opened) => (opened.message, opened.value),
         Err(report) => return Err(report),
     };
-    let Parts {
-        core,
-        policy,
-        facts,
-    } = parts;
-    match facts {
-        Some(facts) => Ok(Opened {
-            message,
-            value: Guarded {
-                core,
-                policy,
-                facts,
+    let opened = open_policy(alloc, message, b"policy", &cube.policy, core.dims(), files);
+    match opened {
+        Ok(
+            Opened {
+                message,
+                value: policy,
             },
+        ) => Ok(Opened {
+            message,
+            value: Guarded { core, policy },
         }),
-        None => unreachable!(),
+        Err(report) => Err(report),
     }
-}
-
-/// Reads the three files in turn, and no digest is taken.
-pub fn open_unsealed<F: Folder>(
-    alloc: Global,
-    message: Message,
-    cube: &CubeFiles,
-    files: &mut F,
-) -> Result<Opened<Unsealed>, Report>
-    requires { message ≡ [] }
-    ensures ok { IfOk result (λ opened. (opened.message ≡ []) × Make cube.now (F.state files.old) opened.value.core opened.value.policy) }
-    ensures rules { IfOk result (λ opened. IsPolicy opened.value.core.dims opened.value.policy) }
-    ensures err { IfErr result (EndsUnopened cube.now (seen F.state files.old files.new)) }
-    ensures behind { OnOk result (GotBehind (names_of cube.now) (seen F.state files.old files.new)) }
-    ensures reads { Reads (seen F.state files.old files.new) result }
-{
-    let (message, parts) = match open_parts(alloc, message, cube, false, files) {
-        Ok(opened) => (opened.message, opened.value),
-        Err(report) => return Err(report),
-    };
-    Ok(Opened {
-        message,
-        value: Unsealed {
-            core: parts.core,
-            policy: parts.policy,
-        },
-    })
 }

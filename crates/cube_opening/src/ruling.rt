@@ -8,20 +8,19 @@ ghost use Rattle.cube_groups.specs.Rules as listing;
 ghost use Rattle.cube_groups.specs.Words as groups_words;
 ghost use Rattle.cube_groups.specs.declared.fault.GroupsFault.TheVariants as groups_faults;
 ghost use Rattle.cube_groups.specs.declared.group.GroupFile.{GroupFile};
-ghost use Rattle.cube_opening.specs.Opening.{fault_text, FileSays, AskedFor, EndsAt, GotBehind, IsDigestOf, Reads};
+ghost use Rattle.cube_opening.specs.Opening.{fault_text, FileSays, AskedFor, EndsAt, GotBehind, Reads};
 ghost use Rattle.cube_opening.specs.Reports.{IsReport, NoMessage};
 ghost use Rattle.cube_opening.specs.Ruling.{groups_said, called as called_as, group_policy_said, one_group, Lists, IsRuledBy, AreRuledBy, HaveNames, AreGroups, list_names, policy_names, ruled_names, EndsAtOne, EndsAtRules, EndsUnruled, IsRead, MakeGroups};
 ghost use Rattle.cube_opening.specs.declared.cube_files.Rules.TheVariants as orders;
 ghost use Rattle.cube_opening.specs.declared.ruling.RuledGroup.{RuledGroup};
 
 use crate::cube_files::{RuledFiles, Rules};
-use crate::opening::{Founded, Opened, open_founded, open_policy, read_bytes, refuse};
+use crate::opening::{Opened, open_core, open_policy, read_bytes, refuse};
 use crate::report::{Message, Report, no_message};
 use crate::statuses;
 use cube_core::Core;
 use cube_groups::{GroupFile, GroupList, GroupsFault, read_groups};
 use cube_io::Folder;
-use cube_journal::Digest;
 use cube_model::{Dims, Items, NoMemory, Policy, Text};
 use std::alloc::Global;
 
@@ -44,8 +43,6 @@ pub struct Ruled {
     pub core: Core,
     /// The groups.
     pub groups: RuledGroups,
-    /// The digest of the fact file.
-    pub facts: Digest,
 }
 
 /// What a report calls a file of a kind that belongs to a group.
@@ -276,23 +273,13 @@ pub fn open_ruled<F: Folder>(
     ensures message { IfOk result (λ opened. opened.message ≡ []) }
     ensures ok { IfOk result (λ opened. (fs : List GroupFile) × MakeGroups cube.now (F.state files.old) opened.value.core fs opened.value.groups × GotBehind (ruled_names cube.now fs) (seen F.state files.old files.new)) }
     ensures rules { IfOk result (λ opened. AreGroups opened.value.core.dims opened.value.groups) }
-    ensures digest { IfOk result (λ opened. IsDigestOf cube.now.facts (F.state files.old) opened.value.facts) }
     ensures err { IfErr result (EndsUnruled cube.now (seen F.state files.old files.new)) }
     ensures reads { Reads (seen F.state files.old files.new) result }
 {
-    let (message, founded) = match open_founded(
-        alloc,
-        message,
-        &cube.dims,
-        &cube.facts,
-        true,
-        files,
-    ) {
+    let (message, core) = match open_core(alloc, message, &cube.dims, &cube.facts, files) {
         Ok(opened) => (opened.message, opened.value),
         Err(report) => return Err(report),
     };
-    let Founded { core, facts } = founded;
-    let Some(facts) = facts else { unreachable!() };
     match open_rules(alloc, message, &cube.rules, core.dims(), files) {
         Ok(
             Opened {
@@ -301,11 +288,7 @@ pub fn open_ruled<F: Folder>(
             },
         ) => Ok(Opened {
             message,
-            value: Ruled {
-                core,
-                groups,
-                facts,
-            },
+            value: Ruled { core, groups },
         }),
         Err(report) => Err(report),
     }

@@ -1,2 +1,4 @@
+pub mod Feeding
 pub mod SealBytes
 pub mod SealStates
+pub mod Taken

@@ -64,8 +64,8 @@ damaged_by false short false digits s l = refl
 digest_length : (digits : List ℕ) → is_digest digits ≡ true → length digits ≡ 64
 digest_length digits lower = let long : (length digits == 64) ≡ true = (both (length digits == 64) (list_all is_digit digits) lower).0 in grind (arith, nat_tests)
 
-pub line_length : (digits : List ℕ) → is_digest digits ≡ true → length (seal_line digits) ≡ 71
-line_length digits lower = omega (arith, digest_length digits lower, length-append (codes "facts " ++ digits) (10 ∷ []), length-append (codes "facts ") digits)
+pub line_length : (digits : List ℕ) → is_digest digits ≡ true → length (seal_line digits) ≡ 72
+line_length digits lower = omega (arith, digest_length digits lower, length-append (codes "values " ++ digits) (10 ∷ []), length-append (codes "values ") digits)
 
 no_feed : (b : ℕ) (t : Bool) → (b == 10) ≡ t → is_digit b ≡ true → not t ≡ true
 no_feed b true e digit = absurd (let feed : b ≡ 10 = grind (arith, nat_tests) in let is : is_digit 10 ≡ true = subst (λ (n : ℕ). is_digit n ≡ true) feed digit in cc)
@@ -77,7 +77,7 @@ digits_in_line (b ∷ digits) all =
     let here = both (is_digit b) (list_all is_digit digits) all in
     together (not (b == 10)) (is_in_line digits) (no_feed b (b == 10) refl here.0) (digits_in_line digits here.1)
 
-text_in_line : (digits : List ℕ) → is_digest digits ≡ true → is_in_line (codes "facts " ++ digits) ≡ true
+text_in_line : (digits : List ℕ) → is_digest digits ≡ true → is_in_line (codes "values " ++ digits) ≡ true
 text_in_line digits lower = digits_in_line digits (both (length digits == 64) (list_all is_digit digits) lower).1
 
 ended_not_in_line : (text : List ℕ) → is_in_line (text ++ 10 ∷ []) ≡ false
@@ -112,8 +112,8 @@ lines_say_digits digits lower =
     let back = digits_back digits (digest_length digits lower) in
     let is : is_seal_line (seal_line digits) ≡ true = subst (λ (l : List ℕ). (is_digest l && bytes_eq (seal_line digits) (seal_line l)) ≡ true) (sym back)
     (together (is_digest digits) (bytes_eq (seal_line digits) (seal_line digits)) lower ((bytes_eq-Decides (seal_line digits) (seal_line digits)).1 refl)) in
-    sealed_by (is_in_line (seal_line digits)) (nat_le (length (seal_line digits)) 71) (is_seal_line (seal_line digits)) (digits_in (seal_line digits)) digits
-    (ended_not_in_line (codes "facts " ++ digits)) is back
+    sealed_by (is_in_line (seal_line digits)) (nat_le (length (seal_line digits)) 72) (is_seal_line (seal_line digits)) (digits_in (seal_line digits)) digits
+    (ended_not_in_line (codes "values " ++ digits)) is back
 
 line_of_digits : (bytes : List ℕ) → is_seal_line bytes ≡ true → (is_digest (digits_in bytes) ≡ true) × (bytes ≡ seal_line (digits_in bytes))
 line_of_digits bytes is =
@@ -123,18 +123,18 @@ line_of_digits bytes is =
 pub seals_are_lines : SealsAreLines
 unfolding seal_in
 seals_are_lines digits bytes e =
-    let f = sealed_is (is_in_line bytes) (nat_le (length bytes) 71) (is_seal_line bytes) (digits_in bytes) digits e in
+    let f = sealed_is (is_in_line bytes) (nat_le (length bytes) 72) (is_seal_line bytes) (digits_in bytes) digits e in
     let h = line_of_digits bytes f.0 in
     (subst (λ (l : List ℕ). is_digest l ≡ true) f.1 h.0, h.1 ∙ ap seal_line f.1)
 
 pub beginnings_say_nothing : BeginningsSayNothing
 unfolding seal_in
 beginnings_say_nothing digits front rest lower some e =
-    let clean = torn_in_line (codes "facts " ++ digits) front rest (text_in_line digits lower) some e in
+    let clean = torn_in_line (codes "values " ++ digits) front rest (text_in_line digits lower) some e in
     let long = ap length e ∙ line_length digits lower in
-    let within : length front ≤ 71 = omega (arith, long, length-append front rest) in
-    let short : nat_le (length front) 71 ≡ true = grind (arith, nat_tests) in
-    nothing_by (is_in_line front) (nat_le (length front) 71) (is_seal_line front) (digits_in front) clean short
+    let within : length front ≤ 72 = omega (arith, long, length-append front rest) in
+    let short : nat_le (length front) 72 ≡ true = grind (arith, nat_tests) in
+    nothing_by (is_in_line front) (nat_le (length front) 72) (is_seal_line front) (digits_in front) clean short
 
 -- ---- what the beginnings of bytes say, and long bytes
 
@@ -145,12 +145,12 @@ nothing_says_nothing = refl
 front_says_nothing : (bytes front rest : List ℕ) → front ++ rest ≡ bytes → seal_in bytes ≡ Nothing → seal_in front ≡ Nothing
 unfolding seal_in
 front_says_nothing bytes front rest e none =
-    let h = nothing_is (is_in_line bytes) (nat_le (length bytes) 71) (is_seal_line bytes) (digits_in bytes) none in
+    let h = nothing_is (is_in_line bytes) (nat_le (length bytes) 72) (is_seal_line bytes) (digits_in bytes) none in
     let clean = front_in_line front rest (subst (λ (l : List ℕ). is_in_line l ≡ true) (sym e) h.0) in
-    let whole : length bytes ≤ 71 = (let t : nat_le (length bytes) 71 ≡ true = h.1 in grind (arith, nat_tests)) in
-    let within : length front ≤ 71 = omega (arith, whole, ap length e, length-append front rest) in
-    let short : nat_le (length front) 71 ≡ true = grind (arith, nat_tests) in
-    nothing_by (is_in_line front) (nat_le (length front) 71) (is_seal_line front) (digits_in front) clean short
+    let whole : length bytes ≤ 72 = (let t : nat_le (length bytes) 72 ≡ true = h.1 in grind (arith, nat_tests)) in
+    let within : length front ≤ 72 = omega (arith, whole, ap length e, length-append front rest) in
+    let short : nat_le (length front) 72 ≡ true = grind (arith, nat_tests) in
+    nothing_by (is_in_line front) (nat_le (length front) 72) (is_seal_line front) (digits_in front) clean short
 
 pub front_agrees : (digits bytes front rest : List ℕ) → front ++ rest ≡ bytes → Agrees digits bytes → Agrees digits front
 front_agrees digits bytes front rest e (inl none) = inl (front_says_nothing bytes front rest e none)
@@ -163,14 +163,14 @@ is_no : (t : Bool) → (t ≡ true → ⊥) → t ≡ false
 is_no true never = absurd (never refl)
 is_no false never = refl
 
-pub long_is_damaged : (bytes : List ℕ) → 71 < length bytes → seal_in bytes ≡ Damaged
+pub long_is_damaged : (bytes : List ℕ) → 72 < length bytes → seal_in bytes ≡ Damaged
 unfolding seal_in
 long_is_damaged bytes long =
-    let short : nat_le (length bytes) 71 ≡ false = grind (arith, nat_tests) in
+    let short : nat_le (length bytes) 72 ≡ false = grind (arith, nat_tests) in
     let line = is_no (is_seal_line bytes) (λ is. let h = line_of_digits bytes is in let many = ap length h.1 ∙ line_length (digits_in bytes) h.0 in omega (arith, many, long)) in
-    damaged_by (is_in_line bytes) (nat_le (length bytes) 71) (is_seal_line bytes) (digits_in bytes) short line
+    damaged_by (is_in_line bytes) (nat_le (length bytes) 72) (is_seal_line bytes) (digits_in bytes) short line
 
-pub read_fault : (facts bytes : List ℕ) (fault : ReadFault) → (fault ≡ store.TooLong → 2 ^ 28 < length bytes) → IsSealFault facts bytes (of_store fault)
-read_fault facts bytes store.Failed long = tt
-read_fault facts bytes store.TooLong long = long_is_damaged bytes (let many : 2 ^ 28 < length bytes = long refl in omega (arith, many))
-read_fault facts bytes store.NoMemory long = tt
+pub read_fault : (values bytes : List ℕ) (fault : ReadFault) → (fault ≡ store.TooLong → 2 ^ 28 < length bytes) → IsSealFault values bytes (of_store fault)
+read_fault values bytes store.Failed long = tt
+read_fault values bytes store.TooLong long = long_is_damaged bytes (let many : 2 ^ 28 < length bytes = long refl in omega (arith, many))
+read_fault values bytes store.NoMemory long = tt

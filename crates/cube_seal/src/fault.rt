@@ -14,8 +14,8 @@ pub enum SealFault {
     NoMemory,
     /// The log is neither a seal nor the beginning of one.
     Damaged,
-    /// The answers are of a fact file that has the digest `kept`, and this one has another.
-    OtherFacts { kept: Digest },
+    /// The answers are of values that have the digest `kept`, and these have another.
+    OtherValues { kept: Digest },
 }
 
 /// The fault of a log that was not read.

@@ -10,14 +10,14 @@ use cube_journal::Digest;
 pub enum Said {
     /// Nothing yet: there is at most the beginning of a line.
     Nothing,
-    /// The digest of the fact file.
+    /// The digest of the values.
     Sealed(Digest),
     /// They are neither a seal nor the beginning of one.
     Damaged,
 }
 
 /// The length of the line of a seal.
-const LINE: usize = 71;
+const LINE: usize = 72;
 
 /// The line of a seal, with its line feed.
 pub fn line_of(digest: &Digest) -> [u8; LINE]
@@ -25,8 +25,8 @@ pub fn line_of(digest: &Digest) -> [u8; LINE]
     ensures lower { is_digest digest.now ≡ true }
 {
     let mut line = [b'\n'; LINE];
-    line[..6].copy_from_slice(b"facts ");
-    line[6..70].copy_from_slice(digest.digits());
+    line[..7].copy_from_slice(b"values ");
+    line[7..71].copy_from_slice(digest.digits());
     line
 }
 
@@ -38,9 +38,9 @@ fn is_in_line(bytes: &[u8]) -> bool
 
 /// What stands behind the word of a seal.
 fn behind_word(bytes: &[u8]) -> &[u8]
-    ensures { result.now ≡ drop 6 bytes.now }
+    ensures { result.now ≡ drop 7 bytes.now }
 {
-    match bytes.get(6..) {
+    match bytes.get(7..) {
         Some(digits) => digits,
         None => &[],
     }

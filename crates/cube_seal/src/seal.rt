@@ -34,108 +34,113 @@ fn emptied<S: Store>(store: &mut S, log: u32, bytes: &[u8]) -> Result<(), Failed
 }
 
 /// Puts the line of a seal into an empty log.
-fn put<S: Store>(store: &mut S, log: u32, facts: &Digest) -> Result<(), Failed>
+fn put<S: Store>(store: &mut S, log: u32, values: &Digest) -> Result<(), Failed>
     requires attached { IsTrue (S.state store.old).attached }
     requires emptied { IsTrue (S.state store.old).told → IsEmptied ((S.state store.old).logs log).state }
     ensures cause { HasCause (S.state store.old).faults (S.state store.new).faults result }
     ensures works { Works (S.state store.old) (S.state store.new) 1 }
     ensures others { OthersStay log (S.state store.old) (S.state store.new) }
-    ensures lower { is_digest facts.now ≡ true }
-    ensures ok { IsTrue (S.state store.old).told → OnOk result (((S.state store.new).logs log).state.now ≡ seal_line facts.now) }
-    ensures crash { IsTrue (S.state store.old).told → IsSealable facts.now ((S.state store.old).logs log).state
-        → Gained (IsSealable facts.now) ((S.state store.old).logs log) ((S.state store.new).logs log) }
-    ensures leaves { IsTrue (S.state store.old).told → IsSealable facts.now ((S.state store.old).logs log).state
-        → IsSealable facts.now ((S.state store.new).logs log).state }
+    ensures lower { is_digest values.now ≡ true }
+    ensures ok { IsTrue (S.state store.old).told → OnOk result (((S.state store.new).logs log).state.now ≡ seal_line values.now) }
+    ensures crash { IsTrue (S.state store.old).told → IsSealable values.now ((S.state store.old).logs log).state
+        → Gained (IsSealable values.now) ((S.state store.old).logs log) ((S.state store.new).logs log) }
+    ensures leaves { IsTrue (S.state store.old).told → IsSealable values.now ((S.state store.old).logs log).state
+        → IsSealable values.now ((S.state store.new).logs log).state }
 {
-    let line = line_of(facts);
+    let line = line_of(values);
     store.append(log, line.as_slice())
 }
 
 /// Writes the seal in place of these bytes.
-fn write<S: Store>(store: &mut S, log: u32, bytes: &[u8], facts: &Digest) -> Result<(), Failed>
+fn write<S: Store>(store: &mut S, log: u32, bytes: &[u8], values: &Digest) -> Result<(), Failed>
     requires attached { IsTrue (S.state store.old).attached }
     requires bytes { IsTrue (S.state store.old).told → ((S.state store.old).logs log).state.now ≡ bytes.now }
     ensures cause { HasCause (S.state store.old).faults (S.state store.new).faults result }
     ensures works { Works (S.state store.old) (S.state store.new) 2 }
     ensures others { OthersStay log (S.state store.old) (S.state store.new) }
-    ensures lower { OnOk result (is_digest facts.now ≡ true) }
-    ensures ok { IsTrue (S.state store.old).told → OnOk result (((S.state store.new).logs log).state.now ≡ seal_line facts.now) }
-    ensures crash { IsTrue (S.state store.old).told → IsSealable facts.now ((S.state store.old).logs log).state
-        → Gained (IsSealable facts.now) ((S.state store.old).logs log) ((S.state store.new).logs log) }
-    ensures leaves { IsTrue (S.state store.old).told → IsSealable facts.now ((S.state store.old).logs log).state
-        → IsSealable facts.now ((S.state store.new).logs log).state }
+    ensures lower { OnOk result (is_digest values.now ≡ true) }
+    ensures ok { IsTrue (S.state store.old).told → OnOk result (((S.state store.new).logs log).state.now ≡ seal_line values.now) }
+    ensures crash { IsTrue (S.state store.old).told → IsSealable values.now ((S.state store.old).logs log).state
+        → Gained (IsSealable values.now) ((S.state store.old).logs log) ((S.state store.new).logs log) }
+    ensures leaves { IsTrue (S.state store.old).told → IsSealable values.now ((S.state store.old).logs log).state
+        → IsSealable values.now ((S.state store.new).logs log).state }
 {
     match emptied(store, log, bytes) {
-        Ok(()) => put(store, log, facts),
+        Ok(()) => put(store, log, values),
         Err(failed) => Err(failed),
     }
 }
 
-/// Compares the facts with what these bytes say, and writes the seal where they say nothing yet.
-fn compare<S: Store>(store: &mut S, log: u32, bytes: &[u8], facts: &Digest) -> Result<(), SealFault>
+/// Compares the values with what these bytes say, and writes the seal where they say nothing yet.
+fn compare<S: Store>(
+    store: &mut S,
+    log: u32,
+    bytes: &[u8],
+    values: &Digest,
+) -> Result<(), SealFault>
     requires attached { IsTrue (S.state store.old).attached }
     requires bytes { IsTrue (S.state store.old).told → ((S.state store.old).logs log).state.now ≡ bytes.now }
     ensures cause { SealCause (S.state store.old).faults (S.state store.new).faults result }
     ensures works { Works (S.state store.old) (S.state store.new) 2 }
     ensures others { OthersStay log (S.state store.old) (S.state store.new) }
-    ensures lower { OnOk result (is_digest facts.now ≡ true) }
-    ensures ok { IsTrue (S.state store.old).told → OnOk result (((S.state store.new).logs log).state.now ≡ seal_line facts.now) }
-    ensures agreed { OnOk result (Agrees facts.now bytes.now) }
-    ensures fault { IfErr result (IsSealFault facts.now bytes.now) }
+    ensures lower { OnOk result (is_digest values.now ≡ true) }
+    ensures ok { IsTrue (S.state store.old).told → OnOk result (((S.state store.new).logs log).state.now ≡ seal_line values.now) }
+    ensures agreed { OnOk result (Agrees values.now bytes.now) }
+    ensures fault { IfErr result (IsSealFault values.now bytes.now) }
     ensures untouched { IsTrue (S.state store.old).told → IfErr result (λ fault. fault ≢ SealFault.Failed
         → (S.state store.new).logs log ≡ (S.state store.old).logs log) }
-    ensures crash { IsTrue (S.state store.old).told → IsSealable facts.now ((S.state store.old).logs log).state
-        → Gained (IsSealable facts.now) ((S.state store.old).logs log) ((S.state store.new).logs log) }
-    ensures leaves { IsTrue (S.state store.old).told → IsSealable facts.now ((S.state store.old).logs log).state
-        → IsSealable facts.now ((S.state store.new).logs log).state }
+    ensures crash { IsTrue (S.state store.old).told → IsSealable values.now ((S.state store.old).logs log).state
+        → Gained (IsSealable values.now) ((S.state store.old).logs log) ((S.state store.new).logs log) }
+    ensures leaves { IsTrue (S.state store.old).told → IsSealable values.now ((S.state store.old).logs log).state
+        → IsSealable values.now ((S.state store.new).logs log).state }
 {
     match seal_in(bytes) {
-        Said::Nothing => match write(store, log, bytes, facts) {
+        Said::Nothing => match write(store, log, bytes, values) {
             Ok(()) => Ok(()),
             Err(_) => Err(SealFault::Failed),
         },
         Said::Sealed(kept) => {
-            if kept == *facts {
+            if kept == *values {
                 Ok(())
             } else {
-                Err(SealFault::OtherFacts { kept })
+                Err(SealFault::OtherValues { kept })
             }
         }
         Said::Damaged => Err(SealFault::Damaged),
     }
 }
 
-/// Compares the facts with the seal in the store, writes the seal where there is none yet, and puts it on the disk.
-pub fn hold_seal<S: Store>(alloc: Global, store: &mut S, facts: &Digest) -> Result<(), SealFault>
+/// Compares the values with the seal in the store, writes the seal where there is none yet, and puts it on the disk.
+pub fn hold_seal<S: Store>(alloc: Global, store: &mut S, values: &Digest) -> Result<(), SealFault>
     requires { IsTrue (S.state store.old).attached }
 
     ensures cause { SealCause (S.state store.old).faults (S.state store.new).faults result }
     ensures works { Works (S.state store.old) (S.state store.new) 4 }
     ensures others { OthersStay SEAL_LOG (S.state store.old) (S.state store.new) }
 
-    // A journal that is held was not sealed yet or was sealed with these facts, and every crash leaves this seal.
+    // A journal that is held was not sealed yet or was sealed with these values, and every crash leaves this seal.
     ensures agreed { IsTrue (S.state store.old).told
-        → OnOk result (Agrees facts.now ((S.state store.old).logs SEAL_LOG).state.now) }
+        → OnOk result (Agrees values.now ((S.state store.old).logs SEAL_LOG).state.now) }
     ensures sealed { IsTrue (S.state store.old).told
-        → OnOk result (IsSealed facts.now ((S.state store.new).logs SEAL_LOG).state) }
+        → OnOk result (IsSealed values.now ((S.state store.new).logs SEAL_LOG).state) }
 
     // Each fault comes by the bytes of the log, and where no call of the store failed the log is as it was.
     ensures fault { IsTrue (S.state store.old).told
-        → IfErr result (IsSealFault facts.now ((S.state store.old).logs SEAL_LOG).state.now) }
+        → IfErr result (IsSealFault values.now ((S.state store.old).logs SEAL_LOG).state.now) }
     ensures untouched { IsTrue (S.state store.old).told → IfErr result (λ fault. fault ≢ SealFault.Failed
         → (S.state store.new).logs SEAL_LOG ≡ (S.state store.old).logs SEAL_LOG) }
 
     // Where no crash leaves another seal, none does so at any moment of the call, nor after it.
-    ensures crash { IsTrue (S.state store.old).told → IsSealable facts.now ((S.state store.old).logs SEAL_LOG).state
-        → Gained (IsSealable facts.now) ((S.state store.old).logs SEAL_LOG) ((S.state store.new).logs SEAL_LOG) }
-    ensures leaves { IsTrue (S.state store.old).told → IsSealable facts.now ((S.state store.old).logs SEAL_LOG).state
-        → IsSealable facts.now ((S.state store.new).logs SEAL_LOG).state }
+    ensures crash { IsTrue (S.state store.old).told → IsSealable values.now ((S.state store.old).logs SEAL_LOG).state
+        → Gained (IsSealable values.now) ((S.state store.old).logs SEAL_LOG) ((S.state store.new).logs SEAL_LOG) }
+    ensures leaves { IsTrue (S.state store.old).told → IsSealable values.now ((S.state store.old).logs SEAL_LOG).state
+        → IsSealable values.now ((S.state store.new).logs SEAL_LOG).state }
 {
     let bytes = match store.read_all(alloc, SEAL_LOG) {
         Ok(bytes) => bytes,
         Err(fault) => return Err(of_store(fault)),
     };
-    match compare(store, SEAL_LOG, bytes.as_slice(), facts) {
+    match compare(store, SEAL_LOG, bytes.as_slice(), values) {
         Ok(()) => {}
         Err(fault) => return Err(fault),
     }

@@ -16,8 +16,8 @@ returns-in-Err-open_rules-clause-err g c =
     let new = c.open_rules.new.files in
     let x = c.in-Ok.ensures in
     inr (
-      c.in-Ok.opened.value.core,
+      c.in-Ok.opened.value,
       x.ok.1,
       subst (λ (s : Dims). EndsAtRules s (cube.dims ∷ cube.facts ∷ []) cube.rules (seen tells old new) c.in-Err-open_rules.report) c.dims.ensures.dims
-          (rules_behind tells old c.open_founded.new.files new c.in-Err-open_rules.report (cube.dims ∷ cube.facts ∷ []) x.behind.asked x.reads.files x.behind.steady c.dims.result.now [] cube.rules c.in-Err-open_rules.ensures.err),
+          (rules_behind tells old c.open_core.new.files new c.in-Err-open_rules.report (cube.dims ∷ cube.facts ∷ []) x.behind.asked x.reads.files x.behind.steady c.dims.result.now [] cube.rules c.in-Err-open_rules.ensures.err),
     )

@@ -3,7 +3,7 @@ use Rattle.cube_model.specs.Dims.{Dims}
 use Rattle.cube_io.specs.Seen.{seen}
 use Rattle.cube_opening.specs.Opening.{policy_said, EndsAt}
 use Rattle.cube_opening.proofs.Behind.{asked_then, ends_behind}
-use Rattle.cube_opening.proofs.opening.open_parts.Goals as goal
+use Rattle.cube_opening.proofs.opening.open_guarded.Goals as goal
 
 pub returns-in-Err-clause-err : goal.returns-in-Err-clause-err
 returns-in-Err-clause-err g c = inl c.in-Err.ensures.err
@@ -13,8 +13,8 @@ returns-in-Err-opened-clause-err g c =
     let cube = c.args.cube.now in
     let tells = g.F.Folder.state in
     let old = c.args.files.now in
-    let mid = c.open_founded.new.files in
-    let core = c.in-Ok.opened.value.core in
+    let mid = c.open_core.new.files in
+    let core = c.in-Ok.opened.value in
     let x = c.in-Ok.ensures in
     inr (
       core,
@@ -29,6 +29,6 @@ returns-in-Ok-opened-clause-behind g c =
     let x = c.in-Ok.ensures in
     let z = c.in-Ok-opened.ensures in
     record {
-      asked = asked_then (cube.dims ∷ cube.facts ∷ []) (cube.policy ∷ []) g.F.Folder.state c.args.files.now c.open_founded.new.files c.open_policy-opened.new.files x.behind.asked z.asks;
+      asked = asked_then (cube.dims ∷ cube.facts ∷ []) (cube.policy ∷ []) g.F.Folder.state c.args.files.now c.open_core.new.files c.open_policy-opened.new.files x.behind.asked z.asks;
       steady = z.reads.steady ∙ x.behind.steady;
     }

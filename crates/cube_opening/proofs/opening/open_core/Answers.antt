@@ -1,7 +1,7 @@
 use Rattle.std.proofs.Common.{◌∙◌, [], ◌∷◌, inr}
 use Rattle.cube_opening.specs.Opening.{facts_said}
 use Rattle.cube_opening.proofs.Behind.{asked_then, ends_behind, makes_of, if_two, if_err, on_two}
-use Rattle.cube_opening.proofs.opening.open_founded.Goals as goal
+use Rattle.cube_opening.proofs.opening.open_core.Goals as goal
 
 pub returns-clause-ok : goal.returns-clause-ok
 returns-clause-ok g c =
@@ -10,7 +10,7 @@ returns-clause-ok g c =
     let mid = c.open_dims.new.files in
     let s = c.in-Ok.opened.value in
     let x = c.in-Ok.ensures in
-    if_two _ _ _ c.open_facts.result (λ o h k. (h.0, makes_of c.args.dims_name.now c.args.facts_name.now o.value.core s (tells old).files (tells mid).files x.reads.files k x.ok.1 h.1)) c.open_facts.ensures.ok c.open_facts.ensures.dims
+    if_two _ _ _ c.open_facts.result (λ o h k. (h.0, makes_of c.args.dims_name.now c.args.facts_name.now o.value s (tells old).files (tells mid).files x.reads.files k x.ok.1 h.1)) c.open_facts.ensures.ok c.open_facts.ensures.dims
 
 pub returns-clause-err : goal.returns-clause-err
 returns-clause-err g c =
