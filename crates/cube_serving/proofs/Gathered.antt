@@ -21,6 +21,7 @@ use Rattle.cube_engine.specs.Worlds.{IsRuled}
 use Rattle.cube_engine.specs.declared.fault.EngineFault.{EngineFault}
 use Rattle.cube_engine.specs.declared.fault.EngineFault.TheVariants.{Failed, TooLong, Damaged, OtherCube, Inadmissible, NoMemory}
 use Rattle.cube_opening.specs.Reports.{IsReport, NoMessage}
+use Rattle.cube_seal.specs.Values.{digest_of_values}
 use Rattle.cube_opening.specs.Ruling.{called}
 use Rattle.cube_opening.specs.declared.report.Report.{Report}
 use Rattle.cube_opening.specs.declared.ruling.RuledGroup.{RuledGroup}
@@ -319,14 +320,14 @@ module _ {S : Type 0} (core : Core) (tells : S → StoreState) (old mid new : S)
 
 -- ---- the end of a run
 
-pub at_rest : {S : Type 0} (core : Core) (gs : List RuledGroup) (facts : List ℕ) (store : Seen StoreState S) (r : Report) → RestUnstarted core 0 gs store r → UnstartedGroups core gs facts store r
-at_rest core gs facts store r (inl e) = inl e
-at_rest core gs facts store r (inr (inl e)) = inr (inl e)
-at_rest core gs facts store r (inr (inr (inl e))) = inr (inr (inl e))
-at_rest core gs facts store r (inr (inr (inr e))) = inr (inr (inr (inl e)))
+pub at_rest : {S : Type 0} (core : Core) (gs : List RuledGroup) (store : Seen StoreState S) (r : Report) → RestUnstarted core 0 gs store r → UnstartedGroups core gs store r
+at_rest core gs store r (inl e) = inl e
+at_rest core gs store r (inr (inl e)) = inr (inl e)
+at_rest core gs store r (inr (inr (inl e))) = inr (inr (inl e))
+at_rest core gs store r (inr (inr (inr e))) = inr (inr (inr (inl e)))
 
-pub unsealed_groups : {S : Type 0} (core : Core) (gs : List RuledGroup) (facts : List ℕ) (store : Seen StoreState S) (r : Report) → EndsAtSeal facts store r → UnstartedGroups core gs facts store r
-unsealed_groups core gs facts store r (inl e) = inl e
-unsealed_groups core gs facts store r (inr (inl e)) = inr (inl e)
-unsealed_groups core gs facts store r (inr (inr (inl e))) = inr (inr (inl e))
-unsealed_groups core gs facts store r (inr (inr (inr e))) = inr (inr (inr (inr e)))
+pub unsealed_groups : {S : Type 0} (core : Core) (gs : List RuledGroup) (store : Seen StoreState S) (r : Report) → EndsAtSeal (digest_of_values core) store r → UnstartedGroups core gs store r
+unsealed_groups core gs store r (inl e) = inl e
+unsealed_groups core gs store r (inr (inl e)) = inr (inl e)
+unsealed_groups core gs store r (inr (inr (inl e))) = inr (inr (inl e))
+unsealed_groups core gs store r (inr (inr (inr e))) = inr (inr (inr (inr e)))

@@ -17,11 +17,12 @@ use Rattle.cube_io.specs.States.{Log, Gained}
 use Rattle.cube_io.specs.declared.store.TheConstants.{SEAL_LOG}
 use Rattle.cube_engine.specs.Kept.{history_of, IsExact}
 use Rattle.cube_engine.specs.Worlds.{IsRuled}
-use Rattle.cube_opening.specs.Opening.{IsDigestOf, GotBehind}
+use Rattle.cube_opening.specs.Opening.{GotBehind}
 use Rattle.cube_opening.specs.Ruling.{MakeGroups, ruled_names}
 use Rattle.cube_opening.specs.declared.cube_files.RuledFiles.{RuledFiles}
 use Rattle.cube_opening.specs.declared.ruling.RuledGroup.{RuledGroup}
 use Rattle.cube_seal.specs.Seals.{Agrees, IsSealed, IsSealable}
+use Rattle.cube_seal.specs.Values.{digest_of_values}
 use Rattle.cube_serving.specs.Grouping.{GroupRun, AllOf, AllRecover, AreOpen, AreStarted, OnlyFrom, OnlyFirst, ruled, ruled_by}
 use Rattle.cube_serving.specs.NamedBooks.{Groups}
 use Rattle.cube_serving.specs.ServedGroups.{IsInGroupsTurn, HoldFrom, AreRunsOf, ServeWire, ServedGroups, UnservedGroups, WiredGroups}
@@ -112,21 +113,20 @@ started_few core store k (g ∷ gs) (b ∷ bs) a = ap suc (started_few core stor
 
 -- ---- open groups
 
-module _ {F S : Type 0} (cube : RuledFiles) (more : List (List ℕ)) (files : Seen FolderState F) (fs : List GroupFile) (core : Core) (facts : List ℕ) (gs : List RuledGroup) (tells : S → StoreState) (old mid : S) (bs : List NamedBook)
-    (make : MakeGroups cube files.before core fs gs) (digest : IsDigestOf cube.facts files.before facts) (behind : GotBehind (ruled_names cube fs ++ more) files) (started : AreStarted core (seen tells old mid) 0 gs bs)
-    (over : Each (λ b. b.book.core ≡ core) bs) (rules : Each (λ b. IsRuled b.book) bs) (agreed : IsTrue (tells old).told → Agrees facts ((tells old).logs SEAL_LOG).state.now) (sealed : IsTrue (tells old).told → IsSealed facts ((tells mid).logs SEAL_LOG).state) (seals : Seals facts (seen tells old mid)) where
+module _ {F S : Type 0} (cube : RuledFiles) (more : List (List ℕ)) (files : Seen FolderState F) (fs : List GroupFile) (core : Core) (gs : List RuledGroup) (tells : S → StoreState) (old mid : S) (bs : List NamedBook)
+    (make : MakeGroups cube files.before core fs gs) (behind : GotBehind (ruled_names cube fs ++ more) files) (started : AreStarted core (seen tells old mid) 0 gs bs)
+    (over : Each (λ b. b.book.core ≡ core) bs) (rules : Each (λ b. IsRuled b.book) bs) (agreed : IsTrue (tells old).told → Agrees (digest_of_values core) ((tells old).logs SEAL_LOG).state.now) (sealed : IsTrue (tells old).told → IsSealed (digest_of_values core) ((tells mid).logs SEAL_LOG).state) (seals : Seals (digest_of_values core) (seen tells old mid)) where
   -- while the log of the seal is left alone
-  pub are_open : (new : S) (rs : List GroupRun) → AreRunsOf bs rs → (IsTrue (tells old).told → (tells new).logs SEAL_LOG ≡ (tells mid).logs SEAL_LOG) → AreOpen cube more files (seen tells old new) core facts rs
+  pub are_open : (new : S) (rs : List GroupRun) → AreRunsOf bs rs → (IsTrue (tells old).told → (tells new).logs SEAL_LOG ≡ (tells mid).logs SEAL_LOG) → AreOpen cube more files (seen tells old new) core rs
   are_open new rs runs stays = record {
     listed = fs;
     files_make = subst (MakeGroups cube files.before core fs) (sym (runs_ruled core (seen tells old mid) 0 gs bs rs started runs)) make;
-    digest = digest;
     behind = behind;
     recovered = λ told. runs_recovered core (seen tells old mid) 0 gs bs rs started runs told;
     admissible = runs_admissible core bs rs runs over rules;
     agreed = agreed;
-    sealed = λ told. subst (λ (l : Log). IsSealed facts l.state) (sym (stays told)) (sealed told);
-    seals = λ told able. subst (λ (l : Log). Gained (IsSealable facts) ((tells old).logs SEAL_LOG) l) (sym (stays told)) (seals told able);
+    sealed = λ told. subst (λ (l : Log). IsSealed (digest_of_values core) l.state) (sym (stays told)) (sealed told);
+    seals = λ told able. subst (λ (l : Log). Gained (IsSealable (digest_of_values core)) ((tells old).logs SEAL_LOG) l) (sym (stays told)) (seals told able);
   }
 
   -- at each moment of the opening their logs recovered the same
@@ -137,7 +137,6 @@ module _ {F S : Type 0} (cube : RuledFiles) (more : List (List ℕ)) (files : Se
   pub unserved : AllRecover core 0 gs (seen tells old mid) → UnservedGroups cube more files (seen tells old mid)
   unserved passed = record {
     core = core;
-    facts = facts;
     groups = runs_at bs;
     opened = are_open mid (runs_at bs) (still_runs bs) (λ told. refl);
     passed = run_recovers (runs_at bs) (still_runs bs) passed;
@@ -153,7 +152,6 @@ module _ {F S : Type 0} (cube : RuledFiles) (more : List (List ℕ)) (files : Se
       subst (λ (b : Bool). (v : WiredGroups core w.asking end b log) × HoldFrom tells core w.asking.groups v.asked.calls mid new) same_heard (w.wired, w.held) in
       record {
         core = core;
-        facts = facts;
         opened = are_open new w.asking.groups runs stays;
         wired = both.0;
         survived = λ are. all_three (λ k (g : GroupRun). IsExact core g.policy g.first ((tells mid).logs k).state) (λ k (g : GroupRun). RecoversIn k core g.policy (seen tells old mid)) (λ k (g : GroupRun). SurvivedIn k core g.policy g.first g.last w.asking.outcomes (seen tells old new)) 0 w.asking.groups

@@ -15,6 +15,7 @@ use Rattle.cube_engine.specs.declared.fault.EngineFault.TheVariants.{Failed, Too
 use Rattle.cube_opening.specs.declared.report.Report.{Report}
 use Rattle.cube_opening.specs.declared.ruling.RuledGroup.{RuledGroup}
 use Rattle.cube_seal.specs.Seals.{Agrees, IsSealFault}
+use Rattle.cube_seal.specs.Values.{digest_of_values}
 use Rattle.cube_seal.specs.declared.reading.Said.TheVariants as said
 use Rattle.cube_seal.specs.declared.fault.SealFault.{SealFault}
 use Rattle.cube_seal.specs.declared.fault.SealFault.TheVariants as seal
@@ -31,8 +32,8 @@ refused core k [] store r e = absurd e
 refused core k (g ∷ gs) store r (inl (fault, e)) = (e.1.0, e.1.1)
 refused core k (g ∷ gs) store r (inr e) = refused core (suc k) gs store r e.1
 
-module _ {S : Type 0} (core : Core) (gs : List RuledGroup) (facts : List ℕ) (store : Seen StoreState S) (r : Report) where
-  pub status : UnstartedGroups core gs facts store r → IsOfJournals r.status
+module _ {S : Type 0} (core : Core) (gs : List RuledGroup) (store : Seen StoreState S) (r : Report) where
+  pub status : UnstartedGroups core gs store r → IsOfJournals r.status
   status (inl e) = inr (inl e.0.0)
   status (inr (inl e)) = inr (inl e.0.0)
   status (inr (inr (inl e))) = inr (inr e.0.0)
@@ -40,7 +41,7 @@ module _ {S : Type 0} (core : Core) (gs : List RuledGroup) (facts : List ℕ) (s
   status (inr (inr (inr (inr (fault, e, calm))))) = inl e.1.0
 
   -- it reports no outcomes
-  pub unasked : UnstartedGroups core gs facts store r → r.outcomes ≡ []
+  pub unasked : UnstartedGroups core gs store r → r.outcomes ≡ []
   unasked (inl e) = e.0.1
   unasked (inr (inl e)) = e.0.1
   unasked (inr (inr (inl e))) = e.0.1
@@ -48,7 +49,7 @@ module _ {S : Type 0} (core : Core) (gs : List RuledGroup) (facts : List ℕ) (s
   unasked (inr (inr (inr (inr (fault, e, calm))))) = e.1.1
 
   -- with status 9 the store counted a fault
-  pub failed : UnstartedGroups core gs facts store r → r.status ≡ 9 → Rose store.before.faults store.after.faults
+  pub failed : UnstartedGroups core gs store r → r.status ≡ 9 → Rose store.before.faults store.after.faults
   failed (inl e) nine = absurd (omega (arith, e.0.0, nine))
   failed (inr (inl e)) nine = absurd (omega (arith, e.0.0, nine))
   failed (inr (inr (inl e))) nine = e.1
@@ -60,16 +61,16 @@ module _ {S : Type 0} (core : Core) (gs : List RuledGroup) (facts : List ℕ) (s
   other k four seven nine (inr (inl e)) is = seven (sym is ∙ e)
   other k four seven nine (inr (inr e)) is = nine (sym is ∙ e)
 
-  pub not_two : UnstartedGroups core gs facts store r → r.status ≡ 2 → ⊥
+  pub not_two : UnstartedGroups core gs store r → r.status ≡ 2 → ⊥
   not_two e = other 2 (λ k. omega (arith, k)) (λ k. omega (arith, k)) (λ k. omega (arith, k)) (status e)
 
-  pub not_five : UnstartedGroups core gs facts store r → r.status ≡ 5 → ⊥
+  pub not_five : UnstartedGroups core gs store r → r.status ≡ 5 → ⊥
   not_five e = other 5 (λ k. omega (arith, k)) (λ k. omega (arith, k)) (λ k. omega (arith, k)) (status e)
 
-  pub not_six : UnstartedGroups core gs facts store r → r.status ≡ 6 → ⊥
+  pub not_six : UnstartedGroups core gs store r → r.status ≡ 6 → ⊥
   not_six e = other 6 (λ k. omega (arith, k)) (λ k. omega (arith, k)) (λ k. omega (arith, k)) (status e)
 
-  pub not_eight : UnstartedGroups core gs facts store r → r.status ≡ 8 → ⊥
+  pub not_eight : UnstartedGroups core gs store r → r.status ≡ 8 → ⊥
   not_eight e = other 8 (λ k. omega (arith, k)) (λ k. omega (arith, k)) (λ k. omega (arith, k)) (status e)
 
 -- ---- where the journals and the seal are accepted it is for want of memory
@@ -91,21 +92,21 @@ none_refused core k [] store r told a e = e
 none_refused core k (g ∷ gs) store r told a (inl (fault, e)) = sound (history_of core g.policy (store.logs k).state.now) (store.logs k).state.now fault a.0.0 a.0.1 e.0 (e.2 told)
 none_refused core k (g ∷ gs) store r told a (inr e) = none_refused core (suc k) gs store r told a.1 e.1
 
-unlike : (facts bytes : List ℕ) (fault : SealFault) → Agrees facts bytes → seal_status fault ≡ 4 → IsSealFault facts bytes fault → ⊥
-unlike facts bytes seal.Failed a four is = omega (arith, four)
-unlike facts bytes seal.NoMemory a four is = omega (arith, four)
-unlike facts bytes seal.Damaged (inl a) four is = cc
-unlike facts bytes seal.Damaged (inr a) four is = cc
-unlike facts bytes (seal.OtherFacts kept) (inl a) four (e, other) = cc
-unlike facts bytes (seal.OtherFacts kept) (inr a) four (e, other) = other (same (sym e ∙ a))
+unlike : (values bytes : List ℕ) (fault : SealFault) → Agrees values bytes → seal_status fault ≡ 4 → IsSealFault values bytes fault → ⊥
+unlike values bytes seal.Failed a four is = omega (arith, four)
+unlike values bytes seal.NoMemory a four is = omega (arith, four)
+unlike values bytes seal.Damaged (inl a) four is = cc
+unlike values bytes seal.Damaged (inr a) four is = cc
+unlike values bytes (seal.OtherValues kept) (inl a) four (e, other) = cc
+unlike values bytes (seal.OtherValues kept) (inr a) four (e, other) = other (same (sym e ∙ a))
   where
-    same : said.Sealed kept ≡ said.Sealed facts → kept ≡ facts
+    same : said.Sealed kept ≡ said.Sealed values → kept ≡ values
     same e = cc
 
-pub accepted : {S : Type 0} (core : Core) (gs : List RuledGroup) (facts : List ℕ) (store : Seen StoreState S) (r : Report) → IsTrue store.before.told → AllOf (IsAccepted core store.before) 0 gs → Agrees facts (store.before.logs SEAL_LOG).state.now
-    → ¬ Rose store.before.faults store.after.faults → UnstartedGroups core gs facts store r → r.status ≡ 7
-accepted core gs facts store r told a agrees calm (inl e) = e.0.0
-accepted core gs facts store r told a agrees calm (inr (inl e)) = e.0.0
-accepted core gs facts store r told a agrees calm (inr (inr (inl e))) = absurd (calm e.1)
-accepted core gs facts store r told a agrees calm (inr (inr (inr (inl e)))) = absurd (none_refused core 0 gs store.before r told a e.0)
-accepted core gs facts store r told a agrees calm (inr (inr (inr (inr (fault, e, steady))))) = absurd (unlike facts (store.before.logs SEAL_LOG).state.now fault agrees e.0 (e.2 told))
+pub accepted : {S : Type 0} (core : Core) (gs : List RuledGroup) (store : Seen StoreState S) (r : Report) → IsTrue store.before.told → AllOf (IsAccepted core store.before) 0 gs → Agrees (digest_of_values core) (store.before.logs SEAL_LOG).state.now
+    → ¬ Rose store.before.faults store.after.faults → UnstartedGroups core gs store r → r.status ≡ 7
+accepted core gs store r told a agrees calm (inl e) = e.0.0
+accepted core gs store r told a agrees calm (inr (inl e)) = e.0.0
+accepted core gs store r told a agrees calm (inr (inr (inl e))) = absurd (calm e.1)
+accepted core gs store r told a agrees calm (inr (inr (inr (inl e)))) = absurd (none_refused core 0 gs store.before r told a e.0)
+accepted core gs store r told a agrees calm (inr (inr (inr (inr (fault, e, steady))))) = absurd (unlike (digest_of_values core) (store.before.logs SEAL_LOG).state.now fault agrees e.0 (e.2 told))

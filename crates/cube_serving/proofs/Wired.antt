@@ -245,15 +245,14 @@ Holds core policy first calls mid store =
     → (IsTrue store.before.told → Gained (IsInRecovery (history_of core policy) (store.before.logs 0).state) (store.before.logs 0) (mid.logs 0)) → HeldIn 0 core policy (IsInTurn core policy first calls) store
 
 -- what is known of an engine that was opened and then served a wire, in one record
-pub served : {S : Type 0} (cube : CubeFiles) (files : FolderState) (mid : StoreState) (store : Seen StoreState S) (end : Result (Unit {0}) ServeFault) (told heard_told : Bool) (log : List LogEntry) (core : Core) (policy : Policy) (facts : List ℕ) (e last : Engine) (stated : ℕ)
-    → IsOpen cube files store core policy facts e.history → e ≡ begun core policy e.history e.journal stated
+pub served : {S : Type 0} (cube : CubeFiles) (files : FolderState) (mid : StoreState) (store : Seen StoreState S) (end : Result (Unit {0}) ServeFault) (told heard_told : Bool) (log : List LogEntry) (core : Core) (policy : Policy) (e last : Engine) (stated : ℕ)
+    → IsOpen cube files store core policy e.history → e ≡ begun core policy e.history e.journal stated
     → (IsTrue store.before.told → IsExact core policy e.history (mid.logs 0).state) → (IsTrue store.before.told → Gained (IsInRecovery (history_of core policy) (store.before.logs 0).state) (store.before.logs 0) (mid.logs 0))
     → heard_told ≡ told → (w : Wired e.core e.policy (asking e last) end heard_told log) → Holds e.core e.policy e.history w.asked.calls mid store → Keeps e.core e.policy e last mid store
     → mid.faults ≡ store.before.faults → RoseBy (faults_in last.outcomes) mid.faults store.after.faults → Served cube files store (asking e last) end told log
-served {S} cube files mid store end told heard_told log core policy facts e last stated is_open is exact crash same_heard wired holds keeps steady failed = record {
+served {S} cube files mid store end told heard_told log core policy e last stated is_open is exact crash same_heard wired holds keeps steady failed = record {
   core = core;
   policy = policy;
-  facts = facts;
   opened = is_open;
   wired = both.0;
   held = λ are. both.1 are (exact are) crash;

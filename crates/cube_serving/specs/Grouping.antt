@@ -13,13 +13,14 @@ use Rattle.cube_io.specs.declared.store.TheConstants.{SEAL_LOG}
 use Rattle.cube_engine.specs.Kept.{history_of, IsExact}
 use Rattle.cube_engine.specs.Worlds.{IsRuled}
 use Rattle.cube_engine.specs.declared.fault.EngineFault.{EngineFault}
-use Rattle.cube_opening.specs.Opening.{IsDigestOf, GotBehind}
+use Rattle.cube_opening.specs.Opening.{GotBehind}
 use Rattle.cube_opening.specs.Reports.{IsReport, NoMessage}
 use Rattle.cube_opening.specs.Ruling.{called, ruled_names, EndsUnruled, MakeGroups}
 use Rattle.cube_opening.specs.declared.cube_files.RuledFiles.{RuledFiles}
 use Rattle.cube_opening.specs.declared.report.Report.{Report}
 use Rattle.cube_opening.specs.declared.ruling.RuledGroup.{RuledGroup}
 use Rattle.cube_seal.specs.Seals.{Agrees, IsSealed}
+use Rattle.cube_seal.specs.Values.{digest_of_values}
 use Rattle.cube_seal.specs.declared.fault.SealFault.{SealFault}
 use Rattle.cube_serving.specs.declared.named.NamedBook.{NamedBook}
 use Rattle.cube_serving.specs.Starting.{IsCalm, IsRefusedIn, IsUnsealed, RecoversIn, Seals}
@@ -67,15 +68,15 @@ IsRefusedAt core k (g ∷ gs) store r =
     ((fault : EngineFault) × IsRefusedIn k (called (codes "journal") g.name) core g.policy store fault r)
     ⊎ ((IsTrue store.told → IsOk (history_of core g.policy (store.logs k).state.now)) × IsRefusedAt core (suc k) gs store r)
 
--- A run over this core, these groups and facts of this digest ended at the journals: memory ran out, or the store failed, or the bytes
--- of a group's journal are refused, or those of the seal.
-abbrev pub UnstartedGroups : {S : Type 0} → Core → List RuledGroup → List ℕ → Seen StoreState S → Report → Type 0
-UnstartedGroups core gs facts store r =
+-- A run over this core and these groups ended at the journals: memory ran out, or the store failed, or the bytes of a group's journal are
+-- refused, or those of the seal, which tells the digest of the values of the core.
+abbrev pub UnstartedGroups : {S : Type 0} → Core → List RuledGroup → Seen StoreState S → Report → Type 0
+UnstartedGroups core gs store r =
     (NoMessage r × IsCalm store)
     ⊎ (IsReport 7 (codes "no memory\n") r × IsCalm store)
     ⊎ (IsReport 9 (codes "store failed\n") r × Rose store.before.faults store.after.faults)
     ⊎ (IsRefusedAt core 0 gs store.before r × IsCalm store)
-    ⊎ ((fault : SealFault) × IsUnsealed facts store.before fault r × IsCalm store)
+    ⊎ ((fault : SealFault) × IsUnsealed (digest_of_values core) store.before fault r × IsCalm store)
 
 -- at each moment the log of each group is as at entry, or every crash leaves what recovers the same
 abbrev pub AllRecover : {S : Type 0} → Core → ℕ → List RuledGroup → Seen StoreState S → Type 0
@@ -126,18 +127,16 @@ pub record Gathers {S : Type 0} (many : ℕ) (store : Seen StoreState S) : Type 
 
 -- ---- how a run ends before its groups are open
 
--- A run ended at the journals, over the core, the groups and the facts that the files make, behind the files of these further names.
+-- A run ended at the journals, over the core and the groups that the files make, behind the files of these further names.
 pub record EndsUnstartedGroups {F S : Type 0} (cube : RuledFiles) (more : List (List ℕ)) (files : Seen FolderState F) (store : Seen StoreState S) (r : Report) : Type 0 where
   pub core : Core
   pub listed : List GroupFile
   pub groups : List RuledGroup
-  pub facts : List ℕ
   pub files_make : MakeGroups cube files.before core listed groups
-  pub digest : IsDigestOf cube.facts files.before facts
   pub behind : GotBehind (ruled_names cube listed ++ more) files
-  pub unstarted : UnstartedGroups core groups facts store r
+  pub unstarted : UnstartedGroups core groups store r
   pub passed : AllRecover core 0 groups store
-  pub seals : Seals facts store
+  pub seals : Seals (digest_of_values core) store
 
 -- A run ended before its cube was open: at a file, or at a journal behind the files.
 abbrev pub EndsClosedGroups : {F S : Type 0} → RuledFiles → List (List ℕ) → Seen FolderState F → Seen StoreState S → Report → Type 0
@@ -151,19 +150,18 @@ IsAccepted core store log g = (length (store.logs log).state.now ≤ 2 ^ 28) × 
 pub record HaveJournals (cube : RuledFiles) (files : FolderState) (store : StoreState) : Type 0 where
   pub told : IsTrue store.told
   pub recover : (core : Core) (fs : List GroupFile) (gs : List RuledGroup) → MakeGroups cube files core fs gs → AllOf (IsAccepted core store) 0 gs
-  pub agrees : (facts : List ℕ) → IsDigestOf cube.facts files facts → Agrees facts (store.logs SEAL_LOG).state.now
+  pub agrees : (core : Core) (fs : List GroupFile) (gs : List RuledGroup) → MakeGroups cube files core fs gs → Agrees (digest_of_values core) (store.logs SEAL_LOG).state.now
 
 -- ---- open groups
 
--- The groups were opened, behind their files and the files of these further names: the core and the policies that the files make, the digest of the fact file, and the histories that the
--- journals recover. The seal said nothing yet, or this digest; and whatever a crash leaves now says it.
-pub record AreOpen {F S : Type 0} (cube : RuledFiles) (more : List (List ℕ)) (files : Seen FolderState F) (store : Seen StoreState S) (core : Core) (facts : List ℕ) (gs : List GroupRun) : Type 0 where
+-- The groups were opened, behind their files and the files of these further names: the core and the policies that the files make, and the histories that the
+-- journals recover. The seal said nothing yet, or the digest of the values of the core; and whatever a crash leaves now says it.
+pub record AreOpen {F S : Type 0} (cube : RuledFiles) (more : List (List ℕ)) (files : Seen FolderState F) (store : Seen StoreState S) (core : Core) (gs : List GroupRun) : Type 0 where
   pub listed : List GroupFile
   pub files_make : MakeGroups cube files.before core listed (ruled gs)
-  pub digest : IsDigestOf cube.facts files.before facts
   pub behind : GotBehind (ruled_names cube listed ++ more) files
   pub recovered : IsTrue store.before.told → AllOf (λ log (g : GroupRun). history_of core g.policy (store.before.logs log).state.now ≡ Ok g.first) 0 gs
   pub admissible : Each (λ g. IsAdmissible (shown core g.policy) g.first) gs
-  pub agreed : IsTrue store.before.told → Agrees facts (store.before.logs SEAL_LOG).state.now
-  pub sealed : IsTrue store.before.told → IsSealed facts (store.after.logs SEAL_LOG).state
-  pub seals : Seals facts store
+  pub agreed : IsTrue store.before.told → Agrees (digest_of_values core) (store.before.logs SEAL_LOG).state.now
+  pub sealed : IsTrue store.before.told → IsSealed (digest_of_values core) (store.after.logs SEAL_LOG).state
+  pub seals : Seals (digest_of_values core) store

@@ -122,8 +122,7 @@ pub record ServeWire {S : Type 0} (tells : S → StoreState) (core : Core) (old 
 -- request of the ask in hand, and no other. For each ask in which a journal failed the store's count of faults rose.
 pub record ServedGroups {F S : Type 0} (cube : RuledFiles) (more : List (List ℕ)) (files : Seen FolderState F) (store : Seen StoreState S) (a : GroupsAsking) (end : Result (Unit {0}) ServeFault) (told : Bool) (log : List LogEntry) : Type 0 where
   pub core : Core
-  pub facts : List ℕ
-  pub opened : AreOpen cube more files store core facts a.groups
+  pub opened : AreOpen cube more files store core a.groups
   pub wired : WiredGroups core a end told log
   pub survived : IsTrue store.before.told → AllOf (λ k (g : GroupRun). SurvivedIn k core g.policy g.first g.last a.outcomes store) 0 a.groups
   pub held : IsTrue store.before.told → AllOf (λ k (g : GroupRun). HeldIn k core g.policy (IsInGroupsTurn core a.groups wired.asked.calls k) store) 0 a.groups
@@ -132,9 +131,8 @@ pub record ServedGroups {F S : Type 0} (cube : RuledFiles) (more : List (List �
 -- Groups were opened, and nothing was served: of each journal every crash leaves what recovers its history.
 pub record UnservedGroups {F S : Type 0} (cube : RuledFiles) (more : List (List ℕ)) (files : Seen FolderState F) (store : Seen StoreState S) : Type 0 where
   pub core : Core
-  pub facts : List ℕ
   pub groups : List GroupRun
-  pub opened : AreOpen cube more files store core facts groups
+  pub opened : AreOpen cube more files store core groups
   pub passed : AllRecover core 0 (ruled groups) store
   pub exact : IsTrue store.before.told → AllOf (λ k (g : GroupRun). IsExact core g.policy g.first (store.after.logs k).state) 0 groups
 

@@ -106,8 +106,7 @@ pub record WiredOver {S : Type 0} (tells : S → StoreState) (core : Core) (poli
 pub record Served {S : Type 0} (cube : CubeFiles) (files : FolderState) (store : Seen StoreState S) (a : Asking) (end : Result (Unit {0}) ServeFault) (told : Bool) (log : List LogEntry) : Type 0 where
   pub core : Core
   pub policy : Policy
-  pub facts : List ℕ
-  pub opened : IsOpen cube files store core policy facts a.first
+  pub opened : IsOpen cube files store core policy a.first
   pub wired : Wired core policy a end told log
   pub survived : IsTrue store.before.told → Survived core policy a.first a.last a.outcomes store
   pub held : IsTrue store.before.told → HeldIn 0 core policy (IsInTurn core policy a.first wired.asked.calls) store
@@ -117,9 +116,8 @@ pub record Served {S : Type 0} (cube : CubeFiles) (files : FolderState) (store :
 pub record Unserved {S : Type 0} (cube : CubeFiles) (files : FolderState) (store : Seen StoreState S) : Type 0 where
   pub core : Core
   pub policy : Policy
-  pub facts : List ℕ
   pub history : List Entry
-  pub opened : IsOpen cube files store core policy facts history
+  pub opened : IsOpen cube files store core policy history
   pub passed : Recovers core policy store
   pub exact : IsTrue store.before.told → IsExact core policy history (store.after.logs 0).state
 

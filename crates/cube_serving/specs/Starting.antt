@@ -17,9 +17,10 @@ use Rattle.cube_engine.specs.Opening.{IsStartFault}
 use Rattle.cube_engine.specs.declared.fault.EngineFault.{EngineFault}
 use Rattle.cube_engine.specs.declared.fault.EngineFault.TheVariants.{Failed, TooLong, Damaged, OtherCube, Inadmissible, NoMemory}
 use Rattle.cube_seal.specs.Seals.{Agrees, IsSealed, IsSealable, IsSealFault}
+use Rattle.cube_seal.specs.Values.{digest_of_values}
 use Rattle.cube_seal.specs.declared.fault.SealFault.{SealFault}
 use Rattle.cube_seal.specs.declared.fault.SealFault.TheVariants as seal
-use Rattle.cube_opening.specs.Opening.{Make, IsDigest, GotBehind, EndsUnopened}
+use Rattle.cube_opening.specs.Opening.{Make, GotBehind, EndsUnopened}
 use Rattle.cube_opening.specs.Reports.{IsReport, NoMessage}
 use Rattle.cube_opening.specs.declared.cube_files.CubeFiles.{CubeFiles}
 use Rattle.cube_opening.specs.declared.report.Report.{Report}
@@ -52,37 +53,37 @@ IsRefusedIn log called core policy store fault r =
 abbrev pub IsRefused : Core → Policy → StoreState → EngineFault → Report → Type 0
 IsRefused core policy store fault r = IsRefusedIn 0 (codes "journal") core policy store fault r
 
--- the text on a seal that does not hold the journal, where this is the digest of the facts
+-- the text on a seal that does not hold the journal, where this is the digest of the values
 abbrev pub seal_text : List ℕ → SealFault → List ℕ
 seal_text now seal.Failed = codes "store failed\n"
 seal_text now seal.Damaged = codes "journal: seal damaged\n"
-seal_text now (seal.OtherFacts kept) = codes "journal: facts " ++ kept ++ codes " are not " ++ now ++ codes "\n"
+seal_text now (seal.OtherValues kept) = codes "journal: values " ++ kept ++ codes " are not " ++ now ++ codes "\n"
 seal_text now seal.NoMemory = codes "no memory\n"
 
 abbrev pub seal_status : SealFault → ℕ
 seal_status seal.Failed = 9
 seal_status seal.Damaged = 4
-seal_status (seal.OtherFacts kept) = 4
+seal_status (seal.OtherValues kept) = 4
 seal_status seal.NoMemory = 7
 
 -- the bytes of the seal are refused by this fault of theirs
 abbrev pub IsUnsealed : List ℕ → StoreState → SealFault → Report → Type 0
-IsUnsealed facts store fault r =
-    (seal_status fault ≡ 4) × IsReport 4 (seal_text facts fault) r × (IsTrue store.told → IsSealFault facts (store.logs SEAL_LOG).state.now fault)
+IsUnsealed values store fault r =
+    (seal_status fault ≡ 4) × IsReport 4 (seal_text values fault) r × (IsTrue store.told → IsSealFault values (store.logs SEAL_LOG).state.now fault)
 
 -- the store counted no fault
 abbrev pub IsCalm : {S : Type 0} → Seen StoreState S → Type 0
 IsCalm store = store.after.faults ≡ store.before.faults
 
--- A run over this core and policy and facts of this digest ended at the journal: memory ran out, or the store failed, or the bytes of the
--- journal are refused, or those of its seal.
-abbrev pub Unstarted : {S : Type 0} → Core → Policy → List ℕ → Seen StoreState S → Report → Type 0
-Unstarted core policy facts store r =
+-- A run over this core and policy ended at the journal: memory ran out, or the store failed, or the bytes of the journal are refused, or
+-- those of its seal, which tells the digest of the values of the core.
+abbrev pub Unstarted : {S : Type 0} → Core → Policy → Seen StoreState S → Report → Type 0
+Unstarted core policy store r =
     (NoMessage r × IsCalm store)
     ⊎ (IsReport 7 (codes "no memory\n") r × IsCalm store)
     ⊎ (IsReport 9 (codes "store failed\n") r × Rose store.before.faults store.after.faults)
     ⊎ ((fault : EngineFault) × IsRefused core policy store.before fault r × IsCalm store)
-    ⊎ ((fault : SealFault) × IsUnsealed facts store.before fault r × IsCalm store)
+    ⊎ ((fault : SealFault) × IsUnsealed (digest_of_values core) store.before fault r × IsCalm store)
 
 -- the journal's name was asked for; it may lack where the store failed
 abbrev pub AsksStore : {S : Type 0} → List ℕ → Seen StoreState S → Report → Type 0
@@ -105,20 +106,18 @@ RecoversIn log core policy store = IsTrue store.before.told → Gained (IsInReco
 abbrev pub Recovers : {S : Type 0} → Core → Policy → Seen StoreState S → Type 0
 Recovers core policy store = RecoversIn 0 core policy store
 
--- At no moment does a crash leave a seal of other facts, where none did so at entry.
+-- At no moment does a crash leave a seal of other values, where none did so at entry.
 abbrev pub Seals : {S : Type 0} → List ℕ → Seen StoreState S → Type 0
-Seals facts store = IsTrue store.before.told → IsSealable facts (store.before.logs SEAL_LOG).state → Gained (IsSealable facts) (store.before.logs SEAL_LOG) (store.after.logs SEAL_LOG)
+Seals values store = IsTrue store.before.told → IsSealable values (store.before.logs SEAL_LOG).state → Gained (IsSealable values) (store.before.logs SEAL_LOG) (store.after.logs SEAL_LOG)
 
--- A run ended at the journal, over the core, the policy and the facts that the files make.
+-- A run ended at the journal, over the core and the policy that the files make.
 pub record EndsUnstarted {S : Type 0} (cube : CubeFiles) (files : FolderState) (store : Seen StoreState S) (r : Report) : Type 0 where
   pub core : Core
   pub policy : Policy
-  pub facts : List ℕ
   pub files_make : Make cube files core policy
-  pub digest : IsDigest cube files facts
-  pub unstarted : Unstarted core policy facts store r
+  pub unstarted : Unstarted core policy store r
   pub passed : Recovers core policy store
-  pub seals : Seals facts store
+  pub seals : Seals (digest_of_values core) store
 
 -- A run ended before its cube was open: at a file, or at the journal behind the files of these names.
 abbrev pub EndsClosed : {F S : Type 0} → CubeFiles → List (List ℕ) → Seen FolderState F → Seen StoreState S → Report → Type 0
@@ -129,20 +128,19 @@ pub record HasJournal (cube : CubeFiles) (files : FolderState) (store : StoreSta
   pub told : IsTrue store.told
   pub short : length (store.logs 0).state.now ≤ 2 ^ 28
   pub recovers : (core : Core) (policy : Policy) → Make cube files core policy → IsOk (history_of core policy (store.logs 0).state.now)
-  pub agrees : (facts : List ℕ) → IsDigest cube files facts → Agrees facts (store.logs SEAL_LOG).state.now
+  pub agrees : (core : Core) (policy : Policy) → Make cube files core policy → Agrees (digest_of_values core) (store.logs SEAL_LOG).state.now
 
 -- ---- an open cube
 
--- A cube was opened: the core and the policy that the files make, the digest of the fact file, and the history that the journal recovers.
--- The seal said nothing yet, or this digest; and whatever a crash leaves now says it.
-pub record IsOpen {S : Type 0} (cube : CubeFiles) (files : FolderState) (store : Seen StoreState S) (core : Core) (policy : Policy) (facts : List ℕ) (history : List Entry) : Type 0 where
+-- A cube was opened: the core and the policy that the files make, and the history that the journal recovers. The seal said nothing yet, or
+-- the digest of the values of the core; and whatever a crash leaves now says it.
+pub record IsOpen {S : Type 0} (cube : CubeFiles) (files : FolderState) (store : Seen StoreState S) (core : Core) (policy : Policy) (history : List Entry) : Type 0 where
   pub files_make : Make cube files core policy
-  pub digest : IsDigest cube files facts
   pub recovered : IsTrue store.before.told → history_of core policy (store.before.logs 0).state.now ≡ Ok history
   pub admissible : IsAdmissible (shown core policy) history
-  pub agreed : IsTrue store.before.told → Agrees facts (store.before.logs SEAL_LOG).state.now
-  pub sealed : IsTrue store.before.told → IsSealed facts (store.after.logs SEAL_LOG).state
-  pub seals : Seals facts store
+  pub agreed : IsTrue store.before.told → Agrees (digest_of_values core) (store.before.logs SEAL_LOG).state.now
+  pub sealed : IsTrue store.before.told → IsSealed (digest_of_values core) (store.after.logs SEAL_LOG).state
+  pub seals : Seals (digest_of_values core) store
 
 -- ---- what a crash may leave
 

@@ -8,6 +8,7 @@ ghost use Rattle.cube_io.specs.Seen.{seen};
 ghost use Rattle.cube_opening.specs.Ruling.{AreGroups};
 ghost use Rattle.cube_opening.specs.declared.ruling.RuledGroup.{RuledGroup};
 ghost use Rattle.cube_seal.specs.Seals.{Agrees, IsSealed};
+ghost use Rattle.cube_seal.specs.Values.{digest_of_values as digest_in};
 ghost use Rattle.cube_serving.specs.Grouping.{AllRecover, AreStarted, Gathers, OnlyFrom, OnlyFirst, RestUnstarted, UnstartedGroups};
 ghost use Rattle.cube_serving.specs.NamedBooks.{IsKeptIn};
 ghost use Rattle.cube_serving.specs.Starting.{AsksStore, IsCalm, Seals};
@@ -22,7 +23,7 @@ use cube_model::{Items, Text};
 use cube_opening::{
     Message, Opened, Report, Ruled, RuledGroup, RuledGroups, called, no_message, statuses,
 };
-use cube_seal::hold_seal;
+use cube_seal::{digest_of_values, hold_seal};
 use std::alloc::Global;
 
 // Adds a group, with the history that the next log recovers.
@@ -169,7 +170,7 @@ fn start_groups<S: Store>(
     add_rest(alloc, message, &shared, ruled, store, groups)
 }
 
-/// Attaches a store by its name, starts a book over the log of each group, and holds all by the seal of the facts.
+/// Attaches a store by its name, starts a book over the log of each group, and holds all by the seal of the values.
 pub fn open_groups<S: Store>(
     alloc: Global,
     message: Message,
@@ -188,29 +189,26 @@ pub fn open_groups<S: Store>(
     ensures outcomes { IfOk result (λ opened. (opened.value.outcomes ≡ []) × (opened.value.left ≡ stated)) }
     ensures attached { OnOk result (IsTrue (S.state store.new).attached) }
     ensures kept { IsTrue (S.state store.old).told → IfOk result (λ opened. Each (IsKeptIn (S.state store.new).logs) opened.value.books) }
-    ensures agreed { IsTrue (S.state store.old).told → OnOk result (Agrees ruled.facts ((S.state store.old).logs SEAL_LOG).state.now) }
-    ensures sealed { IsTrue (S.state store.old).told → OnOk result (IsSealed ruled.facts ((S.state store.new).logs SEAL_LOG).state) }
-    ensures err { IfErr result (UnstartedGroups ruled.core ruled.groups ruled.facts (seen S.state store.old store.new)) }
+    ensures agreed { IsTrue (S.state store.old).told → OnOk result (Agrees (digest_in ruled.core) ((S.state store.old).logs SEAL_LOG).state.now) }
+    ensures sealed { IsTrue (S.state store.old).told → OnOk result (IsSealed (digest_in ruled.core) ((S.state store.new).logs SEAL_LOG).state) }
+    ensures err { IfErr result (UnstartedGroups ruled.core ruled.groups (seen S.state store.old store.new)) }
     ensures steady { OnOk result (IsCalm (seen S.state store.old store.new)) }
     ensures passed { AllRecover ruled.core 0 ruled.groups (seen S.state store.old store.new) }
-    ensures seals { Seals ruled.facts (seen S.state store.old store.new) }
+    ensures seals { Seals (digest_in ruled.core) (seen S.state store.old store.new) }
     ensures names { OnOk result (IsTrue (S.state store.old).told → (S.state store.new).names ≡ (S.state store.old).names ++ name.now ∷ []) }
     ensures names_err { IfErr result (AsksStore name.now (seen S.state store.old store.new)) }
     ensures told { (S.state store.new).told ≡ (S.state store.old).told }
     ensures others { OnlyFirst (length ruled.groups) (S.state store.old) (S.state store.new) }
     ensures calls { IsTrue (S.state store.old).told → (S.state store.new).calls ≤ (S.state store.old).calls + 5 + 6 * length ruled.groups }
 {
-    let Ruled {
-        core,
-        groups,
-        facts,
-    } = ruled;
+    let Ruled { core, groups } = ruled;
+    let values = digest_of_values(&core);
     let opened = match start_groups(alloc, message, core, groups, name, stated, store) {
         Ok(opened) => opened,
         Err(report) => return Err(report),
     };
-    match hold_seal(alloc, store, &facts) {
+    match hold_seal(alloc, store, &values) {
         Ok(()) => Ok(opened),
-        Err(fault) => Err(refuse_seal(alloc, opened.message, fault, &facts)),
+        Err(fault) => Err(refuse_seal(alloc, opened.message, fault, &values)),
     }
 }

@@ -8,6 +8,7 @@ ghost use Rattle.cube_engine.specs.Kept.{history_of, IsKept, IsExact};
 ghost use Rattle.cube_engine.specs.Worlds.{IsRuled};
 ghost use Rattle.cube_opening.specs.Reports.{IsReport, NoMessage};
 ghost use Rattle.cube_seal.specs.Seals.{Agrees, IsSealed};
+ghost use Rattle.cube_seal.specs.Values.{digest_of_values as digest_in};
 ghost use Rattle.cube_serving.specs.Starting.{journal_text_as as journal_words, journal_status as status_for, seal_text as seal_words, seal_status, IsCalm, Unstarted, AsksStore, Opens, Recovers, Seals};
 
 use cube_core::Core;
@@ -16,7 +17,7 @@ use cube_io::{SEAL_LOG, Store};
 use cube_journal::Digest;
 use cube_model::{NoMemory, Policy, Text};
 use cube_opening::{Guarded, Message, Opened, Report, no_message, statuses, with_text};
-use cube_seal::{SealFault, hold_seal};
+use cube_seal::{SealFault, digest_of_values, hold_seal};
 use std::alloc::Global;
 
 // The log of a command.
@@ -117,10 +118,10 @@ pub(crate) fn refuse_seal(
     alloc: Global,
     message: Message,
     fault: SealFault,
-    facts: &Digest,
+    values: &Digest,
 ) -> Report
     requires { message ≡ [] }
-    ensures { IsReport (seal_status fault) (seal_words facts.now fault) result ⊎ ((seal_status fault ≡ 4) × NoMessage result) }
+    ensures { IsReport (seal_status fault) (seal_words values.now fault) result ⊎ ((seal_status fault ≡ 4) × NoMessage result) }
 {
     match fault {
         SealFault::Failed => message
@@ -132,8 +133,8 @@ pub(crate) fn refuse_seal(
         SealFault::Damaged => message
             .with(b"journal: seal damaged\n")
             .close(alloc, statuses::JOURNAL_REFUSED),
-        SealFault::OtherFacts { kept } => {
-            other_digest(alloc, b"journal", b": facts ", &kept, b" are not ", facts)
+        SealFault::OtherValues { kept } => {
+            other_digest(alloc, b"journal", b": values ", &kept, b" are not ", values)
         }
     }
 }
@@ -159,7 +160,7 @@ fn start_engine<S: Store>(
     ensures kept { IsTrue (S.state store.old).told → IfOk result (λ opened. IsKept core policy opened.value.history opened.value.journal ((S.state store.new).logs 0).state) }
     ensures exact { IsTrue (S.state store.old).told → IfOk result (λ opened. IsExact core policy opened.value.history ((S.state store.new).logs 0).state) }
     ensures crash { Recovers core policy (seen S.state store.old store.new) }
-    ensures err { (facts : List ℕ) → IfErr result (Unstarted core policy facts (seen S.state store.old store.new)) }
+    ensures err { IfErr result (Unstarted core policy (seen S.state store.old store.new)) }
     ensures steady { OnOk result (IsCalm (seen S.state store.old store.new)) }
     ensures names { OnOk result (IsTrue (S.state store.old).told → (S.state store.new).names ≡ (S.state store.old).names ++ name.now ∷ []) }
     ensures names_err { IfErr result (AsksStore name.now (seen S.state store.old store.new)) }
@@ -184,7 +185,7 @@ fn start_engine<S: Store>(
     }
 }
 
-/// Attaches a store by its name, starts an engine over its log, and holds that by the seal of the facts.
+/// Attaches a store by its name, starts an engine over its log, and holds that by the seal of the values.
 pub fn open_engine<S: Store>(
     alloc: Global,
     message: Message,
@@ -203,27 +204,24 @@ pub fn open_engine<S: Store>(
     ensures history { IsTrue (S.state store.old).told → IfOk result (λ opened. history_of guarded.core guarded.policy ((S.state store.old).logs 0).state.now ≡ Ok opened.value.history) }
     ensures kept { IsTrue (S.state store.old).told → IfOk result (λ opened. IsKept guarded.core guarded.policy opened.value.history opened.value.journal ((S.state store.new).logs 0).state) }
     ensures exact { IsTrue (S.state store.old).told → IfOk result (λ opened. IsExact guarded.core guarded.policy opened.value.history ((S.state store.new).logs 0).state) }
-    ensures agreed { IsTrue (S.state store.old).told → OnOk result (Agrees guarded.facts ((S.state store.old).logs SEAL_LOG).state.now) }
-    ensures sealed { IsTrue (S.state store.old).told → OnOk result (IsSealed guarded.facts ((S.state store.new).logs SEAL_LOG).state) }
+    ensures agreed { IsTrue (S.state store.old).told → OnOk result (Agrees (digest_in guarded.core) ((S.state store.old).logs SEAL_LOG).state.now) }
+    ensures sealed { IsTrue (S.state store.old).told → OnOk result (IsSealed (digest_in guarded.core) ((S.state store.new).logs SEAL_LOG).state) }
     ensures crash { Recovers guarded.core guarded.policy (seen S.state store.old store.new) }
-    ensures seals { Seals guarded.facts (seen S.state store.old store.new) }
-    ensures err { IfErr result (Unstarted guarded.core guarded.policy guarded.facts (seen S.state store.old store.new)) }
+    ensures seals { Seals (digest_in guarded.core) (seen S.state store.old store.new) }
+    ensures err { IfErr result (Unstarted guarded.core guarded.policy (seen S.state store.old store.new)) }
     ensures steady { OnOk result (IsCalm (seen S.state store.old store.new)) }
     ensures names { OnOk result (IsTrue (S.state store.old).told → (S.state store.new).names ≡ (S.state store.old).names ++ name.now ∷ []) }
     ensures names_err { IfErr result (AsksStore name.now (seen S.state store.old store.new)) }
     ensures opens { Opens (seen S.state store.old store.new) }
 {
-    let Guarded {
-        core,
-        policy,
-        facts,
-    } = guarded;
+    let Guarded { core, policy } = guarded;
+    let values = digest_of_values(&core);
     let opened = match start_engine(alloc, message, core, policy, name, stated, store) {
         Ok(opened) => opened,
         Err(report) => return Err(report),
     };
-    match hold_seal(alloc, store, &facts) {
+    match hold_seal(alloc, store, &values) {
         Ok(()) => Ok(opened),
-        Err(fault) => Err(refuse_seal(alloc, opened.message, fault, &facts)),
+        Err(fault) => Err(refuse_seal(alloc, opened.message, fault, &values)),
     }
 }

@@ -1,4 +1,4 @@
-// Seals of fact files over a store in memory.
+// Seals of values over a store in memory.
 ghost use Rattle.std.specs.Prelude.{IsTrue, IfOk};
 
 use cube_io::{Failing, MemStore, Reach, SEAL_LOG, Store};
@@ -8,11 +8,14 @@ use cube_seal::{SealFault, hold_seal};
 use std::alloc::Global;
 use std::test::Fail;
 
-/// The seal of the fact file `abc`, whose digest is an example of the standard of SHA-256.
-const SEALED: &[u8] = b"facts ba7816bf8f01cfea414140de5dae2223b00361a396177a9cb410ff61f20015ad\n";
+/// The seal of values whose digest is that of `abc`, an example of the standard of SHA-256.
+const SEALED: &[u8] = b"values ba7816bf8f01cfea414140de5dae2223b00361a396177a9cb410ff61f20015ad\n";
 
-/// The seal of an empty fact file.
-const OTHER: &[u8] = b"facts e3b0c44298fc1c149afbf4c8996fb92427ae41e4649b934ca495991b7852b855\n";
+/// The seal of no values.
+const OTHER: &[u8] = b"values e3b0c44298fc1c149afbf4c8996fb92427ae41e4649b934ca495991b7852b855\n";
+
+/// A seal of an earlier form, which was of the bytes of a fact file.
+const EARLIER: &[u8] = b"facts ba7816bf8f01cfea414140de5dae2223b00361a396177a9cb410ff61f20015ad\n";
 
 /// A store whose log of the seal has these bytes.
 fn store_of(alloc: Global, bytes: &[u8], failing: Vec<Failing>) -> Result<MemStore, Fail>
@@ -32,21 +35,22 @@ fn store_of(alloc: Global, bytes: &[u8], failing: Vec<Failing>) -> Result<MemSto
 #[test]
 fn seals_are_written_and_compared(rt: HostRuntime) -> Result<(), Fail> {
     let alloc = rt.alloc();
-    let other = SealFault::OtherFacts {
+    let other = SealFault::OtherValues {
         kept: digest_of(b""),
     };
-    let long = [b'f'; 72];
-    // What the log has before, how the facts are held, and what it has then.
-    let cases: [(&[u8], Result<(), SealFault>, &[u8]); 6] = [
+    let long = [b'v'; 73];
+    // What the log has before, how the values are held, and what it has then.
+    let cases: [(&[u8], Result<(), SealFault>, &[u8]); 7] = [
         (b"", Ok(()), SEALED),
         (SEALED, Ok(()), SEALED),
-        (b"facts ba7816bf", Ok(()), SEALED),
+        (b"values ba7816bf", Ok(()), SEALED),
         (OTHER, Err(other), OTHER),
         (
-            b"facts ba7816bf\n",
+            b"values ba7816bf\n",
             Err(SealFault::Damaged),
-            b"facts ba7816bf\n",
+            b"values ba7816bf\n",
         ),
+        (EARLIER, Err(SealFault::Damaged), EARLIER),
         (&long, Err(SealFault::Damaged), &long),
     ];
     for (before, held, after) in &cases {
@@ -60,14 +64,18 @@ fn seals_are_written_and_compared(rt: HostRuntime) -> Result<(), Fail> {
 
 type Held = Result<(), SealFault>;
 
-// Holds the seal of the fact file `abc` twice, where the call of the store with this number fails, and tells what the log
+// Holds the seal of values whose digest is that of `abc` twice, where the call of the store with this number fails, and tells what the log
 // has then.
 fn hold_twice(alloc: Global, call: u64) -> Result<((Held, Held), Text), Fail> {
     let reach = Reach::Part(7);
-    let mut store = store_of(alloc, b"facts ba", vec![in alloc; Failing { call, reach }]?)?;
-    let facts = digest_of(b"abc");
-    let first = hold_seal(alloc, &mut store, &facts);
-    let next = hold_seal(alloc, &mut store, &facts);
+    let mut store = store_of(
+        alloc,
+        b"values ba",
+        vec![in alloc; Failing { call, reach }]?,
+    )?;
+    let values = digest_of(b"abc");
+    let first = hold_seal(alloc, &mut store, &values);
+    let next = hold_seal(alloc, &mut store, &values);
     Ok(((first, next), store.read_all(alloc, SEAL_LOG)?))
 }
 

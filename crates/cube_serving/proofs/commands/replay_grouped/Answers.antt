@@ -73,9 +73,7 @@ returns-in-Err-open_groups-clause-answers g c =
         core = ruled.core;
         listed = x.ok.0;
         groups = ruled.groups;
-        facts = ruled.facts;
         files_make = x.ok.1;
-        digest = x.digest;
         behind = record { asked = asked_then (ruled_names c.args.cube.now x.ok.0) (c.args.script_name.now ∷ []) g.F.Folder.state c.args.files.now c.open_ruled.new.files c.open_script.new.files x.ok.2.asked z.asks; steady = z.reads.steady ∙ x.ok.2.steady };
         unstarted = c.in-Err-open_groups.ensures.err;
         passed = c.in-Err-open_groups.ensures.passed;
@@ -95,7 +93,7 @@ returns-in_default-clause-answers g c =
     let files = seen g.F.Folder.state c.args.files.now c.open_script.new.files in
     let behind : GotBehind (ruled_names cube x.ok.0 ++ c.args.script_name.now ∷ []) files = record { asked = asked_then (ruled_names cube x.ok.0) (c.args.script_name.now ∷ []) g.F.Folder.state c.args.files.now c.open_ruled.new.files c.open_script.new.files x.ok.2.asked z.asks; steady = z.reads.steady ∙ x.ok.2.steady } in
     inr (inr (inl (
-      unserved cube (c.args.script_name.now ∷ []) files x.ok.0 ruled.core ruled.facts ruled.groups g.S.Store.state c.args.store.now c.open_groups.new.store c.in-Ok-open_groups.started.value.books x.ok.1 x.digest behind y.ok y.over y.rules y.agreed y.sealed y.seals y.passed,
+      unserved cube (c.args.script_name.now ∷ []) files x.ok.0 ruled.core ruled.groups g.S.Store.state c.args.store.now c.open_groups.new.store c.in-Ok-open_groups.started.value.books x.ok.1 behind y.ok y.over y.rules y.agreed y.sealed y.seals y.passed,
       (e.0, e.1, e.2 ∙ c.with.ensures ∙ ap (λ (t : List ℕ). t ++ codes "no memory\n") y.message),
       refl,
     )))
@@ -136,7 +134,7 @@ returns-clause-answers g c =
       said = subst (λ (fs : Option (List (List ℕ × List ℕ))). IfSome fs (λ known. FileSays script_said c.args.script_name.now known (Ok script.0))) f.reads.files script.3;
       plays = (plays, most);
       playing = playing;
-      served = served cube (c.args.script_name.now ∷ []) files f.ok.0 ruled.core ruled.facts ruled.groups tells old mid e.books f.ok.1 f.digest behind y.ok y.over y.rules y.agreed y.sealed y.seals new e last end
+      served = served cube (c.args.script_name.now ∷ []) files f.ok.0 ruled.core ruled.groups tells old mid e.books f.ok.1 behind y.ok y.over y.rules y.agreed y.sealed y.seals new e last end
           true true wire.log refl refl (seal_left ruled.core tells old mid new ruled.groups e.books f.rules.few y.ok y.told z.others) y.told y.steady y.passed w z.asks;
       whole = λ u is. (
           let some = ends_whole end u _ _ wire.log w.wired.ended is in
@@ -180,16 +178,16 @@ pub returns-in-Err-open_groups-clause-others : goal.returns-in-Err-open_groups-c
 returns-in-Err-open_groups-clause-others g c = λ told k far seal. c.in-Err-open_groups.ensures.others told k (omega (arith, far, c.in-Ok.ensures.rules.few)) seal
 
 pub returns-in-Err-open_groups-clause-unkept : goal.returns-in-Err-open_groups-clause-unkept
-returns-in-Err-open_groups-clause-unkept g c = λ nine. (unstarted.failed c.in-Ok.opened.value.core c.in-Ok.opened.value.groups c.in-Ok.opened.value.facts (seen g.S.Store.state c.args.store.now c.open_groups.new.store) c.in-Err-open_groups.report c.in-Err-open_groups.ensures.err nine, unstarted.unasked c.in-Ok.opened.value.core c.in-Ok.opened.value.groups c.in-Ok.opened.value.facts (seen g.S.Store.state c.args.store.now c.open_groups.new.store) c.in-Err-open_groups.report c.in-Err-open_groups.ensures.err)
+returns-in-Err-open_groups-clause-unkept g c = λ nine. (unstarted.failed c.in-Ok.opened.value.core c.in-Ok.opened.value.groups (seen g.S.Store.state c.args.store.now c.open_groups.new.store) c.in-Err-open_groups.report c.in-Err-open_groups.ensures.err nine, unstarted.unasked c.in-Ok.opened.value.core c.in-Ok.opened.value.groups (seen g.S.Store.state c.args.store.now c.open_groups.new.store) c.in-Err-open_groups.report c.in-Err-open_groups.ensures.err)
 
 pub returns-in-Err-open_groups-clause-calls : goal.returns-in-Err-open_groups-clause-calls
 returns-in-Err-open_groups-clause-calls g c = λ nine told. omega (arith, c.in-Err-open_groups.ensures.calls told, c.in-Ok.ensures.rules.few)
 
 pub returns-in-Err-open_groups-clause-unreadable : goal.returns-in-Err-open_groups-clause-unreadable
-returns-in-Err-open_groups-clause-unreadable g c = λ five. absurd (unstarted.not_five c.in-Ok.opened.value.core c.in-Ok.opened.value.groups c.in-Ok.opened.value.facts (seen g.S.Store.state c.args.store.now c.open_groups.new.store) c.in-Err-open_groups.report c.in-Err-open_groups.ensures.err five)
+returns-in-Err-open_groups-clause-unreadable g c = λ five. absurd (unstarted.not_five c.in-Ok.opened.value.core c.in-Ok.opened.value.groups (seen g.S.Store.state c.args.store.now c.open_groups.new.store) c.in-Err-open_groups.report c.in-Err-open_groups.ensures.err five)
 
 pub returns-in-Err-open_groups-clause-words : goal.returns-in-Err-open_groups-clause-words
-returns-in-Err-open_groups-clause-words g c = λ two. unstarted.not_two c.in-Ok.opened.value.core c.in-Ok.opened.value.groups c.in-Ok.opened.value.facts (seen g.S.Store.state c.args.store.now c.open_groups.new.store) c.in-Err-open_groups.report c.in-Err-open_groups.ensures.err two
+returns-in-Err-open_groups-clause-words g c = λ two. unstarted.not_two c.in-Ok.opened.value.core c.in-Ok.opened.value.groups (seen g.S.Store.state c.args.store.now c.open_groups.new.store) c.in-Err-open_groups.report c.in-Err-open_groups.ensures.err two
 
 pub returns-in_default-clause-names : goal.returns-in_default-clause-names
 returns-in_default-clause-names g c = inr (λ told. inl (c.in-Ok-open_groups.ensures.names told))
@@ -222,7 +220,7 @@ pub returns-in-Err-clause-wire : goal.returns-in-Err-clause-wire
 returns-in-Err-clause-wire g c = λ eight. unruled.not_eight c.args.cube.now (seen g.F.Folder.state c.args.files.now c.open_ruled.new.files) c.in-Err.report c.in-Err.ensures.err eight
 
 pub returns-in-Err-open_groups-clause-output : goal.returns-in-Err-open_groups-clause-output
-returns-in-Err-open_groups-clause-output g c = λ six. absurd (unstarted.not_six c.in-Ok.opened.value.core c.in-Ok.opened.value.groups c.in-Ok.opened.value.facts (seen g.S.Store.state c.args.store.now c.open_groups.new.store) c.in-Err-open_groups.report c.in-Err-open_groups.ensures.err six)
+returns-in-Err-open_groups-clause-output g c = λ six. absurd (unstarted.not_six c.in-Ok.opened.value.core c.in-Ok.opened.value.groups (seen g.S.Store.state c.args.store.now c.open_groups.new.store) c.in-Err-open_groups.report c.in-Err-open_groups.ensures.err six)
 
 pub returns-in-Err-open_groups-clause-output_steady : goal.returns-in-Err-open_groups-clause-output_steady
 returns-in-Err-open_groups-clause-output_steady g c = λ no. refl
@@ -231,15 +229,15 @@ pub returns-in-Err-open_groups-clause-steady : goal.returns-in-Err-open_groups-c
 returns-in-Err-open_groups-clause-steady g c = λ no. c.in-Ok-open_script.ensures.reads.steady ∙ c.in-Ok.ensures.reads.steady
 
 pub returns-in-Err-open_groups-clause-memory : goal.returns-in-Err-open_groups-clause-memory
-returns-in-Err-open_groups-clause-memory g c = λ seven. (unstarted.unasked c.in-Ok.opened.value.core c.in-Ok.opened.value.groups c.in-Ok.opened.value.facts (seen g.S.Store.state c.args.store.now c.open_groups.new.store) c.in-Err-open_groups.report c.in-Err-open_groups.ensures.err, refl)
+returns-in-Err-open_groups-clause-memory g c = λ seven. (unstarted.unasked c.in-Ok.opened.value.core c.in-Ok.opened.value.groups (seen g.S.Store.state c.args.store.now c.open_groups.new.store) c.in-Err-open_groups.report c.in-Err-open_groups.ensures.err, refl)
 
 pub returns-in-Err-open_groups-clause-wire : goal.returns-in-Err-open_groups-clause-wire
-returns-in-Err-open_groups-clause-wire g c = λ eight. unstarted.not_eight c.in-Ok.opened.value.core c.in-Ok.opened.value.groups c.in-Ok.opened.value.facts (seen g.S.Store.state c.args.store.now c.open_groups.new.store) c.in-Err-open_groups.report c.in-Err-open_groups.ensures.err eight
+returns-in-Err-open_groups-clause-wire g c = λ eight. unstarted.not_eight c.in-Ok.opened.value.core c.in-Ok.opened.value.groups (seen g.S.Store.state c.args.store.now c.open_groups.new.store) c.in-Err-open_groups.report c.in-Err-open_groups.ensures.err eight
 
 pub returns-in-Err-open_groups-clause-complete : goal.returns-in-Err-open_groups-clause-complete
 returns-in-Err-open_groups-clause-complete g c = λ all has kept some files store out.
     let x = c.in-Ok.ensures in
-    inr (unstarted.accepted c.in-Ok.opened.value.core c.in-Ok.opened.value.groups c.in-Ok.opened.value.facts (seen g.S.Store.state c.args.store.now c.open_groups.new.store) c.in-Err-open_groups.report kept.told (kept.recover c.in-Ok.opened.value.core x.ok.0 c.in-Ok.opened.value.groups x.ok.1) (kept.agrees c.in-Ok.opened.value.facts x.digest) (store (unstarted.unasked c.in-Ok.opened.value.core c.in-Ok.opened.value.groups c.in-Ok.opened.value.facts (seen g.S.Store.state c.args.store.now c.open_groups.new.store) c.in-Err-open_groups.report c.in-Err-open_groups.ensures.err)) c.in-Err-open_groups.ensures.err)
+    inr (unstarted.accepted c.in-Ok.opened.value.core c.in-Ok.opened.value.groups (seen g.S.Store.state c.args.store.now c.open_groups.new.store) c.in-Err-open_groups.report kept.told (kept.recover c.in-Ok.opened.value.core x.ok.0 c.in-Ok.opened.value.groups x.ok.1) (kept.agrees c.in-Ok.opened.value.core x.ok.0 c.in-Ok.opened.value.groups x.ok.1) (store (unstarted.unasked c.in-Ok.opened.value.core c.in-Ok.opened.value.groups (seen g.S.Store.state c.args.store.now c.open_groups.new.store) c.in-Err-open_groups.report c.in-Err-open_groups.ensures.err)) c.in-Err-open_groups.ensures.err)
 
 pub returns-in_default-clause-output : goal.returns-in_default-clause-output
 returns-in_default-clause-output g c = λ six. absurd (omega (arith, c.close.ensures.0, six))

@@ -31,7 +31,7 @@ returns-clause-answers g c =
       stated_is = w.stated ∙ y.outcomes.1;
       outcomes_are = c.report_serving.ensures.outcomes ∙ c.finish.ensures ∙ sym w.outcomes;
       end = end;
-      served = served cube [] files x.ok.0 ruled.core ruled.facts ruled.groups tells old mid e.books x.ok.1 x.digest behind y.ok y.over y.rules y.agreed y.sealed y.seals new e last end
+      served = served cube [] files x.ok.0 ruled.core ruled.groups tells old mid e.books x.ok.1 behind y.ok y.over y.rules y.agreed y.sealed y.seals new e last end
           (g.W.Wire.state c.args.wire.now).told (g.W.Wire.state c.listen.new.self).told (g.W.Wire.state c.serve_groups-end.new.wire).log refl c.in-Ok-listen.ensures.told
           (seal_left ruled.core tells old mid new ruled.groups e.books x.rules.few y.ok y.told z.others) y.told y.steady y.passed w z.asks;
       status = c.report_serving.ensures.status;
@@ -48,7 +48,7 @@ returns-in-Err-listen-clause-answers g c =
     let files = seen g.F.Folder.state c.args.files.now c.open_ruled.new.files in
     let behind = subst (λ (ns : List (List ℕ)). GotBehind ns files) (sym (append-nil (ruled_names cube x.ok.0))) x.ok.2 in
     inr (inl (
-      unserved cube [] files x.ok.0 ruled.core ruled.facts ruled.groups g.S.Store.state c.args.store.now c.open_groups.new.store c.in-Ok-open_groups.started.value.books x.ok.1 x.digest behind y.ok y.over y.rules y.agreed y.sealed y.seals y.passed,
+      unserved cube [] files x.ok.0 ruled.core ruled.groups g.S.Store.state c.args.store.now c.open_groups.new.store c.in-Ok-open_groups.started.value.books x.ok.1 behind y.ok y.over y.rules y.agreed y.sealed y.seals y.passed,
       inl ((e.0, e.1, e.2 ∙ c.with-in-Err-listen.ensures ∙ ap (λ (t : List ℕ). t ++ codes "wire failed\n") y.message), c.in-Err-listen.ensures.cause.failed),
       λ told. c.in-Err-listen.ensures.log told ∙ c.requires.quiet told,
     ))
@@ -63,7 +63,7 @@ returns-in_default-clause-answers g c =
     let files = seen g.F.Folder.state c.args.files.now c.open_ruled.new.files in
     let behind = subst (λ (ns : List (List ℕ)). GotBehind ns files) (sym (append-nil (ruled_names cube x.ok.0))) x.ok.2 in
     inr (inl (
-      unserved cube [] files x.ok.0 ruled.core ruled.facts ruled.groups g.S.Store.state c.args.store.now c.open_groups.new.store c.in-Ok-open_groups.started.value.books x.ok.1 x.digest behind y.ok y.over y.rules y.agreed y.sealed y.seals y.passed,
+      unserved cube [] files x.ok.0 ruled.core ruled.groups g.S.Store.state c.args.store.now c.open_groups.new.store c.in-Ok-open_groups.started.value.books x.ok.1 behind y.ok y.over y.rules y.agreed y.sealed y.seals y.passed,
       inr (e.0, e.1, e.2 ∙ c.with.ensures ∙ ap (λ (t : List ℕ). t ++ codes "no memory\n") y.message),
       c.requires.quiet,
     ))
@@ -82,9 +82,7 @@ returns-in-Err-open_groups-clause-answers g c =
         core = ruled.core;
         listed = x.ok.0;
         groups = ruled.groups;
-        facts = ruled.facts;
         files_make = x.ok.1;
-        digest = x.digest;
         behind = subst (λ (ns : List (List ℕ)). GotBehind ns files) (sym (append-nil (ruled_names cube x.ok.0))) x.ok.2;
         unstarted = c.in-Err-open_groups.ensures.err;
         passed = c.in-Err-open_groups.ensures.passed;
@@ -173,16 +171,16 @@ pub returns-in-Err-open_groups-clause-others : goal.returns-in-Err-open_groups-c
 returns-in-Err-open_groups-clause-others g c = λ told k far seal. c.in-Err-open_groups.ensures.others told k (omega (arith, far, c.in-Ok.ensures.rules.few)) seal
 
 pub returns-in-Err-open_groups-clause-unkept : goal.returns-in-Err-open_groups-clause-unkept
-returns-in-Err-open_groups-clause-unkept g c = λ nine. (unstarted.failed c.in-Ok.opened.value.core c.in-Ok.opened.value.groups c.in-Ok.opened.value.facts (seen g.S.Store.state c.args.store.now c.open_groups.new.store) c.in-Err-open_groups.report c.in-Err-open_groups.ensures.err nine, unstarted.unasked c.in-Ok.opened.value.core c.in-Ok.opened.value.groups c.in-Ok.opened.value.facts (seen g.S.Store.state c.args.store.now c.open_groups.new.store) c.in-Err-open_groups.report c.in-Err-open_groups.ensures.err)
+returns-in-Err-open_groups-clause-unkept g c = λ nine. (unstarted.failed c.in-Ok.opened.value.core c.in-Ok.opened.value.groups (seen g.S.Store.state c.args.store.now c.open_groups.new.store) c.in-Err-open_groups.report c.in-Err-open_groups.ensures.err nine, unstarted.unasked c.in-Ok.opened.value.core c.in-Ok.opened.value.groups (seen g.S.Store.state c.args.store.now c.open_groups.new.store) c.in-Err-open_groups.report c.in-Err-open_groups.ensures.err)
 
 pub returns-in-Err-open_groups-clause-calls : goal.returns-in-Err-open_groups-clause-calls
 returns-in-Err-open_groups-clause-calls g c = λ nine told. omega (arith, c.in-Err-open_groups.ensures.calls told, c.in-Ok.ensures.rules.few)
 
 pub returns-in-Err-open_groups-clause-unreadable : goal.returns-in-Err-open_groups-clause-unreadable
-returns-in-Err-open_groups-clause-unreadable g c = λ five. absurd (unstarted.not_five c.in-Ok.opened.value.core c.in-Ok.opened.value.groups c.in-Ok.opened.value.facts (seen g.S.Store.state c.args.store.now c.open_groups.new.store) c.in-Err-open_groups.report c.in-Err-open_groups.ensures.err five)
+returns-in-Err-open_groups-clause-unreadable g c = λ five. absurd (unstarted.not_five c.in-Ok.opened.value.core c.in-Ok.opened.value.groups (seen g.S.Store.state c.args.store.now c.open_groups.new.store) c.in-Err-open_groups.report c.in-Err-open_groups.ensures.err five)
 
 pub returns-in-Err-open_groups-clause-words : goal.returns-in-Err-open_groups-clause-words
-returns-in-Err-open_groups-clause-words g c = λ two. unstarted.not_two c.in-Ok.opened.value.core c.in-Ok.opened.value.groups c.in-Ok.opened.value.facts (seen g.S.Store.state c.args.store.now c.open_groups.new.store) c.in-Err-open_groups.report c.in-Err-open_groups.ensures.err two
+returns-in-Err-open_groups-clause-words g c = λ two. unstarted.not_two c.in-Ok.opened.value.core c.in-Ok.opened.value.groups (seen g.S.Store.state c.args.store.now c.open_groups.new.store) c.in-Err-open_groups.report c.in-Err-open_groups.ensures.err two
 
 pub returns-in_default-clause-names : goal.returns-in_default-clause-names
 returns-in_default-clause-names g c = inr (λ told. inl (c.in-Ok-open_groups.ensures.names told))
@@ -221,7 +219,7 @@ pub returns-in-Err-open_groups-clause-heard : goal.returns-in-Err-open_groups-cl
 returns-in-Err-open_groups-clause-heard g c = inl refl
 
 pub returns-in-Err-open_groups-clause-unheard : goal.returns-in-Err-open_groups-clause-unheard
-returns-in-Err-open_groups-clause-unheard g c = λ eight. absurd (unstarted.not_eight c.in-Ok.opened.value.core c.in-Ok.opened.value.groups c.in-Ok.opened.value.facts (seen g.S.Store.state c.args.store.now c.open_groups.new.store) c.in-Err-open_groups.report c.in-Err-open_groups.ensures.err eight)
+returns-in-Err-open_groups-clause-unheard g c = λ eight. absurd (unstarted.not_eight c.in-Ok.opened.value.core c.in-Ok.opened.value.groups (seen g.S.Store.state c.args.store.now c.open_groups.new.store) c.in-Err-open_groups.report c.in-Err-open_groups.ensures.err eight)
 
 pub returns-in-Err-open_groups-clause-steady : goal.returns-in-Err-open_groups-clause-steady
 returns-in-Err-open_groups-clause-steady g c = λ no. c.in-Ok.ensures.reads.steady
@@ -230,15 +228,15 @@ pub returns-in-Err-open_groups-clause-wire_steady : goal.returns-in-Err-open_gro
 returns-in-Err-open_groups-clause-wire_steady g c = λ no. refl
 
 pub returns-in-Err-open_groups-clause-memory : goal.returns-in-Err-open_groups-clause-memory
-returns-in-Err-open_groups-clause-memory g c = λ seven. (unstarted.unasked c.in-Ok.opened.value.core c.in-Ok.opened.value.groups c.in-Ok.opened.value.facts (seen g.S.Store.state c.args.store.now c.open_groups.new.store) c.in-Err-open_groups.report c.in-Err-open_groups.ensures.err, c.requires.quiet)
+returns-in-Err-open_groups-clause-memory g c = λ seven. (unstarted.unasked c.in-Ok.opened.value.core c.in-Ok.opened.value.groups (seen g.S.Store.state c.args.store.now c.open_groups.new.store) c.in-Err-open_groups.report c.in-Err-open_groups.ensures.err, c.requires.quiet)
 
 pub returns-in-Err-open_groups-clause-output : goal.returns-in-Err-open_groups-clause-output
-returns-in-Err-open_groups-clause-output g c = λ six. unstarted.not_six c.in-Ok.opened.value.core c.in-Ok.opened.value.groups c.in-Ok.opened.value.facts (seen g.S.Store.state c.args.store.now c.open_groups.new.store) c.in-Err-open_groups.report c.in-Err-open_groups.ensures.err six
+returns-in-Err-open_groups-clause-output g c = λ six. unstarted.not_six c.in-Ok.opened.value.core c.in-Ok.opened.value.groups (seen g.S.Store.state c.args.store.now c.open_groups.new.store) c.in-Err-open_groups.report c.in-Err-open_groups.ensures.err six
 
 pub returns-in-Err-open_groups-clause-complete : goal.returns-in-Err-open_groups-clause-complete
 returns-in-Err-open_groups-clause-complete g c = λ all kept some files store wire.
     let x = c.in-Ok.ensures in
-    inr (unstarted.accepted c.in-Ok.opened.value.core c.in-Ok.opened.value.groups c.in-Ok.opened.value.facts (seen g.S.Store.state c.args.store.now c.open_groups.new.store) c.in-Err-open_groups.report kept.told (kept.recover c.in-Ok.opened.value.core x.ok.0 c.in-Ok.opened.value.groups x.ok.1) (kept.agrees c.in-Ok.opened.value.facts x.digest) (store (unstarted.unasked c.in-Ok.opened.value.core c.in-Ok.opened.value.groups c.in-Ok.opened.value.facts (seen g.S.Store.state c.args.store.now c.open_groups.new.store) c.in-Err-open_groups.report c.in-Err-open_groups.ensures.err)) c.in-Err-open_groups.ensures.err)
+    inr (unstarted.accepted c.in-Ok.opened.value.core c.in-Ok.opened.value.groups (seen g.S.Store.state c.args.store.now c.open_groups.new.store) c.in-Err-open_groups.report kept.told (kept.recover c.in-Ok.opened.value.core x.ok.0 c.in-Ok.opened.value.groups x.ok.1) (kept.agrees c.in-Ok.opened.value.core x.ok.0 c.in-Ok.opened.value.groups x.ok.1) (store (unstarted.unasked c.in-Ok.opened.value.core c.in-Ok.opened.value.groups (seen g.S.Store.state c.args.store.now c.open_groups.new.store) c.in-Err-open_groups.report c.in-Err-open_groups.ensures.err)) c.in-Err-open_groups.ensures.err)
 
 pub returns-in_default-clause-heard : goal.returns-in_default-clause-heard
 returns-in_default-clause-heard g c = inl refl

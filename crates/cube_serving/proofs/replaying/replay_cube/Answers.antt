@@ -71,9 +71,7 @@ returns-in-Err-open_engine-clause-answers g c =
         record {
           core = guarded.core;
           policy = guarded.policy;
-          facts = guarded.facts;
           files_make = x.ok.1;
-          digest = x.digest;
           unstarted = c.in-Err-open_engine.ensures.err;
           passed = c.in-Err-open_engine.ensures.crash;
           seals = c.in-Err-open_engine.ensures.seals;
@@ -95,9 +93,8 @@ returns-in_default-clause-answers g c =
       record {
         core = guarded.core;
         policy = guarded.policy;
-        facts = guarded.facts;
         history = engine.history;
-        opened = opened c.args.cube.now (g.F.Folder.state c.args.files.now) g.S.Store.state c.args.store.now c.open_engine.new.store guarded.core guarded.policy guarded.facts engine c.args.stated x.ok.1 x.digest y.engine y.rules y.history y.agreed y.sealed y.seals;
+        opened = opened c.args.cube.now (g.F.Folder.state c.args.files.now) g.S.Store.state c.args.store.now c.open_engine.new.store guarded.core guarded.policy engine c.args.stated x.ok.1 y.engine y.rules y.history y.agreed y.sealed y.seals;
         passed = y.crash;
         exact = y.exact;
       },
@@ -127,7 +124,7 @@ returns-clause-answers g c =
     let playing = c.taken-taken.ensures.playing in
     let plays : wire.script ≡ (wire_of script.0).script = ap (λ (p : Plan). p.events) plan ∙ ap (λ (w : Playing). w.script) script.1 in
     let most = same_room wire.most room_for_sends (ap (λ (p : Plan). p.sends) plan ∙ ap (λ (w : Playing). w.most.sends) script.1) (ap (λ (p : Plan). p.bytes) plan ∙ ap (λ (w : Playing). w.most.bytes) script.1) in
-    let at_start = opened c.args.cube.now (g.F.Folder.state c.args.files.now) tells c.args.store.now mid guarded.core guarded.policy guarded.facts e c.args.stated files.ok.1 files.digest y.engine y.rules y.history y.agreed y.sealed y.seals in
+    let at_start = opened c.args.cube.now (g.F.Folder.state c.args.files.now) tells c.args.store.now mid guarded.core guarded.policy e c.args.stated files.ok.1 y.engine y.rules y.history y.agreed y.sealed y.seals in
     inr (inr (inr (
       record {
         script = script.0;
@@ -139,8 +136,8 @@ returns-clause-answers g c =
         said = subst (λ (fs : Option (List (List ℕ × List ℕ))). IfSome fs (λ known. FileSays script_said c.args.script_name.now known (Ok script.0))) files.reads.files script.3;
         plays = (plays, most);
         playing = playing;
-        served = served c.args.cube.now (g.F.Folder.state c.args.files.now) (tells mid) (seen tells c.args.store.now new) end true true wire.log guarded.core guarded.policy guarded.facts e last c.args.stated
-            (still_open c.args.cube.now (g.F.Folder.state c.args.files.now) tells c.args.store.now mid new guarded.core guarded.policy guarded.facts e.history (λ told. x.others (subst IsTrue (sym y.opens.told) told) SEAL_LOG (λ zero. cc)) at_start)
+        served = served c.args.cube.now (g.F.Folder.state c.args.files.now) (tells mid) (seen tells c.args.store.now new) end true true wire.log guarded.core guarded.policy e last c.args.stated
+            (still_open c.args.cube.now (g.F.Folder.state c.args.files.now) tells c.args.store.now mid new guarded.core guarded.policy e.history (λ told. x.others (subst IsTrue (sym y.opens.told) told) SEAL_LOG (λ zero. cc)) at_start)
             y.engine y.exact y.crash refl x.wired.wired (λ told exact crash. x.wired.held (subst IsTrue (sym y.opens.told) told) exact c.args.store.now crash (sym y.opens.told)) (λ told exact crash. x.survived (subst IsTrue (sym y.opens.told) told) exact c.args.store.now crash (sym y.opens.told)) y.steady x.asks;
         whole = λ u is. (
             let some = ends_whole end u _ _ wire.log x.wired.wired.ended is in

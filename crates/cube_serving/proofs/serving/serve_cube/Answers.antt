@@ -23,15 +23,15 @@ returns-clause-answers g c =
     let new = c.serve_engine-end.new.store in
     let end = c.serve_engine-end.result in
     let x = c.serve_engine-end.ensures in
-    let at_start = opened c.args.cube.now (g.F.Folder.state c.args.files.now) tells c.args.store.now mid guarded.core guarded.policy guarded.facts e c.args.stated files.ensures.ok.1 files.ensures.digest y.engine y.rules y.history y.agreed y.sealed y.seals in
+    let at_start = opened c.args.cube.now (g.F.Folder.state c.args.files.now) tells c.args.store.now mid guarded.core guarded.policy e c.args.stated files.ensures.ok.1 y.engine y.rules y.history y.agreed y.sealed y.seals in
     inr (inr (
       record {
         asking = asking e last;
         stated_is = ap (λ (z : Engine). z.left) y.engine;
         outcomes_are = c.report_serving.ensures.outcomes ∙ c.finish.ensures;
         end = end;
-        served = served c.args.cube.now (g.F.Folder.state c.args.files.now) (tells mid) (seen tells c.args.store.now new) end (g.W.Wire.state c.args.wire.now).told (g.W.Wire.state c.listen.new.self).told (g.W.Wire.state c.serve_engine-end.new.wire).log guarded.core guarded.policy guarded.facts e last c.args.stated
-            (still_open c.args.cube.now (g.F.Folder.state c.args.files.now) tells c.args.store.now mid new guarded.core guarded.policy guarded.facts e.history (λ told. x.others (subst IsTrue (sym y.opens.told) told) SEAL_LOG (λ zero. cc)) at_start)
+        served = served c.args.cube.now (g.F.Folder.state c.args.files.now) (tells mid) (seen tells c.args.store.now new) end (g.W.Wire.state c.args.wire.now).told (g.W.Wire.state c.listen.new.self).told (g.W.Wire.state c.serve_engine-end.new.wire).log guarded.core guarded.policy e last c.args.stated
+            (still_open c.args.cube.now (g.F.Folder.state c.args.files.now) tells c.args.store.now mid new guarded.core guarded.policy e.history (λ told. x.others (subst IsTrue (sym y.opens.told) told) SEAL_LOG (λ zero. cc)) at_start)
             y.engine y.exact y.crash c.in-Ok-listen.ensures.told x.wired.wired (λ told exact crash. x.wired.held (subst IsTrue (sym y.opens.told) told) exact c.args.store.now crash (sym y.opens.told)) (λ told exact crash. x.survived (subst IsTrue (sym y.opens.told) told) exact c.args.store.now crash (sym y.opens.told)) y.steady x.asks;
         status = c.report_serving.ensures.status;
         text = c.report_serving.ensures.text;
@@ -50,9 +50,8 @@ returns-in-Err-listen-clause-answers g c =
       record {
         core = guarded.core;
         policy = guarded.policy;
-        facts = guarded.facts;
         history = engine.history;
-        opened = opened c.args.cube.now (g.F.Folder.state c.args.files.now) g.S.Store.state c.args.store.now c.open_engine.new.store guarded.core guarded.policy guarded.facts engine c.args.stated files.ensures.ok.1 files.ensures.digest y.engine y.rules y.history y.agreed y.sealed y.seals;
+        opened = opened c.args.cube.now (g.F.Folder.state c.args.files.now) g.S.Store.state c.args.store.now c.open_engine.new.store guarded.core guarded.policy engine c.args.stated files.ensures.ok.1 y.engine y.rules y.history y.agreed y.sealed y.seals;
         passed = y.crash;
         exact = y.exact;
       },
@@ -100,9 +99,7 @@ returns-in-Err-open_engine-clause-answers g c =
         record {
           core = guarded.core;
           policy = guarded.policy;
-          facts = guarded.facts;
           files_make = c.in-Ok.ensures.ok.1;
-          digest = c.in-Ok.ensures.digest;
           unstarted = c.in-Err-open_engine.ensures.err;
           passed = c.in-Err-open_engine.ensures.crash;
           seals = c.in-Err-open_engine.ensures.seals;
@@ -123,9 +120,8 @@ returns-in_default-clause-answers g c =
       record {
         core = guarded.core;
         policy = guarded.policy;
-        facts = guarded.facts;
         history = engine.history;
-        opened = opened c.args.cube.now (g.F.Folder.state c.args.files.now) g.S.Store.state c.args.store.now c.open_engine.new.store guarded.core guarded.policy guarded.facts engine c.args.stated files.ensures.ok.1 files.ensures.digest y.engine y.rules y.history y.agreed y.sealed y.seals;
+        opened = opened c.args.cube.now (g.F.Folder.state c.args.files.now) g.S.Store.state c.args.store.now c.open_engine.new.store guarded.core guarded.policy engine c.args.stated files.ensures.ok.1 y.engine y.rules y.history y.agreed y.sealed y.seals;
         passed = y.crash;
         exact = y.exact;
       },
