@@ -4,10 +4,8 @@ use Rattle.std.proofs.Common.{◌≡◌, ◌⊎◌, ℕ, List, Option, Ok, Err, 
 use Rattle.cube_model.specs.declared.policy.Policy.{Policy}
 use Rattle.cube_model.specs.Cores.{Core}
 use Rattle.cube_io.specs.Causes.{Rose}
-use Rattle.cube_io.specs.Files.{file_of}
 use Rattle.cube_io.specs.Seen.{FolderState, SinkState, Seen}
-use Rattle.cube_journal.specs.Digests.{digest_of}
-use Rattle.cube_opening.specs.Opening.{Make, MakesAll, IsDigest, HasAll}
+use Rattle.cube_opening.specs.Opening.{Make, MakesAll, HasAll}
 use Rattle.cube_opening.specs.declared.cube_files.CubeFiles.{CubeFiles}
 use Rattle.cube_opening.specs.declared.report.Report.{Report}
 use Rattle.cube_app.specs.Carrying.{Handing, Carries, IsUncarried, HandsSo, HandsOver}
@@ -31,9 +29,6 @@ done_by n (inr (inr (inr e))) three six = inr e
 
 pub make_before : (cube : CubeFiles) (now then : FolderState) (core : Core) (policy : Policy) → then.files ≡ now.files → Make cube then core policy → Make cube now core policy
 make_before cube now then core policy same make = subst (λ (fs : Option (List (List ℕ × List ℕ))). IfSome fs (MakesAll cube core policy)) same make
-
-pub digest_before : (cube : CubeFiles) (now then : FolderState) (facts : List ℕ) → then.files ≡ now.files → IsDigest cube then facts → IsDigest cube now facts
-digest_before cube now then facts same digest = subst (λ (fs : Option (List (List ℕ × List ℕ))). IfSome fs (λ known. IsSomeAnd (file_of known cube.facts) (λ bytes. facts ≡ digest_of bytes))) same digest
 
 pub has_then : (cube : CubeFiles) (now then : FolderState) → then.files ≡ now.files → HasAll cube now → HasAll cube then
 has_then cube now then same has = subst (λ (fs : Option (List (List ℕ × List ℕ))). IsSomeAnd fs (λ known. (core : Core) × ((policy : Policy) × MakesAll cube core policy known))) (sym same) has

@@ -96,16 +96,16 @@ all_files cube folder r (inl (inl e)) = one_file dims_said cube.dims folder r e.
 all_files cube folder r (inl (inr e)) = one_file (facts_said e.0) cube.facts folder r e.2.unopened
 all_files cube folder r (inr e) = one_file (policy_said e.0.dims) cube.policy folder r e.2.unopened
 
-journal : {S : Type 0} (core : Core) (policy : Policy) (facts : List ℕ) (store : Seen StoreState S) (r : Report) → Unstarted core policy facts store r → Known r.status
-journal core policy facts store r (inl e) = no_memory e.0.0
-journal core policy facts store r (inr (inl e)) = no_memory e.0.0
-journal core policy facts store r (inr (inr (inl e))) = unkept e.0.0
-journal core policy facts store r (inr (inr (inr (inl (fault, e, calm))))) = unopened e.1.0
-journal core policy facts store r (inr (inr (inr (inr (fault, e, calm))))) = unopened e.1.0
+journal : {S : Type 0} (core : Core) (policy : Policy) (store : Seen StoreState S) (r : Report) → Unstarted core policy store r → Known r.status
+journal core policy store r (inl e) = no_memory e.0.0
+journal core policy store r (inr (inl e)) = no_memory e.0.0
+journal core policy store r (inr (inr (inl e))) = unkept e.0.0
+journal core policy store r (inr (inr (inr (inl (fault, e, calm))))) = unopened e.1.0
+journal core policy store r (inr (inr (inr (inr (fault, e, calm))))) = unopened e.1.0
 
 closed : {F S : Type 0} (cube : CubeFiles) (names : List (List ℕ)) (files : Seen FolderState F) (store : Seen StoreState S) (r : Report) → EndsClosed cube names files store r → Known r.status
 closed cube names files store r (inl e) = all_files cube files r e.0
-closed cube names files store r (inr e) = journal e.0.core e.0.policy e.0.facts store r e.0.unstarted
+closed cube names files store r (inr e) = journal e.0.core e.0.policy store r e.0.unstarted
 
 talk : (n : ℕ) (end : Ending) → n ≡ status_of end → Known n
 talk n Ended e = done e
@@ -176,16 +176,16 @@ refused_at core k [] store r e = absurd e
 refused_at core k (g ∷ gs) store r (inl (fault, e)) = unopened e.1.0
 refused_at core k (g ∷ gs) store r (inr (some, e)) = refused_at core (suc k) gs store r e
 
-journals : {S : Type 0} (core : Core) (gs : List RuledGroup) (facts : List ℕ) (store : Seen StoreState S) (r : Report) → UnstartedGroups core gs facts store r → Known r.status
-journals core gs facts store r (inl e) = no_memory e.0.0
-journals core gs facts store r (inr (inl e)) = no_memory e.0.0
-journals core gs facts store r (inr (inr (inl e))) = unkept e.0.0
-journals core gs facts store r (inr (inr (inr (inl e)))) = refused_at core 0 gs store.before r e.0
-journals core gs facts store r (inr (inr (inr (inr (fault, e, calm))))) = unopened e.1.0
+journals : {S : Type 0} (core : Core) (gs : List RuledGroup) (store : Seen StoreState S) (r : Report) → UnstartedGroups core gs store r → Known r.status
+journals core gs store r (inl e) = no_memory e.0.0
+journals core gs store r (inr (inl e)) = no_memory e.0.0
+journals core gs store r (inr (inr (inl e))) = unkept e.0.0
+journals core gs store r (inr (inr (inr (inl e)))) = refused_at core 0 gs store.before r e.0
+journals core gs store r (inr (inr (inr (inr (fault, e, calm))))) = unopened e.1.0
 
 closed_groups : {F S : Type 0} (cube : RuledFiles) (more : List (List ℕ)) (files : Seen FolderState F) (store : Seen StoreState S) (r : Report) → EndsClosedGroups cube more files store r → Known r.status
 closed_groups cube more files store r (inl e) = of_files (files_status cube files r e.0)
-closed_groups cube more files store r (inr e) = journals e.core e.groups e.facts store r e.unstarted
+closed_groups cube more files store r (inr e) = journals e.core e.groups store r e.unstarted
 
 serves_groups : {F S W : Type 0} (cube : RuledFiles) (stated : ℕ) (files : Seen FolderState F) (store : Seen StoreState S) (wire : Seen WireState W) (r : Report) → GroupsServeEnds cube stated files store wire r → Known r.status
 serves_groups cube stated files store wire r (inl e) = closed_groups cube [] files store r e.0
@@ -262,7 +262,7 @@ advises cube workload files out r (inr e) = puts (first_text e.0.core e.0.policy
 
 advises_later : {F S O : Type 0} (cube : CubeFiles) (workload : Option (List ℕ)) (files : Seen FolderState F) (store : Seen StoreState S) (out : Seen SinkState O) (r : Report) → LaterEnds cube workload files store out r → Known r.status
 advises_later cube workload files store out r (inl e) = unread cube workload files r e.0
-advises_later cube workload files store out r (inr (inl e)) = journal e.0.core e.0.policy e.0.facts store r e.0.unstarted
+advises_later cube workload files store out r (inr (inl e)) = journal e.0.core e.0.policy store r e.0.unstarted
 advises_later cube workload files store out r (inr (inr e)) = puts (later_text e.0.core e.0.policy e.0.history e.0.bytes) out r e.0.puts
 
 made : {O : Type 0} (making : Making) (out : Seen SinkState O) (r : Report) → DemoRun making out r → Known r.status

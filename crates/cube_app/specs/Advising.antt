@@ -94,9 +94,8 @@ pub record Advised {O : Type 0} (cube : CubeFiles) (workload : Option (List ℕ)
 pub record AdvisedLater {S O : Type 0} (cube : CubeFiles) (workload : Option (List ℕ)) (files : FolderState) (store : Seen StoreState S) (out : Seen SinkState O) (r : Report) : Type 0 where
   pub core : Core
   pub policy : Policy
-  pub facts : List ℕ
   pub history : List Entry
-  pub opened : IsOpen cube files store core policy facts history
+  pub opened : IsOpen cube files store core policy history
   pub bytes : Option (List ℕ)
   pub said : WorkloadSays workload files bytes
   pub is : IsAdvice core policy history

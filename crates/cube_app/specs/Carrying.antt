@@ -143,9 +143,8 @@ IsHanded x = Continues (named x.older x.older_policy) (named x.core x.policy) ×
 -- The older journal stays: every crash leaves its history.
 pub record CarriedOver {S O : Type 0} (cube older : CubeFiles) (files : FolderState) (store : Seen StoreState S) (out : Seen SinkState O) (r : Report) : Type 0 where
   pub handing : Handing
-  pub facts : List ℕ
   pub files_make : Make cube files handing.core handing.policy
-  pub opened : IsOpen older files store handing.older handing.older_policy facts handing.history
+  pub opened : IsOpen older files store handing.older handing.older_policy handing.history
   pub hands : HandsOver handing out r
   pub passed : Recovers handing.older handing.older_policy store
   pub exact : IsTrue store.before.told → IsExact handing.older handing.older_policy handing.history (store.after.logs 0).state

@@ -42,9 +42,8 @@ KeepsIf Compacted core policy h = KeepsAll core policy h
 pub record Told {S O : Type 0} (telling : Telling) (cube : CubeFiles) (cell : List ℕ) (files : FolderState) (store : Seen StoreState S) (out : Seen SinkState O) (r : Report) : Type 0 where
   pub core : Core
   pub policy : Policy
-  pub facts : List ℕ
   pub history : List Entry
-  pub opened : IsOpen cube files store core policy facts history
+  pub opened : IsOpen cube files store core policy history
   pub tells : Tells (told_text telling core policy history cell) out r
   pub keeps : KeepsIf telling core policy history
   pub passed : Recovers core policy store

@@ -95,9 +95,8 @@ SaysOne Is out r =
 pub record ToldWhy {S O : Type 0} (cube : CubeFiles) (query : List ℕ) (files : FolderState) (store : Seen StoreState S) (out : Seen SinkState O) (r : Report) : Type 0 where
   pub core : Core
   pub policy : Policy
-  pub facts : List ℕ
   pub history : List Entry
-  pub opened : IsOpen cube files store core policy facts history
+  pub opened : IsOpen cube files store core policy history
   pub says : SaysOne (IsWhyOf core policy history query) out r
   pub passed : Recovers core policy store
   pub exact : IsTrue store.before.told → IsExact core policy history (store.after.logs 0).state
@@ -134,11 +133,10 @@ reason_said bytes = unless_long (codes "reason") bytes (Ok bytes)
 pub record ToldWhether {S O : Type 0} (cube : CubeFiles) (query name : List ℕ) (files : FolderState) (store : Seen StoreState S) (out : Seen SinkState O) (r : Report) : Type 0 where
   pub core : Core
   pub policy : Policy
-  pub facts : List ℕ
   pub history : List Entry
   pub reason : List ℕ
   pub said : IfSome files.files (λ known. FileSays reason_said name known (Ok reason))
-  pub opened : IsOpen cube files store core policy facts history
+  pub opened : IsOpen cube files store core policy history
   pub says : SaysOne (IsWhetherOf core policy history query reason) out r
   pub passed : Recovers core policy store
   pub exact : IsTrue store.before.told → IsExact core policy history (store.after.logs 0).state

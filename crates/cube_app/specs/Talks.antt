@@ -70,10 +70,9 @@ IsInLine core policy first ls os h = (here : List Room) × IsLineInHand (manner 
 pub record Asked {S I O : Type 0} (cube : CubeFiles) (files : FolderState) (store : Seen StoreState S) (talk : Talk) (input : Seen SourceState I) (out : Seen SinkState O) : Type 0 where
   pub core : Core
   pub policy : Policy
-  pub facts : List ℕ
   pub first : List Entry
   pub last : List Entry
-  pub opened : IsOpen cube files store core policy facts first
+  pub opened : IsOpen cube files store core policy first
   pub talked : asking.Talked (manner core.dims) (alone (world core policy) first) talk input out
   pub last_is : last ≡ first_history (rooms_behind (manner core.dims) (alone (world core policy) first) talked.first talk.outcomes)
   pub hides : Hides core policy last (λ w. asking.Says talk.ending (manner core.dims) (alone w first) talk.stated talk.outcomes talked.text out.before.written out.after.written)

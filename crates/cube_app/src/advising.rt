@@ -6,7 +6,7 @@ ghost use Rattle.cube_io.specs.Causes.{Rose};
 ghost use Rattle.cube_io.specs.Files.{max_file};
 ghost use Rattle.cube_io.specs.Seen.{seen};
 ghost use Rattle.cube_model.specs.Policies.{IsPolicy};
-ghost use Rattle.cube_opening.specs.Opening.{FileSays, AskedFor, EndsAt, GotBehind, HasAll, IsDigest, IsSteady, Make, Reads};
+ghost use Rattle.cube_opening.specs.Opening.{FileSays, AskedFor, EndsAt, GotBehind, HasAll, IsSteady, Make, Reads};
 ghost use Rattle.cube_opening.specs.Reports.{IsReport};
 ghost use Rattle.cube_serving.specs.Starting.{AsksStore, OnlyJournal};
 ghost use Rattle.cube_app.specs.Advising.{workload_said, WorkloadSays, named_with, EndsUnread, Puts, FirstEnds, LaterEnds, AdviseEnds, AsksIfNamed, HasWorkload, AdviseCompletes};
@@ -80,7 +80,6 @@ fn open_advisable<F: Folder>(
     requires { message ≡ [] }
     ensures ok { IfOk result (λ opened. (opened.message ≡ []) × Make cube.now (F.state files.old) opened.value.guarded.core opened.value.guarded.policy) }
     ensures rules { IfOk result (λ opened. IsPolicy opened.value.guarded.core.dims opened.value.guarded.policy) }
-    ensures digest { IfOk result (λ opened. IsDigest cube.now (F.state files.old) opened.value.guarded.facts) }
     ensures said { IfOk result (λ opened. WorkloadSays workload.now (F.state files.old) opened.value.workload) }
     ensures err { IfErr result (EndsUnread cube.now workload.now (seen F.state files.old files.new)) }
     ensures behind { OnOk result (GotBehind (named_with cube.now workload.now) (seen F.state files.old files.new)) }

@@ -18,7 +18,7 @@ use cube_core::{Core, Steps};
 use cube_io::{Folder, Sink};
 use cube_model::{NoMemory, Policy, Text};
 use cube_opening::{
-    CubeFiles, Message, Opened, Report, no_message, open_unsealed, read_bytes, refuse, statuses,
+    CubeFiles, Message, Opened, Report, no_message, open_guarded, read_bytes, refuse, statuses,
 };
 use std::alloc::Global;
 use std::marker::Brand;
@@ -124,7 +124,7 @@ pub fn audit<F: Folder, O: Sink>(
     ensures store { result.status ≢ 9 }
     ensures outcomes { result.outcomes ≡ [] }
 {
-    let opened = match open_unsealed(alloc, message, cube, files) {
+    let opened = match open_guarded(alloc, message, cube, files) {
         Ok(opened) => opened,
         Err(report) => return report,
     };

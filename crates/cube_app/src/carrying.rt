@@ -26,9 +26,7 @@ use cube_engine::Engine;
 use cube_io::{Folder, Sink, Store};
 use cube_journal::{digest_of, journal2_text, public_text};
 use cube_model::{Entry, History, NoMemory, Places, Policy, Text};
-use cube_opening::{
-    CubeFiles, Message, Report, open_guarded, open_unsealed, refuse_line, statuses,
-};
+use cube_opening::{CubeFiles, Message, Report, open_guarded, refuse_line, statuses};
 use cube_serving::open_engine;
 use std::alloc::Global;
 
@@ -200,7 +198,7 @@ pub fn carry_over<F: Folder, S: Store, O: Sink>(
     ensures wire { result.status ≢ 8 }
     ensures outcomes { result.outcomes ≡ [] }
 {
-    let opened = match open_unsealed(alloc, message, cube, files) {
+    let opened = match open_guarded(alloc, message, cube, files) {
         Ok(opened) => opened,
         Err(report) => return report,
     };

@@ -195,8 +195,10 @@ fn asks(words: &[Text]) -> bool {
 fn explained(text: &[u8]) -> &'static str {
     if text.starts_with(b"journal: digest ") {
         "the journal was begun for other dimensions, another policy or other points\n"
-    } else if text.starts_with(b"journal: facts ") {
-        "the journal was begun over another fact file\n"
+    } else if text.starts_with(b"journal: values ") {
+        "the journal was begun over other values\n"
+    } else if text.starts_with(b"journal: seal damaged") {
+        "a seal that begins with `facts` is of an earlier form: move it away only where the fact file is known to be the one that was asked\n"
     } else {
         ""
     }

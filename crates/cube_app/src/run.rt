@@ -25,8 +25,8 @@ use cube_engine::Engine;
 use cube_io::{Folder, Sink, Source, Store, Wire};
 use cube_model::{NoMemory, Text};
 use cube_opening::{
-    CubeFiles, Message, Report, no_message, open_flat, open_guarded, open_unsealed, spent_message,
-    statuses, with_text,
+    CubeFiles, Message, Report, no_message, open_flat, open_guarded, spent_message, statuses,
+    with_text,
 };
 use cube_serving::{open_engine, replay_cube, replay_grouped, serve_cube, serve_grouped};
 use cube_talk::{Carry, Ending, TalkEnd, converse_by_asks, converse_by_sums};
@@ -195,7 +195,7 @@ fn check<F: Folder, O: Sink>(
     ensures store { result.status ≢ 9 }
     ensures outcomes { result.outcomes ≡ [] }
 {
-    let opened = match open_unsealed(alloc, message, cube, files) {
+    let opened = match open_guarded(alloc, message, cube, files) {
         Ok(opened) => opened,
         Err(report) => return report,
     };

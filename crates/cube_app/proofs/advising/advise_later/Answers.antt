@@ -39,9 +39,7 @@ returns-in-Err-open_engine-clause-answers g c =
       record {
         core = guarded.core;
         policy = guarded.policy;
-        facts = guarded.facts;
         files_make = c.in-Ok.ensures.ok.1;
-        digest = c.in-Ok.ensures.digest;
         unstarted = c.in-Err-open_engine.ensures.err;
         passed = c.in-Err-open_engine.ensures.crash;
         seals = c.in-Err-open_engine.ensures.seals;
@@ -60,12 +58,11 @@ returns-clause-answers g c =
     let engine = c.in-Ok-open_engine.started.value in
     let text = λ (e : Engine). later_text e.core e.policy e.history read.workload in
     let out = seen g.O.Sink.state c.args.out.now c.put_advice.new.out in
-    let is_open = opened c.args.cube.now (g.F.Folder.state c.args.files.now) g.S.Store.state c.args.store.now c.open_engine.new.store core policy guarded.facts engine 1 c.in-Ok.ensures.ok.1 c.in-Ok.ensures.digest y.engine y.rules y.history y.agreed y.sealed y.seals in
+    let is_open = opened c.args.cube.now (g.F.Folder.state c.args.files.now) g.S.Store.state c.args.store.now c.open_engine.new.store core policy engine 1 c.in-Ok.ensures.ok.1 y.engine y.rules y.history y.agreed y.sealed y.seals in
     inr (inr (
       record {
         core = core;
         policy = policy;
-        facts = guarded.facts;
         history = engine.history;
         opened = is_open;
         bytes = read.workload;

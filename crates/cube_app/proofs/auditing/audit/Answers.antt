@@ -13,10 +13,10 @@ pub returns-in-Err-clause-answers : goal.returns-in-Err-clause-answers
 returns-in-Err-clause-answers g c = inl (c.in-Err.ensures.err, refl)
 
 pub returns-in-Err-clause-complete : goal.returns-in-Err-clause-complete
-returns-in-Err-clause-complete g c = λ all has files out. inr (all_accepted c.args.cube.now (seen g.F.Folder.state c.args.files.now c.open_unsealed.new.files) c.in-Err.report c.in-Err.ensures.err all files)
+returns-in-Err-clause-complete g c = λ all has files out. inr (all_accepted c.args.cube.now (seen g.F.Folder.state c.args.files.now c.open_guarded.new.files) c.in-Err.report c.in-Err.ensures.err all files)
 
 pub returns-in-Err-clause-outcomes : goal.returns-in-Err-clause-outcomes
-returns-in-Err-clause-outcomes g c = unasked c.args.cube.now (seen g.F.Folder.state c.args.files.now c.open_unsealed.new.files) c.in-Err.report c.in-Err.ensures.err
+returns-in-Err-clause-outcomes g c = unasked c.args.cube.now (seen g.F.Folder.state c.args.files.now c.open_guarded.new.files) c.in-Err.report c.in-Err.ensures.err
 
 pub returns-in-Err-open_transcript-clause-answers : goal.returns-in-Err-open_transcript-clause-answers
 returns-in-Err-open_transcript-clause-answers g c =
@@ -26,7 +26,7 @@ returns-in-Err-open_transcript-clause-answers g c =
         core = c.in-Ok.opened.value.core;
         policy = c.in-Ok.opened.value.policy;
         files_make = x.ok.1;
-        ends = ends_behind (names_of c.args.cube.now) transcript_said c.args.transcript.now g.F.Folder.state c.args.files.now c.open_unsealed.new.files c.open_transcript.new.files c.in-Err-open_transcript.report x.behind.asked x.reads.files x.behind.steady c.in-Err-open_transcript.ensures.err;
+        ends = ends_behind (names_of c.args.cube.now) transcript_said c.args.transcript.now g.F.Folder.state c.args.files.now c.open_guarded.new.files c.open_transcript.new.files c.in-Err-open_transcript.report x.behind.asked x.reads.files x.behind.steady c.in-Err-open_transcript.ensures.err;
       },
       refl,
     ))
@@ -34,11 +34,11 @@ returns-in-Err-open_transcript-clause-answers g c =
 pub returns-in-Err-open_transcript-clause-complete : goal.returns-in-Err-open_transcript-clause-complete
 returns-in-Err-open_transcript-clause-complete g c = λ all has files out.
     let x = c.in-Ok.ensures in
-    let ends = ends_behind (names_of c.args.cube.now) transcript_said c.args.transcript.now g.F.Folder.state c.args.files.now c.open_unsealed.new.files c.open_transcript.new.files c.in-Err-open_transcript.report x.behind.asked x.reads.files x.behind.steady c.in-Err-open_transcript.ensures.err in
+    let ends = ends_behind (names_of c.args.cube.now) transcript_said c.args.transcript.now g.F.Folder.state c.args.files.now c.open_guarded.new.files c.open_transcript.new.files c.in-Err-open_transcript.report x.behind.asked x.reads.files x.behind.steady c.in-Err-open_transcript.ensures.err in
     inr (last_accepted (names_of c.args.cube.now) transcript_said c.args.transcript.now (seen g.F.Folder.state c.args.files.now c.open_transcript.new.files) c.in-Err-open_transcript.report ends has files)
 
 pub returns-in-Err-open_transcript-clause-outcomes : goal.returns-in-Err-open_transcript-clause-outcomes
-returns-in-Err-open_transcript-clause-outcomes g c = one_unasked transcript_said c.args.transcript.now (seen g.F.Folder.state c.open_unsealed.new.files c.open_transcript.new.files) c.in-Err-open_transcript.report c.in-Err-open_transcript.ensures.err.unopened
+returns-in-Err-open_transcript-clause-outcomes g c = one_unasked transcript_said c.args.transcript.now (seen g.F.Folder.state c.open_guarded.new.files c.open_transcript.new.files) c.in-Err-open_transcript.report c.in-Err-open_transcript.ensures.err.unopened
 
 pub returns-in-Ok-line_of-clause-answers : goal.returns-in-Ok-line_of-clause-answers
 returns-in-Ok-line_of-clause-answers g c =
@@ -55,7 +55,7 @@ returns-in-Ok-line_of-clause-answers g c =
         printed = inl (subst (λ text. Prints text (seen g.O.Sink.state c.args.out.now c.print.new.out) c.print.result) (c.as_slice.ensures ∙ c.in-Ok-line_of.ensures.line) c.print.ensures.prints);
         sound = c.line_of.ensures.sound;
       },
-      record { asked = asked_then (names_of c.args.cube.now) (c.args.transcript.now ∷ []) g.F.Folder.state c.args.files.now c.open_unsealed.new.files c.open_transcript.new.files x.behind.asked z.asks; steady = z.reads.steady ∙ x.behind.steady },
+      record { asked = asked_then (names_of c.args.cube.now) (c.args.transcript.now ∷ []) g.F.Folder.state c.args.files.now c.open_guarded.new.files c.open_transcript.new.files x.behind.asked z.asks; steady = z.reads.steady ∙ x.behind.steady },
     ))
 
 pub returns-clause-answers : goal.returns-clause-answers
@@ -74,5 +74,5 @@ returns-clause-answers g c =
         printed = inr ((e.0, e.1, e.2 ∙ c.with.ensures ∙ ap (λ (t : List ℕ). t ++ codes "no memory\n") z.ok.0), refl);
         sound = c.line_of.ensures.sound;
       },
-      record { asked = asked_then (names_of c.args.cube.now) (c.args.transcript.now ∷ []) g.F.Folder.state c.args.files.now c.open_unsealed.new.files c.open_transcript.new.files x.behind.asked z.asks; steady = z.reads.steady ∙ x.behind.steady },
+      record { asked = asked_then (names_of c.args.cube.now) (c.args.transcript.now ∷ []) g.F.Folder.state c.args.files.now c.open_guarded.new.files c.open_transcript.new.files x.behind.asked z.asks; steady = z.reads.steady ∙ x.behind.steady },
     ))

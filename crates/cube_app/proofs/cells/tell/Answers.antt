@@ -22,9 +22,8 @@ returns-clause-answers g c =
       record {
         core = core;
         policy = policy;
-        facts = guarded.facts;
         history = engine.history;
-        opened = opened c.args.cube.now (g.F.Folder.state c.args.files.now) g.S.Store.state c.args.store.now c.open_engine.new.store core policy guarded.facts engine 1 c.in-Ok.ensures.ok.1 c.in-Ok.ensures.digest y.engine y.rules y.history y.agreed y.sealed y.seals;
+        opened = opened c.args.cube.now (g.F.Folder.state c.args.files.now) g.S.Store.state c.args.store.now c.open_engine.new.store core policy engine 1 c.in-Ok.ensures.ok.1 y.engine y.rules y.history y.agreed y.sealed y.seals;
         tells = subst (λ (e : Engine). Tells (text e) out c.put_told.result) y.engine tells;
         keeps = subst (λ (e : Engine). KeepsIf c.args.telling e.core e.policy e.history) y.engine (keeps_if c.args.telling engine y.rules);
         passed = y.crash;
@@ -50,9 +49,7 @@ returns-in-Err-open_engine-clause-answers g c =
         record {
           core = guarded.core;
           policy = guarded.policy;
-          facts = guarded.facts;
           files_make = c.in-Ok.ensures.ok.1;
-          digest = c.in-Ok.ensures.digest;
           unstarted = c.in-Err-open_engine.ensures.err;
           passed = c.in-Err-open_engine.ensures.crash;
           seals = c.in-Err-open_engine.ensures.seals;

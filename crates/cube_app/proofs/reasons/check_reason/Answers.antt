@@ -47,9 +47,7 @@ returns-in-Err-open_engine-clause-answers g c =
         record {
           core = guarded.core;
           policy = guarded.policy;
-          facts = guarded.facts;
           files_make = x.ok.1;
-          digest = x.digest;
           unstarted = c.in-Err-open_engine.ensures.err;
           passed = c.in-Err-open_engine.ensures.crash;
           seals = c.in-Err-open_engine.ensures.seals;
@@ -74,11 +72,10 @@ returns-clause-answers g c =
       record {
         core = core;
         policy = policy;
-        facts = guarded.facts;
         history = engine.history;
         reason = reason;
         said = subst (λ (fs : Option (List (List ℕ × List ℕ))). IfSome fs (λ known. FileSays reason_said c.args.reason.now known (Ok reason))) x.reads.files z.ok.1;
-        opened = opened c.args.cube.now (g.F.Folder.state c.args.files.now) g.S.Store.state c.args.store.now c.open_engine.new.store core policy guarded.facts engine 1 x.ok.1 x.digest y.engine y.rules y.history y.agreed y.sealed y.seals;
+        opened = opened c.args.cube.now (g.F.Folder.state c.args.files.now) g.S.Store.state c.args.store.now c.open_engine.new.store core policy engine 1 x.ok.1 y.engine y.rules y.history y.agreed y.sealed y.seals;
         says = subst (λ (e : Engine). SaysOne (IsWhetherOf e.core e.policy e.history c.args.query.now reason) out c.put_said.result) y.engine
             (says_by (IsWhetherOf engine.core engine.policy engine.history c.args.query.now reason) engine.core c.args.query.now c.whether_of-said.result out c.put_said.result (λ line is. is) c.whether_of-said.ensures.ok c.whether_of-said.ensures.err c.put_said.ensures.says);
         passed = y.crash;

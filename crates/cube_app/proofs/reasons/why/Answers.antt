@@ -20,9 +20,8 @@ returns-clause-answers g c =
       record {
         core = core;
         policy = policy;
-        facts = guarded.facts;
         history = engine.history;
-        opened = opened c.args.cube.now (g.F.Folder.state c.args.files.now) g.S.Store.state c.args.store.now c.open_engine.new.store core policy guarded.facts engine 1 c.in-Ok.ensures.ok.1 c.in-Ok.ensures.digest y.engine y.rules y.history y.agreed y.sealed y.seals;
+        opened = opened c.args.cube.now (g.F.Folder.state c.args.files.now) g.S.Store.state c.args.store.now c.open_engine.new.store core policy engine 1 c.in-Ok.ensures.ok.1 y.engine y.rules y.history y.agreed y.sealed y.seals;
         says = subst (λ (e : Engine). SaysOne (IsWhyOf e.core e.policy e.history c.args.query.now) out c.put_said.result) y.engine
             (says_by (IsWhyOf engine.core engine.policy engine.history c.args.query.now) engine.core c.args.query.now c.why_of-said.result out c.put_said.result (λ line is. is) c.why_of-said.ensures.ok c.why_of-said.ensures.err c.put_said.ensures.says);
         passed = y.crash;
@@ -48,9 +47,7 @@ returns-in-Err-open_engine-clause-answers g c =
         record {
           core = guarded.core;
           policy = guarded.policy;
-          facts = guarded.facts;
           files_make = c.in-Ok.ensures.ok.1;
-          digest = c.in-Ok.ensures.digest;
           unstarted = c.in-Err-open_engine.ensures.err;
           passed = c.in-Err-open_engine.ensures.crash;
           seals = c.in-Err-open_engine.ensures.seals;

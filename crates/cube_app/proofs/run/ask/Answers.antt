@@ -33,7 +33,7 @@ returns-clause-answers g c =
     let store = seen g.S.Store.state c.args.store.now new in
     let y = c.in-Ok-open_engine.ensures in
     let served = subst (λ (e : Engine). TalkedOver (moment_of e mid) (moment_of last (g.S.Store.state new)) end input out) y.engine c.converse_by_asks-engine.ensures.talked in
-    let at_start = opened c.args.cube.now (g.F.Folder.state c.args.files.now) g.S.Store.state c.args.store.now c.open_engine.new.store core policy guarded.facts engine c.args.stated c.in-Ok.ensures.ok.1 c.in-Ok.ensures.digest y.engine y.rules y.history y.agreed y.sealed y.seals in
+    let at_start = opened c.args.cube.now (g.F.Folder.state c.args.files.now) g.S.Store.state c.args.store.now c.open_engine.new.store core policy engine c.args.stated c.in-Ok.ensures.ok.1 y.engine y.rules y.history y.agreed y.sealed y.seals in
     inr (
       talk,
       refl,
@@ -45,10 +45,9 @@ returns-clause-answers g c =
       record {
         core = core;
         policy = policy;
-        facts = guarded.facts;
         first = h;
         last = _;
-        opened = still_open c.args.cube.now (g.F.Folder.state c.args.files.now) g.S.Store.state c.args.store.now c.open_engine.new.store new core policy guarded.facts h
+        opened = still_open c.args.cube.now (g.F.Folder.state c.args.files.now) g.S.Store.state c.args.store.now c.open_engine.new.store new core policy h
             (λ told. c.converse_by_asks-engine.ensures.talked.survives.others (subst IsTrue (sym y.opens.told) told) SEAL_LOG (λ rooms s x. seal_is_other (x.0 ∙ y.log))) at_start;
         talked = served.talked;
         last_is = refl;
@@ -84,9 +83,7 @@ returns-in-Err-open_engine-clause-answers g c =
         record {
           core = guarded.core;
           policy = guarded.policy;
-          facts = guarded.facts;
           files_make = c.in-Ok.ensures.ok.1;
-          digest = c.in-Ok.ensures.digest;
           unstarted = c.in-Err-open_engine.ensures.err;
           passed = c.in-Err-open_engine.ensures.crash;
           seals = c.in-Err-open_engine.ensures.seals;
@@ -107,9 +104,7 @@ returns-in_default-clause-answers g c =
         record {
           core = guarded.core;
           policy = guarded.policy;
-          facts = guarded.facts;
           files_make = c.in-Ok.ensures.ok.1;
-          digest = c.in-Ok.ensures.digest;
           unstarted = inr (inl ((e.0, e.1, e.2 ∙ c.with.ensures ∙ ap (λ (t : List ℕ). t ++ codes "no memory\n") y.message), y.steady));
           passed = y.crash;
           seals = y.seals;

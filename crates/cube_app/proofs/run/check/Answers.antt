@@ -17,10 +17,10 @@ returns-in-Ok-check_text-clause-checks g c = inr (
 )
 
 pub returns-in-Err-clause-complete : goal.returns-in-Err-clause-complete
-returns-in-Err-clause-complete g c = λ all files out. inr (all_accepted c.args.cube.now (seen g.F.Folder.state c.args.files.now c.open_unsealed.new.files) c.in-Err.report c.in-Err.ensures.err all files)
+returns-in-Err-clause-complete g c = λ all files out. inr (all_accepted c.args.cube.now (seen g.F.Folder.state c.args.files.now c.open_guarded.new.files) c.in-Err.report c.in-Err.ensures.err all files)
 
 pub returns-in-Err-clause-checks : goal.returns-in-Err-clause-checks
 returns-in-Err-clause-checks g c = inl (c.in-Err.ensures.err, refl)
 
 pub returns-in-Err-clause-outcomes : goal.returns-in-Err-clause-outcomes
-returns-in-Err-clause-outcomes g c = unasked c.args.cube.now (seen g.F.Folder.state c.args.files.now c.open_unsealed.new.files) c.in-Err.report c.in-Err.ensures.err
+returns-in-Err-clause-outcomes g c = unasked c.args.cube.now (seen g.F.Folder.state c.args.files.now c.open_guarded.new.files) c.in-Err.report c.in-Err.ensures.err
