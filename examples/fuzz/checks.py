@@ -2,6 +2,7 @@
 or adds up the facts."""
 
 import collections
+import copy
 import hashlib
 import os
 
@@ -249,14 +250,29 @@ def near_the_bound(cube, measure):
 
 # ---- of the journal and its seal
 
-def other_facts_are_refused(play):
-    """A fact file of which a byte is another, and which may well have the same facts."""
-    facts, journal, seal = (play.read(name) for name in ("facts.csv", "journal", "journal.seal"))
-    demand(seal == b"facts " + hashlib.sha256(facts).hexdigest().encode() + b"\n", f"the seal {seal}")
-    play.write("others.csv", facts + b"\n")
-    result = run(play.words("ask", "journal", facts="others.csv"), play.given)
-    demand(result.status == 4 and not result.out, f"status {result.status} over other facts, and {result.out}")
-    demand((play.read("journal"), play.read("journal.seal")) == (journal, seal), "other facts changed the journal or its seal")
+def seal_of(cube):
+    """The seal of the values: of each measure how many decimals it has, and its sum at each point in their order."""
+    totals = [sums for _, sums in cube.points().values()]
+    measures = enumerate(cube.measures)
+    values = [bytes([one.decimals]) + b"".join(sums[at].to_bytes(8, "big", signed=True) for sums in totals) for at, one in measures]
+    return b"values " + hashlib.sha256(b"".join(values)).hexdigest().encode() + b"\n"
+
+
+def other_values_are_refused(play):
+    """Another file of the same values is accepted, and one in which a value is another is not."""
+    journal, seal = play.read("journal"), play.read("journal.seal")
+    demand(seal == seal_of(play.cube), f"the seal {seal}")
+    play.write("again.csv", cubes.facts_file(play.rng, play.cube))
+    demand(play.ask("journal", b"", facts="again.csv") == b"", "a reply to no line")
+    other = copy.deepcopy(play.cube)
+    if other.facts:
+        _, values = play.rng.choice(other.facts)
+        at = play.rng.randrange(len(values))
+        values[at] += -1 if values[at] > 0 else 1
+        play.write("others.csv", cubes.facts_file(play.rng, other))
+        result = run(play.words("ask", "journal", facts="others.csv"), play.given)
+        demand(result.status == 4 and not result.out, f"status {result.status} over other values, and {result.out}")
+    demand((play.read("journal"), play.read("journal.seal")) == (journal, seal), "other values changed the journal or its seal")
 
 
 def a_cut_seal_is_written_anew(play):
@@ -445,7 +461,7 @@ CHECKS = [
     a_cut_journal_recovers_its_front,
     a_damaged_journal_is_refused_or_read,
     the_compacted_journal_says_the_same,
-    other_facts_are_refused,
+    other_values_are_refused,
     a_cut_seal_is_written_anew,
     http_says_what_ask_says,
     cuts_of_a_stream_change_nothing,

@@ -20,8 +20,8 @@ ENDINGS = {
     0: rb"",
     2: rb"usage: .*\n",
     3: rb"(dims|facts|policy|cell): .+\n|script: line \d+\n|made: unread\n",
-    4: rb"journal: (line \d+ (damaged|inadmissible)|too long|seal damaged)\n"
-    rb"|journal: (digest [0-9a-f]{64} is not|facts [0-9a-f]{64} are not) [0-9a-f]{64}\nthe journal was begun .+\n",
+    4: rb"journal: (line \d+ (damaged|inadmissible)|too long)\n|journal: seal damaged\n(a seal .+\n)?"
+    rb"|journal: (digest [0-9a-f]{64} is not|values [0-9a-f]{64} are not) [0-9a-f]{64}\nthe journal was begun .+\n",
     5: rb"(.+: .+\n)?cannot read .+\n|input failed\n",
     9: rb"(.+: .+\n)*store failed\n",
     10: rb"spent: (room for sends, )?\d+ requests, \d+ (bytes|events)\n",

@@ -1,7 +1,8 @@
 #!/usr/bin/env bash
 # One owner: what befalls a journal of examples/pay that two programs want, that is moved away, that another program
-# writes to, where the standard streams are closed, where a value of the facts was corrected, and where a journal or a
-# seal is a link or has two names. Each is done, and seen to tell nothing more.
+# writes to, where the standard streams are closed, where a value of the facts was corrected, in the fact file or by the
+# name of another column of it, and where a journal or a seal is a link or has two names. Each is done, and seen to tell
+# nothing more.
 set -eu
 here=$(cd "$(dirname "$0")" && pwd)
 pay=$here/../pay
@@ -108,13 +109,47 @@ echo "closed standard streams write nothing into the journal"
 
 sed 's/^Jan,Paris,clerk,2159.79,/Jan,Paris,clerk,2160.79,/' "$pay/facts.csv" > "$work/facts.csv"
 ! cmp -s "$pay/facts.csv" "$work/facts.csv" || fail "no value was corrected"
-cp "$journal" "$work/before"
-refuses "$journal" 4 '^journal: facts [0-9a-f]* are not [0-9a-f]*$' "$work/facts.csv"
-cmp -s "$journal" "$work/before" || fail "corrected facts: the journal was changed"
+# Asks over a dimension file and a fact file.
+ask_over() {
+    status=0
+    echo "$areas" | "$cube" ask --dims "$1" --facts "$2" --policy "$pay/policy.toml" --journal "$3" > "$work/replies" 2> "$work/notes" || status=$?
+}
+
+# Asks so over other values than the journal was begun over, and is refused.
+refused_over() {
+    cp "$3" "$work/before"
+    cp "$3.seal" "$work/seal"
+    ask_over "$1" "$2" "$3"
+    [ "$status" -eq 4 ] || fail "$4: another status than 4"
+    grep -q '^journal: values [0-9a-f]* are not [0-9a-f]*$' "$work/notes" || fail "$4: another text"
+    grep -q '^the journal was begun over other values$' "$work/notes" || fail "$4: no note"
+    [ ! -s "$work/replies" ] || fail "$4: answered"
+    cmp -s "$3" "$work/before" || fail "$4: the journal was changed"
+    cmp -s "$3.seal" "$work/seal" || fail "$4: the seal was changed"
+}
+
+refused_over "$pay/dims.toml" "$work/facts.csv" "$journal" "corrected facts"
 echo "a journal is not opened over corrected facts"
 
+# A fact file with both values, each in a column of its own, and a dimension file for each.
+paste -d , "$pay/facts.csv" <(cut -d , -f 4 "$work/facts.csv" | sed 's/^pay$/corrected/') > "$work/both.csv"
+sed 's/^name = "pay"$/name = "pay"\ncolumn = "corrected"/' "$pay/dims.toml" > "$work/dims.toml"
+! cmp -s "$pay/dims.toml" "$work/dims.toml" || fail "no other column was named"
+ask_over "$pay/dims.toml" "$work/both.csv" "$work/both.journal"
+[ "$status" -eq 0 ] || fail "two columns: not answered"
+refused_over "$work/dims.toml" "$work/both.csv" "$work/both.journal" "another column"
+echo "a journal is not opened over another column of the same fact file"
+
+{ head -n 1 "$pay/facts.csv"; tail -n +2 "$pay/facts.csv" | sort; } > "$work/sorted.csv"
+! cmp -s "$pay/facts.csv" "$work/sorted.csv" || fail "the facts were sorted before"
+cp "$work/open" "$work/expected"
+ask_over "$pay/dims.toml" "$work/sorted.csv" "$journal"
+[ "$status" -eq 0 ] || fail "sorted facts: not answered"
+cmp -s "$work/replies" "$work/expected" || fail "sorted facts: another answer"
+echo "a journal is opened over the same values in another order"
+
 ln -s "$journal" "$work/link"
-refuses "$work/link" 4 '^journal: facts ' "$work/facts.csv"
+refuses "$work/link" 4 '^journal: values ' "$work/facts.csv"
 answers "$work/link"
 [ ! -e "$work/link.seal" ] || fail "a link has a seal of its own"
 touch "$work/link.seal"
@@ -159,3 +194,10 @@ answers "$journal"
 modes=$(stat -c %a "$work/new.journal" "$work/new.journal.seal" "$journal" | xargs)
 [ "$modes" = "600 600 640" ] || fail "modes $modes"
 echo "a journal and a seal are made for their owner alone, and a journal that is there keeps its mode"
+
+printf 'facts %s\n' "$(sha256sum "$pay/facts.csv" | cut -d ' ' -f 1)" > "$journal.seal"
+ask_over "$pay/dims.toml" "$pay/facts.csv" "$journal"
+[ "$status" -eq 4 ] || fail "an earlier seal: another status than 4"
+grep -q '^journal: seal damaged$' "$work/notes" || fail "an earlier seal: another text"
+grep -q 'is of an earlier form' "$work/notes" || fail "an earlier seal: no note"
+echo "a seal of an earlier form is refused, and a note says what it is"

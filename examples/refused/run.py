@@ -121,9 +121,9 @@ def seals(folder):
     seal.write_text(line[:40])
     check(run("ask", *FILES, "--journal", journal, given=query)[0] == 0, "a seal that was begun")
     check(seal.read_text() == line, "a seal that was begun is not written anew")
-    for damaged in (line + line, line.upper(), line.replace("facts", "fact"), "x" * 72):
+    for damaged in (line + line, line.upper(), line.replace("values", "value"), line.replace("values", "facts"), "x" * 73):
         seal.write_text(damaged)
-        refuses(["ask", *FILES, "--journal", journal], 4, "journal: seal damaged\n", "", given=query)
+        refuses(["ask", *FILES, "--journal", journal], 4, "is known to be the one that was asked\n", "journal: seal damaged\n", given=query)
         check(seal.read_text() == damaged, "a damaged seal was changed")
     return "a seal that was begun is written anew, and a damaged one refused"
 

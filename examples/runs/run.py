@@ -345,7 +345,7 @@ def journals_are_kept_and_looked_at():
     room.run(ASK, "slice pay by time.month\n")
     room.write("f", FACTS.replace("Nice,Jan,30", "Nice,Jan,31"))
     ran = room.run(ASK, "slice pay by time.month\n")
-    assert ran.returncode == 4 and b"journal: facts " in ran.stderr and not ran.stdout, ran
+    assert ran.returncode == 4 and b"journal: values " in ran.stderr and not ran.stdout, ran
     room.write("f", FACTS)
     expect(room.run(ASK, "slice pay by time.month\n"), 0, MONTHS_KEPT, "", "the facts as they were")
 
