@@ -1,5 +1,5 @@
 -- What a disk tells of its files, what its calls leave as it was, and which of its files are the logs of a store.
-use Rattle.std.specs.Prelude.{◌≡◌, ◌≢◌, ◌⊎◌, ℕ, ◌^◌, ◌==◌, Bool, true, false, IsTrue, List, [], ◌++◌, None, if◌then◌else◌, nat_lt, codes, decimal}
+use Rattle.std.specs.Prelude.{◌≡◌, ◌≢◌, ◌⊎◌, ℕ, ◌^◌, ◌-◌, ◌==◌, Bool, true, false, IsTrue, List, [], ◌++◌, None, if◌then◌else◌, nat_lt, nat_le, codes, decimal}
 use Rattle.std.specs.declared.option.Option.{Option}
 use Rattle.cube_io.specs.Seen.{StoreState}
 use Rattle.cube_io.specs.declared.store.TheConstants.{SEAL_LOG}
@@ -44,10 +44,17 @@ IsEither there comes s = (s ≡ there) ⊎ (s ≡ comes)
 abbrev pub IsOldOrNew : List ℕ → State → State → Type 0
 IsOldOrNew bytes old s = (s ≡ old) ⊎ (s ≡ settled bytes)
 
--- the path of a log: the name of log 0; that name and `.seal` of the log of the seal; and of each other log that name, a point and the
--- number
+-- the path of the journal in the log of this number: the name, and of each other log than 0 that name, a point and the number
+abbrev pub journal_path : List ℕ → ℕ → List ℕ
+journal_path name log = if log == 0 then name else name ++ codes "." ++ decimal log
+
+-- the last sixteen logs of 32 bits hold the seals of the first sixteen, from the last one down
+abbrev pub is_seal_log : ℕ → Bool
+is_seal_log log = nat_le (SEAL_LOG - 15) log
+
+-- the path of a log: of a seal that of its journal and `.seal`
 abbrev pub path_of : List ℕ → ℕ → List ℕ
-path_of name log = if log == 0 then name else (if log == SEAL_LOG then name ++ codes ".seal" else name ++ codes "." ++ decimal log)
+path_of name log = if is_seal_log log then journal_path name (SEAL_LOG - log) ++ codes ".seal" else journal_path name log
 
 -- nothing, all of it on the disk
 abbrev pub no_log : Log

@@ -4,7 +4,7 @@ ghost use Rattle.cube_io.specs.declared.faults.ReadFault.TheVariants as fault;
 ghost use Rattle.cube_io.specs.Causes.{HasCause};
 ghost use Rattle.cube_io.specs.States.{Appended, Cut, Synced, shortened, settled};
 ghost use Rattle.cube_io.specs.Told.{AsksFor};
-ghost use Rattle.cube_edge.specs.Disks.{Rests, WorksAt, path_of, store_over, logs_whole};
+ghost use Rattle.cube_edge.specs.Disks.{Rests, WorksAt, is_seal_log, journal_path, path_of, store_over, logs_whole};
 
 use crate::disk::{Disk, Extent, Trouble};
 use crate::sink::behind;
@@ -24,6 +24,8 @@ pub const MAX_PATH: usize = 4_096;
 pub(crate) struct LogFile<D: Disk> {
     pub(crate) file: D::File,
     pub(crate) left: Extent,
+    // Whether it was said what stands in it.
+    noted: bool,
 }
 
 /// Writes all of a piece at the end of a file, or a front of it where that fails.
@@ -54,6 +56,7 @@ pub(crate) fn open_log<D: Disk>(disk: &mut D, path: &str) -> Result<LogFile<D>, 
     Ok(LogFile {
         file,
         left: Extent { length, loose: 0 },
+        noted: false,
     })
 }
 
@@ -94,15 +97,32 @@ impl<D: Disk> LogFile<D> {
     }
 }
 
+/// Whether a log holds the seal of a journal.
+fn is_seal(log: u32) -> bool
+    ensures { result ≡ is_seal_log log }
+{
+    log >= SEAL_LOG - 15
+}
+
+/// Puts behind the name of log 0 what makes it the path of the journal in a log.
+fn put_number(path: &mut String, log: u32) -> Result<(), AllocError>
+    ensures { OnOk result (string_bytes path.new ≡ journal_path (string_bytes path.old) log) }
+{
+    match log {
+        0 => Ok(()),
+        _ => write!(path, ".{log}"),
+    }
+}
+
 /// Puts behind the name of log 0 what makes it the path of a log.
 fn put_ending(path: &mut String, log: u32) -> Result<(), AllocError>
     ensures { OnOk result (string_bytes path.new ≡ path_of (string_bytes path.old) log) }
 {
-    match log {
-        0 => Ok(()),
-        SEAL_LOG => write!(path, ".seal"),
-        _ => write!(path, ".{log}"),
+    if !is_seal(log) {
+        return put_number(path, log);
     }
+    put_number(path, SEAL_LOG - log)?;
+    path.push_str(".seal")
 }
 
 /// Says in the notes why the file of a path is not worked on.
@@ -138,7 +158,7 @@ fn note_entries<N: Write>(notes: &mut N, path: &str, log: u32, bytes: &[u8]) {
     }
     if lines == 0 {
         let _ = writeln!(notes, "{path}: new");
-    } else if log != SEAL_LOG {
+    } else if !is_seal(log) {
         let _ = writeln!(notes, "{path}: entries {}", lines.saturating_sub(1));
     }
 }
@@ -240,7 +260,10 @@ impl<D: Disk + Drop, N: Write + Drop> LogFiles<D, N> {
         }
         match self.disk.read(&mut file.file, alloc) {
             Ok(text) => {
-                note_entries(&mut self.notes, self.path.as_str(), log, text.as_slice());
+                if !file.noted {
+                    note_entries(&mut self.notes, self.path.as_str(), log, text.as_slice());
+                }
+                file.noted = true;
                 Ok(text)
             }
             Err(fault) => Err(fault),
@@ -305,11 +328,11 @@ impl<D: Disk + Drop, N: Write + Drop> LogFiles<D, N> {
     }
 }
 
-/// Logs in the files of a disk: log 0 in the file that `attach` names, the log of the seal in that name followed by `.seal`,
-/// and each other log k in that name followed by `.k`. A file that isn't there is made. It is opened and locked at the first call on its log, before anything is read, and stays so until
+/// Logs in the files of a disk: log 0 in the file that `attach` names, each other log k in that name followed by `.k`, and the
+/// seal of each of the first sixteen in its name followed by `.seal`. A file that isn't there is made. It is opened and locked at the first call on its log, before anything is read, and stays so until
 /// the store is dropped or the program ends, however it ends. A file that another program has locked, that was moved or
 /// deleted, or that another program wrote to, is not worked on: nothing is read of it, written to it or cut from it. Its
-/// notes say why, in a line, and of a log that is read whether it is new or how many entries it has. Where the disk tells
+/// notes say why, in a line, and of a log that is read first whether it is new or how many entries it has. Where the disk tells
 /// its files, it tells the logs.
 #[derive(Drop)]
 pub struct FileStore<D: Disk + Drop, N: Write + Drop> {

@@ -1,11 +1,12 @@
 -- The seal of values: its line, what the bytes of its log say, and what a crash may leave of them.
-use Rattle.std.specs.Prelude.{◌≡◌, ◌≢◌, ◌⊎◌, ⊤, ℕ, ◌≤◌, Bool, not, ◌&&◌, ◌==◌, nat_le, List, [], ◌∷◌, ◌++◌, length, take, drop, codes, if◌then◌else◌, Ok, Err}
+use Rattle.std.specs.Prelude.{◌≡◌, ◌≢◌, ◌⊎◌, ⊤, ℕ, ◌-◌, ◌≤◌, Bool, not, ◌&&◌, ◌==◌, nat_le, List, [], ◌∷◌, ◌++◌, length, take, drop, codes, if◌then◌else◌, Ok, Err}
 use Rattle.std.specs.declared.result.Result.{Result}
 use Rattle.std.specs.List.{list_all}
 use Rattle.std.specs.Str.{bytes_eq}
 use Rattle.cube_io.specs.Causes.{Rose}
 use Rattle.cube_io.specs.States.{State, IsImage}
 use Rattle.cube_io.specs.declared.faults.ReadFault.{ReadFault}
+use Rattle.cube_io.specs.declared.store.TheConstants.{SEAL_LOG}
 use Rattle.cube_io.specs.declared.faults.ReadFault.TheVariants as store
 use Rattle.cube_journal.specs.Digests.{is_digest}
 use Rattle.cube_seal.specs.declared.fault.SealFault.{SealFault}
@@ -13,7 +14,11 @@ use Rattle.cube_seal.specs.declared.fault.SealFault.TheVariants.{Failed, NoMemor
 use Rattle.cube_seal.specs.declared.reading.Said.{Said}
 use Rattle.cube_seal.specs.declared.reading.Said.TheVariants as said
 
--- ---- the line of a seal, and what bytes say
+-- ---- the log, the line of a seal, and what bytes say
+
+-- the log of the seal that stands beside the journal in the log of this number
+abbrev pub seal_log : ℕ → ℕ
+seal_log journal = SEAL_LOG - journal
 
 -- the line of a seal with these digits
 abbrev pub seal_line : List ℕ → List ℕ

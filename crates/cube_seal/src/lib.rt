@@ -13,6 +13,7 @@ mod worked;
 
 pub use fault::SealFault;
 pub use laws::{beginnings_say_nothing, lines_say_digits, seals_are_lines};
-pub use seal::hold_seal;
+pub use reading::line_of;
+pub use seal::{compare_seal, hold_seal};
 pub use values::digest_of_values;
 pub use worked::worked_values;

@@ -1,10 +1,10 @@
-// A journal that is held by the seal beside it.
+// A journal that is held by the seal beside it: the seal is compared before the journal is recovered, and held behind that.
 ghost use Rattle.std.specs.Prelude.{◌≡◌, ◌≢◌, List, ℕ, true, IsTrue, OnOk, IfErr};
 ghost use Rattle.cube_io.specs.Causes.{HasCause};
 ghost use Rattle.cube_io.specs.States.{Gained};
-ghost use Rattle.cube_io.specs.Told.{Works, OthersStay};
+ghost use Rattle.cube_io.specs.Told.{Works, OthersStay, SameLogs};
 ghost use Rattle.cube_journal.specs.Digests.{is_digest};
-ghost use Rattle.cube_seal.specs.Seals.{seal_line, Agrees, IsSealed, IsSealable, IsEmptied, SealCause, IsSealFault};
+ghost use Rattle.cube_seal.specs.Seals.{seal_line, seal_log as log_of, Agrees, IsSealed, IsSealable, IsEmptied, SealCause, IsSealFault};
 
 use crate::SealFault;
 use crate::fault::of_store;
@@ -71,6 +71,25 @@ fn write<S: Store>(store: &mut S, log: u32, bytes: &[u8], values: &Digest) -> Re
     }
 }
 
+/// Whether the values agree with what these bytes say.
+fn agree(bytes: &[u8], values: &Digest) -> Result<(), SealFault>
+    ensures agreed { OnOk result (Agrees values.now bytes.now) }
+    ensures fault { IfErr result (IsSealFault values.now bytes.now) }
+    ensures read { IfErr result (λ fault. fault ≢ SealFault.Failed) }
+{
+    match seal_in(bytes) {
+        Said::Nothing => Ok(()),
+        Said::Sealed(kept) => {
+            if kept == *values {
+                Ok(())
+            } else {
+                Err(SealFault::OtherValues { kept })
+            }
+        }
+        Said::Damaged => Err(SealFault::Damaged),
+    }
+}
+
 /// Compares the values with what these bytes say, and writes the seal where they say nothing yet.
 fn compare<S: Store>(
     store: &mut S,
@@ -99,53 +118,111 @@ fn compare<S: Store>(
             Ok(()) => Ok(()),
             Err(_) => Err(SealFault::Failed),
         },
-        Said::Sealed(kept) => {
-            if kept == *values {
-                Ok(())
-            } else {
-                Err(SealFault::OtherValues { kept })
-            }
-        }
-        Said::Damaged => Err(SealFault::Damaged),
+        Said::Sealed(_) => agree(bytes, values),
+        Said::Damaged => agree(bytes, values),
     }
 }
 
-/// Compares the values with the seal in the store, writes the seal where there is none yet, and puts it on the disk.
-pub fn hold_seal<S: Store>(alloc: Global, store: &mut S, values: &Digest) -> Result<(), SealFault>
+/// Compares the values with the seal in a log, writes the seal where there is none yet, and puts it on the disk.
+fn hold_log<S: Store>(
+    alloc: Global,
+    store: &mut S,
+    log: u32,
+    values: &Digest,
+) -> Result<(), SealFault>
+    requires { IsTrue (S.state store.old).attached }
+    ensures cause { SealCause (S.state store.old).faults (S.state store.new).faults result }
+    ensures works { Works (S.state store.old) (S.state store.new) 4 }
+    ensures others { OthersStay log (S.state store.old) (S.state store.new) }
+    ensures agreed { IsTrue (S.state store.old).told
+        → OnOk result (Agrees values.now ((S.state store.old).logs log).state.now) }
+    ensures sealed { IsTrue (S.state store.old).told
+        → OnOk result (IsSealed values.now ((S.state store.new).logs log).state) }
+    ensures fault { IsTrue (S.state store.old).told
+        → IfErr result (IsSealFault values.now ((S.state store.old).logs log).state.now) }
+    ensures untouched { IsTrue (S.state store.old).told → IfErr result (λ fault. fault ≢ SealFault.Failed
+        → (S.state store.new).logs log ≡ (S.state store.old).logs log) }
+    ensures crash { IsTrue (S.state store.old).told → IsSealable values.now ((S.state store.old).logs log).state
+        → Gained (IsSealable values.now) ((S.state store.old).logs log) ((S.state store.new).logs log) }
+    ensures leaves { IsTrue (S.state store.old).told → IsSealable values.now ((S.state store.old).logs log).state
+        → IsSealable values.now ((S.state store.new).logs log).state }
+{
+    let bytes = match store.read_all(alloc, log) {
+        Ok(bytes) => bytes,
+        Err(fault) => return Err(of_store(fault)),
+    };
+    match compare(store, log, bytes.as_slice(), values) {
+        Ok(()) => {}
+        Err(fault) => return Err(fault),
+    }
+    match store.sync(log) {
+        Ok(()) => Ok(()),
+        Err(_) => Err(SealFault::Failed),
+    }
+}
+
+/// The log of the seal that stands beside the journal in a log.
+pub(crate) fn seal_log(journal: u32) -> u32
+    ensures { result ≡ log_of journal }
+{
+    SEAL_LOG - journal
+}
+
+/// Compares the values with the seal of the journal in a log, before that journal is recovered. Nothing is written.
+pub fn compare_seal<S: Store>(
+    alloc: Global,
+    store: &mut S,
+    journal: u32,
+    values: &Digest,
+) -> Result<(), SealFault>
+    requires { IsTrue (S.state store.old).attached }
+
+    ensures cause { SealCause (S.state store.old).faults (S.state store.new).faults result }
+    ensures works { Works (S.state store.old) (S.state store.new) 1 }
+    ensures logs { SameLogs (S.state store.old) (S.state store.new) }
+
+    // What agrees was not sealed yet or was sealed with these values, and each fault comes by the bytes of the seal.
+    ensures agreed { IsTrue (S.state store.old).told
+        → OnOk result (Agrees values.now ((S.state store.old).logs (log_of journal)).state.now) }
+    ensures fault { IsTrue (S.state store.old).told
+        → IfErr result (IsSealFault values.now ((S.state store.old).logs (log_of journal)).state.now) }
+{
+    match store.read_all(alloc, seal_log(journal)) {
+        Ok(bytes) => agree(bytes.as_slice(), values),
+        Err(fault) => Err(of_store(fault)),
+    }
+}
+
+/// Compares the values with the seal of the journal in a log, writes the seal where there is none yet, and puts it on the disk.
+pub fn hold_seal<S: Store>(
+    alloc: Global,
+    store: &mut S,
+    journal: u32,
+    values: &Digest,
+) -> Result<(), SealFault>
     requires { IsTrue (S.state store.old).attached }
 
     ensures cause { SealCause (S.state store.old).faults (S.state store.new).faults result }
     ensures works { Works (S.state store.old) (S.state store.new) 4 }
-    ensures others { OthersStay SEAL_LOG (S.state store.old) (S.state store.new) }
+    ensures others { OthersStay (log_of journal) (S.state store.old) (S.state store.new) }
 
     // A journal that is held was not sealed yet or was sealed with these values, and every crash leaves this seal.
     ensures agreed { IsTrue (S.state store.old).told
-        → OnOk result (Agrees values.now ((S.state store.old).logs SEAL_LOG).state.now) }
+        → OnOk result (Agrees values.now ((S.state store.old).logs (log_of journal)).state.now) }
     ensures sealed { IsTrue (S.state store.old).told
-        → OnOk result (IsSealed values.now ((S.state store.new).logs SEAL_LOG).state) }
+        → OnOk result (IsSealed values.now ((S.state store.new).logs (log_of journal)).state) }
 
     // Each fault comes by the bytes of the log, and where no call of the store failed the log is as it was.
     ensures fault { IsTrue (S.state store.old).told
-        → IfErr result (IsSealFault values.now ((S.state store.old).logs SEAL_LOG).state.now) }
+        → IfErr result (IsSealFault values.now ((S.state store.old).logs (log_of journal)).state.now) }
     ensures untouched { IsTrue (S.state store.old).told → IfErr result (λ fault. fault ≢ SealFault.Failed
-        → (S.state store.new).logs SEAL_LOG ≡ (S.state store.old).logs SEAL_LOG) }
+        → (S.state store.new).logs (log_of journal) ≡ (S.state store.old).logs (log_of journal)) }
 
     // Where no crash leaves another seal, none does so at any moment of the call, nor after it.
-    ensures crash { IsTrue (S.state store.old).told → IsSealable values.now ((S.state store.old).logs SEAL_LOG).state
-        → Gained (IsSealable values.now) ((S.state store.old).logs SEAL_LOG) ((S.state store.new).logs SEAL_LOG) }
-    ensures leaves { IsTrue (S.state store.old).told → IsSealable values.now ((S.state store.old).logs SEAL_LOG).state
-        → IsSealable values.now ((S.state store.new).logs SEAL_LOG).state }
+    ensures crash { IsTrue (S.state store.old).told → IsSealable values.now ((S.state store.old).logs (log_of journal)).state
+        → Gained (IsSealable values.now) ((S.state store.old).logs (log_of journal)) ((S.state store.new).logs (log_of journal)) }
+    ensures leaves { IsTrue (S.state store.old).told → IsSealable values.now ((S.state store.old).logs (log_of journal)).state
+        → IsSealable values.now ((S.state store.new).logs (log_of journal)).state }
 {
-    let bytes = match store.read_all(alloc, SEAL_LOG) {
-        Ok(bytes) => bytes,
-        Err(fault) => return Err(of_store(fault)),
-    };
-    match compare(store, SEAL_LOG, bytes.as_slice(), values) {
-        Ok(()) => {}
-        Err(fault) => return Err(fault),
-    }
-    match store.sync(SEAL_LOG) {
-        Ok(()) => Ok(()),
-        Err(_) => Err(SealFault::Failed),
-    }
+    hold_log(alloc, store, seal_log(journal), values)
 }

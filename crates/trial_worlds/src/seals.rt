@@ -4,7 +4,7 @@ ghost use Rattle.std.specs.Prelude.{IsTrue, IfOk};
 use cube_io::{Failing, MemStore, Reach, SEAL_LOG, Store};
 use cube_journal::digest_of;
 use cube_model::Text;
-use cube_seal::{SealFault, hold_seal};
+use cube_seal::{SealFault, compare_seal, hold_seal};
 use std::alloc::Global;
 use std::test::Fail;
 
@@ -55,7 +55,11 @@ fn seals_are_written_and_compared(rt: HostRuntime) -> Result<(), Fail> {
     ];
     for (before, held, after) in &cases {
         let mut store = store_of(alloc, before, Vec::new(alloc))?;
-        assert_eq!(rt; hold_seal(alloc, &mut store, &digest_of(b"abc")), *held);
+        assert_eq!(rt;
+            compare_seal(alloc, &mut store, 0, &digest_of(b"abc")),
+            *held
+        );
+        assert_eq!(rt; hold_seal(alloc, &mut store, 0, &digest_of(b"abc")), *held);
         let bytes = store.read_all(alloc, SEAL_LOG)?;
         assert_eq!(rt; bytes.as_slice(), *after);
     }
@@ -74,8 +78,8 @@ fn hold_twice(alloc: Global, call: u64) -> Result<((Held, Held), Text), Fail> {
         vec![in alloc; Failing { call, reach }]?,
     )?;
     let values = digest_of(b"abc");
-    let first = hold_seal(alloc, &mut store, &values);
-    let next = hold_seal(alloc, &mut store, &values);
+    let first = hold_seal(alloc, &mut store, 0, &values);
+    let next = hold_seal(alloc, &mut store, 0, &values);
     Ok(((first, next), store.read_all(alloc, SEAL_LOG)?))
 }
 
