@@ -20,7 +20,7 @@ obeyed_as {F} {S} {I} {O} {W} {objects} {r} o o' same x = subst (λ (x : Orders)
 
 -- one journal is the first log
 pub only_first : (old new : StoreState) → OnlyJournal old new → OnlyFirst 1 old new
-only_first old new only told k far seal = only told k (λ zero. omega (arith, far, zero)) seal
+only_first old new only told k far none = only told k (λ zero. omega (arith, far, zero)) (none 0 (omega arith) (omega arith))
 
 each_ok : {T E : Type 0} (r : Result T E) (P : T → Type 0) → ((x : T) → P x) → IfOk r P
 each_ok (Ok x) P f = f x

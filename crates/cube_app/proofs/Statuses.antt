@@ -1,5 +1,5 @@
 -- The statuses of a run, and those of one in which no count of faults rose.
-use Rattle.std.proofs.Common.{◌≡◌, ◌⊎◌, inl, inr, ℕ, suc, Bool, true, false, List, [], ◌∷◌, Option, Some, None}
+use Rattle.std.proofs.Common.{◌≡◌, ◌⊎◌, inl, inr, ℕ, suc, Bool, true, false, List, [], ◌∷◌, map, Option, Some, None}
 use Rattle.std.specs.Prelude.{codes}
 use Rattle.std.specs.declared.result.Result.{Result}
 use Rattle.std.specs.declared.result.Result.TheVariants.{Ok, Err}
@@ -16,7 +16,7 @@ use Rattle.cube_opening.specs.declared.report.Report.{Report}
 use Rattle.cube_script.specs.Playing.{has_torn}
 use Rattle.cube_server.specs.declared.serving.ServeFault.{ServeFault}
 use Rattle.cube_server.specs.declared.serving.ServeFault.TheVariants.{WireFailed, Spent as SpentAll}
-use Rattle.cube_serving.specs.Grouping.{EndsClosedGroups, IsRefusedAt, UnstartedGroups}
+use Rattle.cube_serving.specs.Grouping.{EndsClosedGroups, IsRefusedAt, UnstartedGroups, journal_of}
 use Rattle.cube_serving.specs.ReplayedGroups.{GroupsReplayEnds}
 use Rattle.cube_serving.specs.ServedGroups.{GroupsServeEnds}
 use Rattle.cube_serving.specs.Replaying.{script_said, played_status, Writes, ReplayEnds}
@@ -24,6 +24,8 @@ use Rattle.cube_serving.specs.Serving.{served_status, ServeEnds, Unheard}
 use Rattle.cube_serving.specs.Starting.{Unstarted, EndsClosed}
 use Rattle.cube_opening.proofs.Ended.{IsOfFiles}
 use Rattle.cube_serving.proofs.Unruled.{status as files_status}
+use Rattle.cube_serving.proofs.Unstarted.{unsealed}
+use Rattle.cube_seal.specs.Values.{digest_of_values}
 use Rattle.cube_talk.specs.declared.talk.Ending.{Ending}
 use Rattle.cube_talk.specs.declared.talk.Ending.TheVariants.{Ended, InputFailed, OutputFailed, NoMemory, Spent}
 use Rattle.cube_words.specs.Help.{help_said}
@@ -181,7 +183,7 @@ journals core gs store r (inl e) = no_memory e.0.0
 journals core gs store r (inr (inl e)) = no_memory e.0.0
 journals core gs store r (inr (inr (inl e))) = unkept e.0.0
 journals core gs store r (inr (inr (inr (inl e)))) = refused_at core 0 gs store.before r e.0
-journals core gs store r (inr (inr (inr (inr (fault, e, calm))))) = unopened e.1.0
+journals core gs store r (inr (inr (inr (inr e)))) = unopened (unsealed (digest_of_values core) 0 (map journal_of gs) store.before r e.0).0
 
 closed_groups : {F S : Type 0} (cube : RuledFiles) (more : List (List ℕ)) (files : Seen FolderState F) (store : Seen StoreState S) (r : Report) → EndsClosedGroups cube more files store r → Known r.status
 closed_groups cube more files store r (inl e) = of_files (files_status cube files r e.0)

@@ -139,5 +139,5 @@ AdviseCompletes cube journal workload files store out r = HasAll cube files.befo
 pub record AdviseRun {F S O : Type 0} (cube : CubeFiles) (journal workload : Option (List ℕ)) (files : Seen FolderState F) (store : Seen StoreState S) (out : Seen SinkState O) (r : Report) : Type 0 where
   pub answers : AdviseEnds cube journal workload files store out r
   pub named : AsksIfNamed journal store r
-  pub few_calls : IsTrue store.before.told → store.after.calls ≤ store.before.calls + 11
+  pub few_calls : IsTrue store.before.told → store.after.calls ≤ store.before.calls + 12
   pub complete : AdviseCompletes cube journal workload files store out r

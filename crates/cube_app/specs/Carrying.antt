@@ -177,5 +177,5 @@ CarryCompletes cube older files store out r = HasAll cube files.before → HasAl
 pub record CarryRun {F S O : Type 0} (cube older : CubeFiles) (journal : List ℕ) (files : Seen FolderState F) (store : Seen StoreState S) (out : Seen SinkState O) (r : Report) : Type 0 where
   pub answers : CarryEnds cube older files store out r
   pub named_journal : AsksJournal journal store r
-  pub few_calls : IsTrue store.before.told → store.after.calls ≤ store.before.calls + 11
+  pub few_calls : IsTrue store.before.told → store.after.calls ≤ store.before.calls + 12
   pub complete : CarryCompletes cube older files store out r

@@ -69,5 +69,5 @@ TellCompletes telling cube cell files store out r = HasAll cube files.before →
 pub record TellRun {F S O : Type 0} (telling : Telling) (cube : CubeFiles) (journal cell : List ℕ) (files : Seen FolderState F) (store : Seen StoreState S) (out : Seen SinkState O) (r : Report) : Type 0 where
   pub answers : TellEnds telling cube cell files store out r
   pub named : AsksJournal journal store r
-  pub few_calls : IsTrue store.before.told → store.after.calls ≤ store.before.calls + 11
+  pub few_calls : IsTrue store.before.told → store.after.calls ≤ store.before.calls + 12
   pub complete : TellCompletes telling cube cell files store out r

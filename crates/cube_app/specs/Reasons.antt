@@ -120,7 +120,7 @@ WhyCompletes cube query files store out r = HasAll cube files.before → HasJour
 pub record WhyRun {F S O : Type 0} (cube : CubeFiles) (journal query : List ℕ) (files : Seen FolderState F) (store : Seen StoreState S) (out : Seen SinkState O) (r : Report) : Type 0 where
   pub answers : WhyEnds cube query files store out r
   pub named : AsksJournal journal store r
-  pub few_calls : IsTrue store.before.told → store.after.calls ≤ store.before.calls + 11
+  pub few_calls : IsTrue store.before.told → store.after.calls ≤ store.before.calls + 12
   pub complete : WhyCompletes cube query files store out r
 
 -- ---- whether a text says why
@@ -156,7 +156,7 @@ WhetherCompletes cube query name files store out r = HasAll cube files.before �
 pub record WhetherRun {F S O : Type 0} (cube : CubeFiles) (journal query name : List ℕ) (files : Seen FolderState F) (store : Seen StoreState S) (out : Seen SinkState O) (r : Report) : Type 0 where
   pub answers : WhetherEnds cube query name files store out r
   pub named : AsksJournal journal store r
-  pub few_calls : IsTrue store.before.told → store.after.calls ≤ store.before.calls + 11
+  pub few_calls : IsTrue store.before.told → store.after.calls ≤ store.before.calls + 12
   pub complete : WhetherCompletes cube query name files store out r
 
 -- ---- with or without the file of a reason

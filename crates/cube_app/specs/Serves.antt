@@ -16,7 +16,7 @@ use Rattle.cube_app.specs.Ends.{AsksJournal}
 pub record ServeRun {F S W : Type 0} (cube : CubeFiles) (journal address : List ℕ) (stated : ℕ) (files : Seen FolderState F) (store : Seen StoreState S) (wire : Seen WireState W) (r : Report) : Type 0 where
   pub answers : ServeEnds cube stated files store wire r
   pub named : AsksJournal journal store r
-  pub few_calls : r.status ≡ 9 → IsTrue store.before.told → store.after.calls ≤ store.before.calls + 11
+  pub few_calls : r.status ≡ 9 → IsTrue store.before.told → store.after.calls ≤ store.before.calls + 12
   pub listened : Unused wire ⊎ Hears address wire r
   pub memory : r.status ≡ 7 → (r.outcomes ≡ []) × (IsTrue wire.before.told → wire.after.log ≡ [])
   pub complete : ServeCompletes cube files store wire r
@@ -27,7 +27,7 @@ pub record ServeRun {F S W : Type 0} (cube : CubeFiles) (journal address : List 
 pub record ReplayRun {F S O : Type 0} (cube : CubeFiles) (journal script : List ℕ) (stated : ℕ) (files : Seen FolderState F) (store : Seen StoreState S) (out : Seen SinkState O) (r : Report) : Type 0 where
   pub answers : ReplayEnds cube script stated files store out r
   pub named : AsksJournal journal store r
-  pub few_calls : r.status ≡ 9 → IsTrue store.before.told → store.after.calls ≤ store.before.calls + 11
+  pub few_calls : r.status ≡ 9 → IsTrue store.before.told → store.after.calls ≤ store.before.calls + 12
   pub memory : r.status ≡ 7 → (r.outcomes ≡ []) × Unused out
   pub complete : ReplayCompletes cube script files store out r
 
@@ -37,7 +37,7 @@ pub record ReplayRun {F S O : Type 0} (cube : CubeFiles) (journal script : List 
 pub record ServeGroupsRun {F S W : Type 0} (cube : RuledFiles) (journal address : List ℕ) (stated : ℕ) (files : Seen FolderState F) (store : Seen StoreState S) (wire : Seen WireState W) (r : Report) : Type 0 where
   pub answers : GroupsServeEnds cube stated files store wire r
   pub named : AsksJournal journal store r
-  pub few_calls : r.status ≡ 9 → IsTrue store.before.told → store.after.calls ≤ store.before.calls + 101
+  pub few_calls : r.status ≡ 9 → IsTrue store.before.told → store.after.calls ≤ store.before.calls + 177
   pub listened : Unused wire ⊎ Hears address wire r
   pub memory : r.status ≡ 7 → (r.outcomes ≡ []) × (IsTrue wire.before.told → wire.after.log ≡ [])
   pub complete : GroupsServeComplete cube files store wire r
@@ -46,6 +46,6 @@ pub record ServeGroupsRun {F S W : Type 0} (cube : RuledFiles) (journal address 
 pub record ReplayGroupsRun {F S O : Type 0} (cube : RuledFiles) (journal script : List ℕ) (stated : ℕ) (files : Seen FolderState F) (store : Seen StoreState S) (out : Seen SinkState O) (r : Report) : Type 0 where
   pub answers : GroupsReplayEnds cube script stated files store out r
   pub named : AsksJournal journal store r
-  pub few_calls : r.status ≡ 9 → IsTrue store.before.told → store.after.calls ≤ store.before.calls + 101
+  pub few_calls : r.status ≡ 9 → IsTrue store.before.told → store.after.calls ≤ store.before.calls + 177
   pub memory : r.status ≡ 7 → (r.outcomes ≡ []) × Unused out
   pub complete : GroupsReplayComplete cube script files store out r

@@ -102,7 +102,7 @@ AskCompletes cube files store input out r = HasAll cube files.before → HasJour
 pub record AskRun {F S I O : Type 0} (cube : CubeFiles) (journal : List ℕ) (stated : ℕ) (files : Seen FolderState F) (store : Seen StoreState S) (input : Seen SourceState I) (out : Seen SinkState O) (r : Report) : Type 0 where
   pub answers : AskEnds cube stated files store input out r
   pub named : AsksJournal journal store r
-  pub few_calls : r.status ≡ 9 → IsTrue store.before.told → store.after.calls ≤ store.before.calls + 11
+  pub few_calls : r.status ≡ 9 → IsTrue store.before.told → store.after.calls ≤ store.before.calls + 12
   pub ended : r.status ≡ 0 → input.after.ended ≡ true
   pub memory : r.status ≡ 7 → Unused input × Unused out × (r.outcomes ≡ [])
   pub complete : AskCompletes cube files store input out r

@@ -1,5 +1,5 @@
 -- Journals of groups, opened one behind another.
-use Rattle.std.proofs.Common.{◌≡◌, ◌≢◌, ◌∙◌, ◌<◌, ◌≤◌, ◌+◌, refl, sym, ap, subst, ℕ, suc, Bool, true, false, cond, List, [], ◌∷◌, ◌++◌, length, length-append, take, drop, ◌==◌, map, ap₂, inl, inr, IsTrue, Ok, Err, Some, None, codes, arith}
+use Rattle.std.proofs.Common.{◌≡◌, ◌∙◌, ◌<◌, ◌≤◌, ◌+◌, refl, sym, ap, subst, ℕ, suc, Bool, true, false, cond, List, [], ◌∷◌, ◌++◌, length, length-append, take, drop, ◌==◌, map, ap₂, inl, inr, IsTrue, Ok, Err, Some, None, codes, arith}
 use Rattle.std.specs.Prelude.{◌⊎◌, ◌||◌, Result, IsOk, slice_index_or}
 use Rattle.std.proofs.lemmas.Bool.{false≢true}
 use Rattle.std.specs.List.{list_any}
@@ -12,26 +12,25 @@ use Rattle.cube_io.specs.Causes.{Rose}
 use Rattle.cube_io.specs.Seen.{StoreState, Seen, seen}
 use Rattle.cube_io.specs.States.{Log, Gained}
 use Rattle.cube_io.specs.Told.{OthersStay, Works}
-use Rattle.cube_io.specs.declared.store.TheConstants.{SEAL_LOG}
 use Rattle.cube_io.proofs.Trails.{gained_none}
 use Rattle.cube_journal.specs.Keeping.{IsInRecovery}
-use Rattle.cube_engine.specs.Kept.{history_of, IsExact}
+use Rattle.cube_engine.specs.Kept.{history_of, IsExact, IsKept}
 use Rattle.cube_engine.specs.Opening.{StartCause, IsStartFault}
 use Rattle.cube_engine.specs.Worlds.{IsRuled}
 use Rattle.cube_engine.specs.declared.fault.EngineFault.{EngineFault}
 use Rattle.cube_engine.specs.declared.fault.EngineFault.TheVariants.{Failed, TooLong, Damaged, OtherCube, Inadmissible, NoMemory}
 use Rattle.cube_opening.specs.Reports.{IsReport, NoMessage}
+use Rattle.cube_seal.specs.Seals.{seal_log}
 use Rattle.cube_seal.specs.Values.{digest_of_values}
 use Rattle.cube_opening.specs.Ruling.{called}
 use Rattle.cube_opening.specs.declared.report.Report.{Report}
 use Rattle.cube_opening.specs.declared.ruling.RuledGroup.{RuledGroup}
-use Rattle.cube_serving.specs.Grouping.{AllRecover, AreStarted, Gathers, IsRefusedAt, IsStarted, OnlyFrom, OnlyFirst, RestUnstarted, UnstartedGroups}
+use Rattle.cube_serving.specs.Grouping.{journal_of, AllRecover, AreStarted, EndsAtSeals, Gathers, IsRefusedAt, IsStarted, OnlyFrom, OnlyFirst, OnlySeals, RestUnstarted, UnstartedGroups}
 use Rattle.cube_serving.specs.NamedBooks.{IsAdded, IsKeptIn, room, rooms_of}
 use Rattle.cube_serving.specs.Starting.{journal_status, journal_text_as}
 use Rattle.cube_serving.specs.declared.named.NamedBook.{NamedBook}
 use Rattle.cube_serving.proofs.Lists.{map_append}
-use Rattle.cube_serving.proofs.Placed.{flip, kept_elsewhere}
-use Rattle.cube_serving.proofs.Sealing.{EndsAtSeal}
+use Rattle.cube_serving.proofs.Placed.{flip}
 
 -- ---- names
 
@@ -272,18 +271,22 @@ some_started core store [] bs some a = absurd (omega (arith, some))
 some_started core store (g ∷ gs) [] some a = absurd a
 some_started core store (g ∷ gs) (b ∷ bs) some a = omega arith
 
--- ---- the seal beside them
+-- ---- the seals beside them
 
--- its log is none of theirs
-pub seal_stays : (n : ℕ) (old mid : StoreState) → n ≤ 16 → OnlyFrom 0 n old mid → IsTrue old.told → mid.logs SEAL_LOG ≡ old.logs SEAL_LOG
-seal_stays n old mid few frame told = frame told SEAL_LOG (inr (omega (arith, few)))
+-- their logs are none of theirs
+pub seals_stay : (n : ℕ) (old mid : StoreState) → n ≤ 16 → OnlyFrom 0 n old mid → IsTrue old.told → (j : ℕ) → j < 16 → mid.logs (seal_log j) ≡ old.logs (seal_log j)
+seals_stay n old mid few frame told j low = frame told (seal_log j) (inr (omega (arith, few, low)))
 
-pub only_first : (n : ℕ) (old mid new : StoreState) → mid.told ≡ old.told → OnlyFrom 0 n old mid → OthersStay SEAL_LOG mid new → OnlyFirst n old new
-only_first n old mid new told_same first second told k far seal = second (subst IsTrue (sym told_same) told) k seal ∙ first told k (inr (omega (arith, far)))
+pub only_first : (n : ℕ) (old mid new : StoreState) → mid.told ≡ old.told → OnlyFrom 0 n old mid → OnlySeals 0 n mid new → OnlyFirst n old new
+only_first n old mid new told_same first second told k far none = second (subst IsTrue (sym told_same) told) k none ∙ first told k (inr (omega (arith, far)))
 
-module _ {S : Type 0} (core : Core) (tells : S → StoreState) (old mid new : S) (told_same : (tells mid).told ≡ (tells old).told) (others : OthersStay SEAL_LOG (tells mid) (tells new)) where
+-- the frame of journals alone
+pub only_from_first : (n : ℕ) (old new : StoreState) → OnlyFrom 0 n old new → OnlyFirst n old new
+only_from_first n old new frame told k far none = frame told k (inr (omega (arith, far)))
+
+module _ {S : Type 0} (core : Core) (tells : S → StoreState) (old mid new : S) (n : ℕ) (few_seals : n ≤ 16) (told_same : (tells mid).told ≡ (tells old).told) (others : OnlySeals 0 n (tells mid) (tells new)) where
   low : IsTrue (tells old).told → (k : ℕ) → k < 16 → (tells new).logs k ≡ (tells mid).logs k
-  low told k few = others (subst IsTrue (sym told_same) told) k (λ e. omega (arith, e, few))
+  low told k few = others (subst IsTrue (sym told_same) told) k (λ j from up e. omega (arith, e, few, up, few_seals))
 
   pub started_sealed : (k : ℕ) (gs : List RuledGroup) (bs : List NamedBook) → k + length gs ≤ 16 → AreStarted core (seen tells old mid) k gs bs → AreStarted core (seen tells old new) k gs bs
   started_sealed k [] [] few a = a
@@ -309,14 +312,17 @@ module _ {S : Type 0} (core : Core) (tells : S → StoreState) (old mid new : S)
     recover_sealed (suc k) gs (omega (arith, few)) a,
   )
 
-  logs_low : (k : ℕ) (gs : List RuledGroup) (bs : List NamedBook) → k + length gs ≤ 16 → AreStarted core (seen tells old mid) k gs bs → Each (λ b. b.book.journal.log ≢ SEAL_LOG) bs
-  logs_low k [] [] few a = tt
-  logs_low k [] (b ∷ bs) few a = absurd a
-  logs_low k (g ∷ gs) [] few a = tt
-  logs_low k (g ∷ gs) (b ∷ bs) few (s, a) = ((λ e. let at = s.log_is in omega (arith, at, e, few)), logs_low (suc k) gs bs (omega (arith, few)) a)
+  kept_from : (k : ℕ) (gs : List RuledGroup) (bs : List NamedBook) → k + length gs ≤ 16 → AreStarted core (seen tells old mid) k gs bs → IsTrue (tells old).told → Each (IsKeptIn (tells mid).logs) bs → Each (IsKeptIn (tells new).logs) bs
+  kept_from k [] [] few a told kept = kept
+  kept_from k [] (b ∷ bs) few a told kept = absurd a
+  kept_from k (g ∷ gs) [] few a told kept = kept
+  kept_from k (g ∷ gs) (b ∷ bs) few (s, a) told kept = (
+    (let at = s.log_is in subst (λ (l : Log). IsKept b.book.core b.book.policy b.book.history b.book.journal l.state) (sym (low told b.book.journal.log (omega (arith, at, few)))) kept.0),
+    kept_from (suc k) gs bs (omega (arith, few)) a told kept.1,
+  )
 
   pub kept_sealed : (gs : List RuledGroup) (bs : List NamedBook) → length gs ≤ 16 → AreStarted core (seen tells old mid) 0 gs bs → IsTrue (tells old).told → Each (IsKeptIn (tells mid).logs) bs → Each (IsKeptIn (tells new).logs) bs
-  kept_sealed gs bs few a told kept = kept_elsewhere SEAL_LOG (tells mid).logs (tells new).logs (λ k other. others (subst IsTrue (sym told_same) told) k other) bs (logs_low 0 gs bs (omega (arith, few)) a) kept
+  kept_sealed gs bs few a told kept = kept_from 0 gs bs (omega (arith, few)) a told kept
 
 -- ---- the end of a run
 
@@ -326,7 +332,7 @@ at_rest core gs store r (inr (inl e)) = inr (inl e)
 at_rest core gs store r (inr (inr (inl e))) = inr (inr (inl e))
 at_rest core gs store r (inr (inr (inr e))) = inr (inr (inr (inl e)))
 
-pub unsealed_groups : {S : Type 0} (core : Core) (gs : List RuledGroup) (store : Seen StoreState S) (r : Report) → EndsAtSeal (digest_of_values core) store r → UnstartedGroups core gs store r
+pub unsealed_groups : {S : Type 0} (core : Core) (gs : List RuledGroup) (store : Seen StoreState S) (r : Report) → EndsAtSeals 0 (map journal_of gs) (digest_of_values core) store r → UnstartedGroups core gs store r
 unsealed_groups core gs store r (inl e) = inl e
 unsealed_groups core gs store r (inr (inl e)) = inr (inl e)
 unsealed_groups core gs store r (inr (inr (inl e))) = inr (inr (inl e))

@@ -3,7 +3,7 @@ pub mod Placed
 pub mod Turning
 pub mod Adding
 pub mod Started
-pub mod Sealing
+pub mod SealsHeld
 pub mod Held
 pub mod Phrases
 pub mod Wired
@@ -12,6 +12,7 @@ mod Listening
 pub mod Grouped
 pub mod GroupLogs
 pub mod Gathered
+pub mod Names
 pub mod Shared
 pub mod OpenGroups
 pub mod Unruled

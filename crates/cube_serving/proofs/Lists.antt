@@ -1,5 +1,6 @@
 -- Lists, item by item.
-use Rattle.std.proofs.Common.{◌≡◌, refl, ap, ap₂, subst, ℕ, suc, List, [], ◌∷◌, ◌++◌, map, inl, inr}
+use Rattle.std.proofs.Common.{◌≡◌, ◌≤◌, ◌-◌, refl, ap, ap₂, subst, ℕ, suc, List, [], ◌∷◌, ◌++◌, length, map, take, drop, get_or, inl, inr, arith}
+use Rattle.std.proofs.lemmas.List.{take_all}
 use Rattle.cube_model.specs.Cubes.{IsIn, Each}
 use Rattle.cube_serving.specs.Grouping.{AllOf}
 
@@ -8,6 +9,11 @@ head_alike e = cc
 
 pub tail_alike : {X : Type 0} {x y : X} {xs ys : List X} → (x ∷ xs) ≡ (y ∷ ys) → xs ≡ ys
 tail_alike e = cc
+
+-- a list that has a first item
+pub first_and_rest : {X : Type 0} (list : List X) (f : X) → 1 ≤ length list → f ≡ get_or list 0 f → f ∷ take (length list - 1) (drop 1 list) ≡ list
+first_and_rest [] f some is = absurd (omega (arith, some))
+first_and_rest (x ∷ xs) f some is = ap₂ (λ y ys. y ∷ ys) is (take_all (length (x ∷ xs) - 1) xs (omega arith))
 
 -- ---- what holds of each
 

@@ -1,6 +1,7 @@
 -- What is known of groups that were opened, seen as runs.
-use Rattle.std.proofs.Common.{◌≡◌, ◌∙◌, ◌≤◌, refl, sym, ap, ap₂, subst, ℕ, suc, Bool, List, [], ◌∷◌, ◌++◌, length, map, inr, IsTrue, Ok, arith}
+use Rattle.std.proofs.Common.{◌≡◌, ◌∙◌, ◌<◌, ◌≤◌, ◌+◌, refl, sym, ap, ap₂, subst, ℕ, suc, Bool, List, [], ◌∷◌, ◌++◌, length, map, inr, IsTrue, Ok, arith}
 use Rattle.std.specs.Prelude.{Result}
+use Rattle.std.proofs.lemmas.List.{length-map}
 use Rattle.cube_model.specs.declared.entry.Entry.{Entry}
 use Rattle.cube_model.specs.declared.policy.Policy.{Policy}
 use Rattle.cube_model.specs.Cores.{Core, shown}
@@ -13,21 +14,21 @@ use Rattle.cube_io.specs.Seen.{FolderState, StoreState, Seen, seen}
 use Rattle.cube_io.specs.Wires.{LogEntry}
 use Rattle.cube_server.specs.declared.serving.ServeFault.{ServeFault}
 use Rattle.cube_model.specs.declared.outcome.Outcome.{Outcome}
-use Rattle.cube_io.specs.States.{Log, Gained}
-use Rattle.cube_io.specs.declared.store.TheConstants.{SEAL_LOG}
+use Rattle.cube_io.specs.States.{Log}
 use Rattle.cube_engine.specs.Kept.{history_of, IsExact}
 use Rattle.cube_engine.specs.Worlds.{IsRuled}
 use Rattle.cube_opening.specs.Opening.{GotBehind}
 use Rattle.cube_opening.specs.Ruling.{MakeGroups, ruled_names}
 use Rattle.cube_opening.specs.declared.cube_files.RuledFiles.{RuledFiles}
 use Rattle.cube_opening.specs.declared.ruling.RuledGroup.{RuledGroup}
-use Rattle.cube_seal.specs.Seals.{Agrees, IsSealed, IsSealable}
+use Rattle.cube_seal.specs.Seals.{seal_log, IsSealed}
 use Rattle.cube_seal.specs.Values.{digest_of_values}
-use Rattle.cube_serving.specs.Grouping.{GroupRun, AllOf, AllRecover, AreOpen, AreStarted, OnlyFrom, OnlyFirst, ruled, ruled_by}
+use Rattle.cube_serving.specs.Grouping.{GroupRun, AllAgree, AllOf, AllRecover, AllSealed, AllSeals, AreOpen, AreStarted, OnlyFrom, OnlyFirst, journal_of, ruled, ruled_by}
 use Rattle.cube_serving.specs.NamedBooks.{Groups}
 use Rattle.cube_serving.specs.ServedGroups.{IsInGroupsTurn, HoldFrom, AreRunsOf, ServeWire, ServedGroups, UnservedGroups, WiredGroups}
-use Rattle.cube_serving.specs.Starting.{RecoversIn, Seals, SurvivedIn, HeldIn}
+use Rattle.cube_serving.specs.Starting.{RecoversIn, SurvivedIn, HeldIn}
 use Rattle.cube_serving.specs.declared.named.NamedBook.{NamedBook}
+use Rattle.cube_serving.proofs.SealsHeld.{seals_still}
 
 -- a group by its name and its policy
 group_of : List ℕ → Policy → RuledGroup
@@ -111,23 +112,42 @@ started_few core store k [] (b ∷ bs) a = absurd a
 started_few core store k (g ∷ gs) [] a = absurd a
 started_few core store k (g ∷ gs) (b ∷ bs) a = ap suc (started_few core store (suc k) gs bs a.1)
 
+-- ---- their seals
+
+-- the logs of the seals are left alone
+abbrev pub SealsLeft : {S : Type 0} → (S → StoreState) → S → S → S → Type 0
+SealsLeft tells old mid new = IsTrue (tells old).told → (j : ℕ) → j < 16 → (tells new).logs (seal_log j) ≡ (tells mid).logs (seal_log j)
+
+module _ {S : Type 0} (values : List ℕ) (tells : S → StoreState) (old mid new : S) (left : SealsLeft tells old mid new) where
+  sealed_left : IsTrue (tells old).told → (k : ℕ) (ns : List (List ℕ)) → k + length ns ≤ 16 → AllSealed values (tells mid) k ns → AllSealed values (tells new) k ns
+  sealed_left told k [] few a = a
+  sealed_left told k (n ∷ ns) few a = (subst (λ (l : Log). IsSealed values l.state) (sym (left told k (omega (arith, few)))) a.0, sealed_left told (suc k) ns (omega (arith, few)) a.1)
+
+  seals_left : (k : ℕ) (ns : List (List ℕ)) → k + length ns ≤ 16 → AllSeals values (seen tells old mid) k ns → AllSeals values (seen tells old new) k ns
+  seals_left k [] few a = a
+  seals_left k (n ∷ ns) few a = (seals_still k values tells old mid new (λ told. left told k (omega (arith, few))) a.0, seals_left (suc k) ns (omega (arith, few)) a.1)
+
 -- ---- open groups
 
 module _ {F S : Type 0} (cube : RuledFiles) (more : List (List ℕ)) (files : Seen FolderState F) (fs : List GroupFile) (core : Core) (gs : List RuledGroup) (tells : S → StoreState) (old mid : S) (bs : List NamedBook)
     (make : MakeGroups cube files.before core fs gs) (behind : GotBehind (ruled_names cube fs ++ more) files) (started : AreStarted core (seen tells old mid) 0 gs bs)
-    (over : Each (λ b. b.book.core ≡ core) bs) (rules : Each (λ b. IsRuled b.book) bs) (agreed : IsTrue (tells old).told → Agrees (digest_of_values core) ((tells old).logs SEAL_LOG).state.now) (sealed : IsTrue (tells old).told → IsSealed (digest_of_values core) ((tells mid).logs SEAL_LOG).state) (seals : Seals (digest_of_values core) (seen tells old mid)) where
-  -- while the log of the seal is left alone
-  pub are_open : (new : S) (rs : List GroupRun) → AreRunsOf bs rs → (IsTrue (tells old).told → (tells new).logs SEAL_LOG ≡ (tells mid).logs SEAL_LOG) → AreOpen cube more files (seen tells old new) core rs
-  are_open new rs runs stays = record {
-    listed = fs;
-    files_make = subst (MakeGroups cube files.before core fs) (sym (runs_ruled core (seen tells old mid) 0 gs bs rs started runs)) make;
-    behind = behind;
-    recovered = λ told. runs_recovered core (seen tells old mid) 0 gs bs rs started runs told;
-    admissible = runs_admissible core bs rs runs over rules;
-    agreed = agreed;
-    sealed = λ told. subst (λ (l : Log). IsSealed (digest_of_values core) l.state) (sym (stays told)) (sealed told);
-    seals = λ told able. subst (λ (l : Log). Gained (IsSealable (digest_of_values core)) ((tells old).logs SEAL_LOG) l) (sym (stays told)) (seals told able);
-  }
+    (over : Each (λ b. b.book.core ≡ core) bs) (rules : Each (λ b. IsRuled b.book) bs)
+    (few : length gs ≤ 16) (agreed : IsTrue (tells old).told → AllAgree (digest_of_values core) (tells old) 0 (map journal_of gs)) (sealed : IsTrue (tells old).told → AllSealed (digest_of_values core) (tells mid) 0 (map journal_of gs)) (seals : AllSeals (digest_of_values core) (seen tells old mid) 0 (map journal_of gs)) where
+  -- while the logs of the seals are left alone
+  pub are_open : (new : S) (rs : List GroupRun) → AreRunsOf bs rs → SealsLeft tells old mid new → AreOpen cube more files (seen tells old new) core rs
+  are_open new rs runs stays =
+      let same = sym (runs_ruled core (seen tells old mid) 0 gs bs rs started runs) in
+      let low : 0 + length (map journal_of gs) ≤ 16 = (let long = length-map gs journal_of in omega (arith, long, few)) in
+      record {
+        listed = fs;
+        files_make = subst (MakeGroups cube files.before core fs) same make;
+        behind = behind;
+        recovered = λ told. runs_recovered core (seen tells old mid) 0 gs bs rs started runs told;
+        admissible = runs_admissible core bs rs runs over rules;
+        agreed = λ told. subst (λ (l : List RuledGroup). AllAgree (digest_of_values core) (tells old) 0 (map journal_of l)) same (agreed told);
+        sealed = λ told. subst (λ (l : List RuledGroup). AllSealed (digest_of_values core) (tells new) 0 (map journal_of l)) same (sealed_left (digest_of_values core) tells old mid new stays told 0 (map journal_of gs) low (sealed told));
+        seals = subst (λ (l : List RuledGroup). AllSeals (digest_of_values core) (seen tells old new) 0 (map journal_of l)) same (seals_left (digest_of_values core) tells old mid new stays 0 (map journal_of gs) low seals);
+      }
 
   -- at each moment of the opening their logs recovered the same
   pub run_recovers : (rs : List GroupRun) → AreRunsOf bs rs → AllRecover core 0 gs (seen tells old mid) → AllRecover core 0 (ruled rs) (seen tells old mid)
@@ -138,13 +158,13 @@ module _ {F S : Type 0} (cube : RuledFiles) (more : List (List ℕ)) (files : Se
   unserved passed = record {
     core = core;
     groups = runs_at bs;
-    opened = are_open mid (runs_at bs) (still_runs bs) (λ told. refl);
+    opened = are_open mid (runs_at bs) (still_runs bs) (λ told j low. refl);
     passed = run_recovers (runs_at bs) (still_runs bs) passed;
     exact = λ told. runs_exact core (seen tells old mid) 0 gs bs (runs_at bs) started (still_runs bs) told;
   }
 
   -- a wire was served
-  pub served : (new : S) (e last : Groups) (end : Result (Unit {0}) ServeFault) (told heard_told : Bool) (log : List LogEntry) → bs ≡ e.books → heard_told ≡ told → (IsTrue (tells old).told → (tells new).logs SEAL_LOG ≡ (tells mid).logs SEAL_LOG) → (tells mid).told ≡ (tells old).told → (tells mid).faults ≡ (tells old).faults
+  pub served : (new : S) (e last : Groups) (end : Result (Unit {0}) ServeFault) (told heard_told : Bool) (log : List LogEntry) → bs ≡ e.books → heard_told ≡ told → SealsLeft tells old mid new → (tells mid).told ≡ (tells old).told → (tells mid).faults ≡ (tells old).faults
       → AllRecover core 0 gs (seen tells old mid) → (w : ServeWire tells core e last end heard_told log mid new) → RoseBy (faults_in last.outcomes) (tells mid).faults (tells new).faults → ServedGroups cube more files (seen tells old new) w.asking end told log
   served new e last end told heard_told log is same_heard stays told_same steady passed w failed =
       let runs : AreRunsOf bs w.asking.groups = subst (λ (xs : List NamedBook). AreRunsOf xs w.asking.groups) (sym is) w.runs in
@@ -168,12 +188,12 @@ module _ {F S : Type 0} (cube : RuledFiles) (more : List (List ℕ)) (files : Se
 -- ---- what a serving leaves alone
 
 module _ {S : Type 0} (core : Core) (tells : S → StoreState) (old mid new : S) (gs : List RuledGroup) (bs : List NamedBook) (few : length gs ≤ 16) (started : AreStarted core (seen tells old mid) 0 gs bs) (told_same : (tells mid).told ≡ (tells old).told) where
-  -- the log of the seal
-  pub seal_left : OnlyFrom 0 (length bs) (tells mid) (tells new) → IsTrue (tells old).told → (tells new).logs SEAL_LOG ≡ (tells mid).logs SEAL_LOG
-  seal_left frame told = let long = started_few core (seen tells old mid) 0 gs bs started in frame (subst IsTrue (sym told_same) told) SEAL_LOG (inr (omega (arith, few, long)))
+  -- the logs of the seals
+  pub seals_alone : OnlyFrom 0 (length bs) (tells mid) (tells new) → SealsLeft tells old mid new
+  seals_alone frame told j low = let long = started_few core (seen tells old mid) 0 gs bs started in frame (subst IsTrue (sym told_same) told) (seal_log j) (inr (omega (arith, few, long, low)))
 
   -- and each log behind the first sixteen
   pub only_sixteen : OnlyFirst (length gs) (tells old) (tells mid) → OnlyFrom 0 (length bs) (tells mid) (tells new) → OnlyFirst 16 (tells old) (tells new)
-  only_sixteen opened frame told k far seal =
+  only_sixteen opened frame told k far none =
       let long = started_few core (seen tells old mid) 0 gs bs started in
-      frame (subst IsTrue (sym told_same) told) k (inr (omega (arith, far, few, long))) ∙ opened told k (omega (arith, far, few)) seal
+      frame (subst IsTrue (sym told_same) told) k (inr (omega (arith, far, few, long))) ∙ opened told k (omega (arith, far, few)) (λ j from low. none j from (omega (arith, low, few)))

@@ -7,14 +7,13 @@ use Rattle.cube_model.specs.Rooms.{Room}
 use Rattle.cube_model.specs.Verdicts.{IsAdmissible}
 use Rattle.cube_io.specs.Seen.{FolderState, StoreState, seen}
 use Rattle.cube_io.specs.States.{State, Log, Gained}
-use Rattle.cube_io.specs.declared.store.TheConstants.{SEAL_LOG}
 use Rattle.cube_journal.specs.Keeping.{Journal}
 use Rattle.cube_engine.specs.Engines.{Engine, book_of}
 use Rattle.cube_engine.specs.Kept.{history_of, IsExact, IsWithin}
 use Rattle.cube_engine.specs.Worlds.{first_history, IsRuled}
 use Rattle.cube_opening.specs.Opening.{Make}
 use Rattle.cube_opening.specs.declared.cube_files.CubeFiles.{CubeFiles}
-use Rattle.cube_seal.specs.Seals.{Agrees, IsSealed, IsSealable}
+use Rattle.cube_seal.specs.Seals.{seal_log, Agrees, IsSealed, IsSealable}
 use Rattle.cube_seal.specs.Values.{digest_of_values}
 use Rattle.cube_serving.specs.Starting.{IsOpen, Seals}
 
@@ -34,8 +33,8 @@ begun core policy h j stated = record { core = core; policy = policy; history = 
 
 -- behind the opening of its journal
 pub opened : {S : Type 0} (cube : CubeFiles) (files : FolderState) (tells : S → StoreState) (old mid : S) (core : Core) (policy : Policy) (e : Engine) (stated : ℕ) → Make cube files core policy
-    → e ≡ begun core policy e.history e.journal stated → IsRuled (book_of e) → (IsTrue (tells old).told → history_of core policy ((tells old).logs 0).state.now ≡ Ok e.history) → (IsTrue (tells old).told → Agrees (digest_of_values core) ((tells old).logs SEAL_LOG).state.now)
-    → (IsTrue (tells old).told → IsSealed (digest_of_values core) ((tells mid).logs SEAL_LOG).state) → Seals (digest_of_values core) (seen tells old mid) → IsOpen cube files (seen tells old mid) core policy e.history
+    → e ≡ begun core policy e.history e.journal stated → IsRuled (book_of e) → (IsTrue (tells old).told → history_of core policy ((tells old).logs 0).state.now ≡ Ok e.history) → (IsTrue (tells old).told → Agrees (digest_of_values core) ((tells old).logs (seal_log 0)).state.now)
+    → (IsTrue (tells old).told → IsSealed (digest_of_values core) ((tells mid).logs (seal_log 0)).state) → Seals (digest_of_values core) (seen tells old mid) → IsOpen cube files (seen tells old mid) core policy e.history
 opened cube files tells old mid core policy e stated make is rules recovered agreed sealed seals = record {
   files_make = make;
   recovered = recovered;
@@ -46,7 +45,7 @@ opened cube files tells old mid core policy e stated make is rules recovered agr
 }
 
 -- and while the log of its seal is left alone
-pub still_open : {S : Type 0} (cube : CubeFiles) (files : FolderState) (tells : S → StoreState) (old mid new : S) (core : Core) (policy : Policy) (history : List Entry) → (IsTrue (tells old).told → (tells new).logs SEAL_LOG ≡ (tells mid).logs SEAL_LOG)
+pub still_open : {S : Type 0} (cube : CubeFiles) (files : FolderState) (tells : S → StoreState) (old mid new : S) (core : Core) (policy : Policy) (history : List Entry) → (IsTrue (tells old).told → (tells new).logs (seal_log 0) ≡ (tells mid).logs (seal_log 0))
     → IsOpen cube files (seen tells old mid) core policy history → IsOpen cube files (seen tells old new) core policy history
 still_open cube files tells old mid new core policy history same o = record {
   files_make = o.files_make;
@@ -54,5 +53,5 @@ still_open cube files tells old mid new core policy history same o = record {
   admissible = o.admissible;
   agreed = o.agreed;
   sealed = λ told. subst (λ (l : Log). IsSealed (digest_of_values core) l.state) (sym (same told)) (o.sealed told);
-  seals = λ told able. subst (λ (l : Log). Gained (IsSealable (digest_of_values core)) ((tells old).logs SEAL_LOG) l) (sym (same told)) (o.seals told able);
+  seals = λ told able. subst (λ (l : Log). Gained (IsSealable (digest_of_values core)) ((tells old).logs (seal_log 0)) l) (sym (same told)) (o.seals told able);
 }

@@ -1,5 +1,5 @@
 -- A run over groups that ended at their journals.
-use Rattle.std.proofs.Common.{◌≡◌, ◌⊎◌, ◌∙◌, ◌≤◌, ◌^◌, ℕ, suc, List, [], ◌∷◌, length, inl, inr, sym, arith, IsTrue}
+use Rattle.std.proofs.Common.{◌≡◌, ◌⊎◌, ◌∙◌, ◌≤◌, ◌^◌, ℕ, suc, List, [], ◌∷◌, length, map, inl, inr, sym, arith, IsTrue}
 use Rattle.std.specs.Prelude.{IsOk}
 use Rattle.std.specs.declared.result.Result.{Result}
 use Rattle.std.specs.declared.result.Result.TheVariants.{Ok, Err}
@@ -7,19 +7,18 @@ use Rattle.cube_model.specs.declared.entry.Entry.{Entry}
 use Rattle.cube_model.specs.Cores.{Core}
 use Rattle.cube_io.specs.Causes.{Rose}
 use Rattle.cube_io.specs.Seen.{StoreState, Seen}
-use Rattle.cube_io.specs.declared.store.TheConstants.{SEAL_LOG}
 use Rattle.cube_engine.specs.Kept.{history_of}
 use Rattle.cube_engine.specs.Opening.{IsStartFault}
 use Rattle.cube_engine.specs.declared.fault.EngineFault.{EngineFault}
 use Rattle.cube_engine.specs.declared.fault.EngineFault.TheVariants.{Failed, TooLong, Damaged, OtherCube, Inadmissible, NoMemory}
 use Rattle.cube_opening.specs.declared.report.Report.{Report}
 use Rattle.cube_opening.specs.declared.ruling.RuledGroup.{RuledGroup}
-use Rattle.cube_seal.specs.Seals.{Agrees, IsSealFault}
+use Rattle.cube_seal.specs.Seals.{seal_log, Agrees, IsSealFault}
 use Rattle.cube_seal.specs.Values.{digest_of_values}
 use Rattle.cube_seal.specs.declared.reading.Said.TheVariants as said
 use Rattle.cube_seal.specs.declared.fault.SealFault.{SealFault}
 use Rattle.cube_seal.specs.declared.fault.SealFault.TheVariants as seal
-use Rattle.cube_serving.specs.Grouping.{AllOf, IsAccepted, IsRefusedAt, UnstartedGroups}
+use Rattle.cube_serving.specs.Grouping.{AllAgree, AllOf, IsAccepted, IsRefusedAt, IsUnsealedAt, UnstartedGroups, journal_of}
 use Rattle.cube_serving.specs.Starting.{journal_status, seal_status}
 
 -- ---- its status: 4, 7 or 9
@@ -32,13 +31,18 @@ refused core k [] store r e = absurd e
 refused core k (g ∷ gs) store r (inl (fault, e)) = (e.1.0, e.1.1)
 refused core k (g ∷ gs) store r (inr e) = refused core (suc k) gs store r e.1
 
+pub unsealed : (values : List ℕ) (k : ℕ) (ns : List (List ℕ)) (store : StoreState) (r : Report) → IsUnsealedAt values k ns store r → (r.status ≡ 4) × (r.outcomes ≡ [])
+unsealed values k [] store r e = absurd e
+unsealed values k (n ∷ ns) store r (inl (fault, e)) = (e.1.0, e.1.1)
+unsealed values k (n ∷ ns) store r (inr e) = unsealed values (suc k) ns store r e.1
+
 module _ {S : Type 0} (core : Core) (gs : List RuledGroup) (store : Seen StoreState S) (r : Report) where
   pub status : UnstartedGroups core gs store r → IsOfJournals r.status
   status (inl e) = inr (inl e.0.0)
   status (inr (inl e)) = inr (inl e.0.0)
   status (inr (inr (inl e))) = inr (inr e.0.0)
   status (inr (inr (inr (inl e)))) = inl (refused core 0 gs store.before r e.0).0
-  status (inr (inr (inr (inr (fault, e, calm))))) = inl e.1.0
+  status (inr (inr (inr (inr e)))) = inl (unsealed (digest_of_values core) 0 (map journal_of gs) store.before r e.0).0
 
   -- it reports no outcomes
   pub unasked : UnstartedGroups core gs store r → r.outcomes ≡ []
@@ -46,7 +50,7 @@ module _ {S : Type 0} (core : Core) (gs : List RuledGroup) (store : Seen StoreSt
   unasked (inr (inl e)) = e.0.1
   unasked (inr (inr (inl e))) = e.0.1
   unasked (inr (inr (inr (inl e)))) = (refused core 0 gs store.before r e.0).1
-  unasked (inr (inr (inr (inr (fault, e, calm))))) = e.1.1
+  unasked (inr (inr (inr (inr e)))) = (unsealed (digest_of_values core) 0 (map journal_of gs) store.before r e.0).1
 
   -- with status 9 the store counted a fault
   pub failed : UnstartedGroups core gs store r → r.status ≡ 9 → Rose store.before.faults store.after.faults
@@ -54,7 +58,7 @@ module _ {S : Type 0} (core : Core) (gs : List RuledGroup) (store : Seen StoreSt
   failed (inr (inl e)) nine = absurd (omega (arith, e.0.0, nine))
   failed (inr (inr (inl e))) nine = e.1
   failed (inr (inr (inr (inl e)))) nine = absurd (omega (arith, (refused core 0 gs store.before r e.0).0, nine))
-  failed (inr (inr (inr (inr (fault, e, calm))))) nine = absurd (omega (arith, e.1.0, nine))
+  failed (inr (inr (inr (inr e)))) nine = absurd (omega (arith, (unsealed (digest_of_values core) 0 (map journal_of gs) store.before r e.0).0, nine))
 
   other : (k : ℕ) → (k ≡ 4 → ⊥) → (k ≡ 7 → ⊥) → (k ≡ 9 → ⊥) → IsOfJournals r.status → r.status ≡ k → ⊥
   other k four seven nine (inl e) is = four (sym is ∙ e)
@@ -103,10 +107,15 @@ unlike values bytes (seal.OtherValues kept) (inr a) four (e, other) = other (sam
     same : said.Sealed kept ≡ said.Sealed values → kept ≡ values
     same e = cc
 
-pub accepted : {S : Type 0} (core : Core) (gs : List RuledGroup) (store : Seen StoreState S) (r : Report) → IsTrue store.before.told → AllOf (IsAccepted core store.before) 0 gs → Agrees (digest_of_values core) (store.before.logs SEAL_LOG).state.now
+none_unsealed : (values : List ℕ) (k : ℕ) (ns : List (List ℕ)) (store : StoreState) (r : Report) → IsTrue store.told → AllAgree values store k ns → IsUnsealedAt values k ns store r → ⊥
+none_unsealed values k [] store r told a e = e
+none_unsealed values k (n ∷ ns) store r told a (inl (fault, e)) = unlike values (store.logs (seal_log k)).state.now fault a.0 e.0 (e.2 told)
+none_unsealed values k (n ∷ ns) store r told a (inr e) = none_unsealed values (suc k) ns store r told a.1 e.1
+
+pub accepted : {S : Type 0} (core : Core) (gs : List RuledGroup) (store : Seen StoreState S) (r : Report) → IsTrue store.before.told → AllOf (IsAccepted core store.before) 0 gs → AllAgree (digest_of_values core) store.before 0 (map journal_of gs)
     → ¬ Rose store.before.faults store.after.faults → UnstartedGroups core gs store r → r.status ≡ 7
 accepted core gs store r told a agrees calm (inl e) = e.0.0
 accepted core gs store r told a agrees calm (inr (inl e)) = e.0.0
 accepted core gs store r told a agrees calm (inr (inr (inl e))) = absurd (calm e.1)
 accepted core gs store r told a agrees calm (inr (inr (inr (inl e)))) = absurd (none_refused core 0 gs store.before r told a e.0)
-accepted core gs store r told a agrees calm (inr (inr (inr (inr (fault, e, steady))))) = absurd (unlike (digest_of_values core) (store.before.logs SEAL_LOG).state.now fault agrees e.0 (e.2 told))
+accepted core gs store r told a agrees calm (inr (inr (inr (inr e)))) = absurd (none_unsealed (digest_of_values core) 0 (map journal_of gs) store.before r told agrees e.0)

@@ -9,7 +9,7 @@ use Rattle.cube_model.specs.Verdicts.{IsAdmissible}
 use Rattle.cube_groups.specs.declared.group.GroupFile.{GroupFile}
 use Rattle.cube_io.specs.Causes.{Rose}
 use Rattle.cube_io.specs.Seen.{FolderState, StoreState, Seen, Unused}
-use Rattle.cube_io.specs.declared.store.TheConstants.{SEAL_LOG}
+use Rattle.cube_io.specs.Told.{SameLogs}
 use Rattle.cube_engine.specs.Kept.{history_of, IsExact}
 use Rattle.cube_engine.specs.Worlds.{IsRuled}
 use Rattle.cube_engine.specs.declared.fault.EngineFault.{EngineFault}
@@ -19,11 +19,11 @@ use Rattle.cube_opening.specs.Ruling.{called, ruled_names, EndsUnruled, MakeGrou
 use Rattle.cube_opening.specs.declared.cube_files.RuledFiles.{RuledFiles}
 use Rattle.cube_opening.specs.declared.report.Report.{Report}
 use Rattle.cube_opening.specs.declared.ruling.RuledGroup.{RuledGroup}
-use Rattle.cube_seal.specs.Seals.{Agrees, IsSealed}
+use Rattle.cube_seal.specs.Seals.{seal_log, Agrees, IsSealed}
 use Rattle.cube_seal.specs.Values.{digest_of_values}
 use Rattle.cube_seal.specs.declared.fault.SealFault.{SealFault}
 use Rattle.cube_serving.specs.declared.named.NamedBook.{NamedBook}
-use Rattle.cube_serving.specs.Starting.{IsCalm, IsRefusedIn, IsUnsealed, RecoversIn, Seals}
+use Rattle.cube_serving.specs.Starting.{IsCalm, IsRefusedIn, IsUnsealedIn, RecoversIn, SealsIn}
 
 -- ---- groups in a run
 
@@ -68,15 +68,46 @@ IsRefusedAt core k (g ∷ gs) store r =
     ((fault : EngineFault) × IsRefusedIn k (called (codes "journal") g.name) core g.policy store fault r)
     ⊎ ((IsTrue store.told → IsOk (history_of core g.policy (store.logs k).state.now)) × IsRefusedAt core (suc k) gs store r)
 
+-- what the journal of a group is called
+abbrev pub journal_of : RuledGroup → List ℕ
+journal_of g = called (codes "journal") g.name
+
+-- the seal beside each of these journals, in the logs from this number on, says nothing yet, or the digest of these values
+abbrev pub AllAgree : List ℕ → StoreState → ℕ → List (List ℕ) → Type 0
+AllAgree values store k journals = AllOf (λ log (n : List ℕ). Agrees values (store.logs (seal_log log)).state.now) k journals
+
+-- whatever a crash leaves of it says the digest of these values
+abbrev pub AllSealed : List ℕ → StoreState → ℕ → List (List ℕ) → Type 0
+AllSealed values store k journals = AllOf (λ log (n : List ℕ). IsSealed values (store.logs (seal_log log)).state) k journals
+
+-- at no moment does a crash leave another one, where none did so at entry
+abbrev pub AllSeals : {S : Type 0} → List ℕ → Seen StoreState S → ℕ → List (List ℕ) → Type 0
+AllSeals values store k journals = AllOf (λ log (n : List ℕ). SealsIn log values store) k journals
+
+-- The bytes of the seal beside the first of these journals are refused, or those of one behind it, where it agrees.
+abbrev pub IsUnsealedAt : List ℕ → ℕ → List (List ℕ) → StoreState → Report → Type 0
+IsUnsealedAt values k [] store r = ⊥
+IsUnsealedAt values k (n ∷ ns) store r =
+    ((fault : SealFault) × IsUnsealedIn k n values store fault r)
+    ⊎ ((IsTrue store.told → Agrees values (store.logs (seal_log k)).state.now) × IsUnsealedAt values (suc k) ns store r)
+
+-- A run ended at the seals of these journals: memory ran out, or the store failed, or the bytes of one of them are refused.
+abbrev pub EndsAtSeals : {S : Type 0} → ℕ → List (List ℕ) → List ℕ → Seen StoreState S → Report → Type 0
+EndsAtSeals k journals values store r =
+    (NoMessage r × IsCalm store)
+    ⊎ (IsReport 7 (codes "no memory\n") r × IsCalm store)
+    ⊎ (IsReport 9 (codes "store failed\n") r × Rose store.before.faults store.after.faults)
+    ⊎ (IsUnsealedAt values k journals store.before r × IsCalm store)
+
 -- A run over this core and these groups ended at the journals: memory ran out, or the store failed, or the bytes of a group's journal are
--- refused, or those of the seal, which tells the digest of the values of the core.
+-- refused, or those of its seal, which tells the digest of the values of the core.
 abbrev pub UnstartedGroups : {S : Type 0} → Core → List RuledGroup → Seen StoreState S → Report → Type 0
 UnstartedGroups core gs store r =
     (NoMessage r × IsCalm store)
     ⊎ (IsReport 7 (codes "no memory\n") r × IsCalm store)
     ⊎ (IsReport 9 (codes "store failed\n") r × Rose store.before.faults store.after.faults)
     ⊎ (IsRefusedAt core 0 gs store.before r × IsCalm store)
-    ⊎ ((fault : SealFault) × IsUnsealed (digest_of_values core) store.before fault r × IsCalm store)
+    ⊎ (IsUnsealedAt (digest_of_values core) 0 (map journal_of gs) store.before r × IsCalm store)
 
 -- at each moment the log of each group is as at entry, or every crash leaves what recovers the same
 abbrev pub AllRecover : {S : Type 0} → Core → ℕ → List RuledGroup → Seen StoreState S → Type 0
@@ -86,9 +117,21 @@ AllRecover core k gs store = AllOf (λ log (g : RuledGroup). RecoversIn log core
 abbrev pub OnlyFrom : ℕ → ℕ → StoreState → StoreState → Type 0
 OnlyFrom from many old new = IsTrue old.told → (k : ℕ) → (k < from) ⊎ (from + many ≤ k) → new.logs k ≡ old.logs k
 
--- no log changed but the first ones, so many, and that of the seal
+-- the log of this number is that of the seal of none of the journals from this number on, so many
+abbrev pub IsNoSeal : ℕ → ℕ → ℕ → Type 0
+IsNoSeal from many k = (j : ℕ) → from ≤ j → j < from + many → k ≢ seal_log j
+
+-- no log changed but those of the seals of so many journals from this number on
+abbrev pub OnlySeals : ℕ → ℕ → StoreState → StoreState → Type 0
+OnlySeals from many old new = IsTrue old.told → (k : ℕ) → IsNoSeal from many k → new.logs k ≡ old.logs k
+
+-- no log changed but the first ones, so many, and those of their seals
 abbrev pub OnlyFirst : ℕ → StoreState → StoreState → Type 0
-OnlyFirst many old new = IsTrue old.told → (k : ℕ) → many ≤ k → k ≢ SEAL_LOG → new.logs k ≡ old.logs k
+OnlyFirst many old new = IsTrue old.told → (k : ℕ) → many ≤ k → IsNoSeal 0 many k → new.logs k ≡ old.logs k
+
+-- Each seal says nothing yet, or the digest of the values of the core; or no log was changed.
+abbrev pub AreComparedFirst : {S : Type 0} → Core → List RuledGroup → Seen StoreState S → Type 0
+AreComparedFirst core gs store = (IsTrue store.before.told → AllAgree (digest_of_values core) store.before 0 (map journal_of gs)) ⊎ SameLogs store.before store.after
 
 -- ---- books that were started
 
@@ -136,7 +179,8 @@ pub record EndsUnstartedGroups {F S : Type 0} (cube : RuledFiles) (more : List (
   pub behind : GotBehind (ruled_names cube listed ++ more) files
   pub unstarted : UnstartedGroups core groups store r
   pub passed : AllRecover core 0 groups store
-  pub seals : Seals (digest_of_values core) store
+  pub seals : AllSeals (digest_of_values core) store 0 (map journal_of groups)
+  pub compared : AreComparedFirst core groups store
 
 -- A run ended before its cube was open: at a file, or at a journal behind the files.
 abbrev pub EndsClosedGroups : {F S : Type 0} → RuledFiles → List (List ℕ) → Seen FolderState F → Seen StoreState S → Report → Type 0
@@ -146,22 +190,22 @@ EndsClosedGroups cube more files store r = (EndsUnruled cube files r × Unused s
 abbrev pub IsAccepted : Core → StoreState → ℕ → RuledGroup → Type 0
 IsAccepted core store log g = (length (store.logs log).state.now ≤ 2 ^ 28) × IsOk (history_of core g.policy (store.logs log).state.now)
 
--- the journals and their seal are accepted
+-- the journals and their seals are accepted
 pub record HaveJournals (cube : RuledFiles) (files : FolderState) (store : StoreState) : Type 0 where
   pub told : IsTrue store.told
   pub recover : (core : Core) (fs : List GroupFile) (gs : List RuledGroup) → MakeGroups cube files core fs gs → AllOf (IsAccepted core store) 0 gs
-  pub agrees : (core : Core) (fs : List GroupFile) (gs : List RuledGroup) → MakeGroups cube files core fs gs → Agrees (digest_of_values core) (store.logs SEAL_LOG).state.now
+  pub agrees : (core : Core) (fs : List GroupFile) (gs : List RuledGroup) → MakeGroups cube files core fs gs → AllAgree (digest_of_values core) store 0 (map journal_of gs)
 
 -- ---- open groups
 
 -- The groups were opened, behind their files and the files of these further names: the core and the policies that the files make, and the histories that the
--- journals recover. The seal said nothing yet, or the digest of the values of the core; and whatever a crash leaves now says it.
+-- journals recover. Each seal said nothing yet, or the digest of the values of the core; and whatever a crash leaves now says it.
 pub record AreOpen {F S : Type 0} (cube : RuledFiles) (more : List (List ℕ)) (files : Seen FolderState F) (store : Seen StoreState S) (core : Core) (gs : List GroupRun) : Type 0 where
   pub listed : List GroupFile
   pub files_make : MakeGroups cube files.before core listed (ruled gs)
   pub behind : GotBehind (ruled_names cube listed ++ more) files
   pub recovered : IsTrue store.before.told → AllOf (λ log (g : GroupRun). history_of core g.policy (store.before.logs log).state.now ≡ Ok g.first) 0 gs
   pub admissible : Each (λ g. IsAdmissible (shown core g.policy) g.first) gs
-  pub agreed : IsTrue store.before.told → Agrees (digest_of_values core) (store.before.logs SEAL_LOG).state.now
-  pub sealed : IsTrue store.before.told → IsSealed (digest_of_values core) (store.after.logs SEAL_LOG).state
-  pub seals : Seals (digest_of_values core) store
+  pub agreed : IsTrue store.before.told → AllAgree (digest_of_values core) store.before 0 (map journal_of (ruled gs))
+  pub sealed : IsTrue store.before.told → AllSealed (digest_of_values core) store.after 0 (map journal_of (ruled gs))
+  pub seals : AllSeals (digest_of_values core) store 0 (map journal_of (ruled gs))

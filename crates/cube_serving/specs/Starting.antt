@@ -10,13 +10,13 @@ use Rattle.cube_io.specs.Causes.{Rose}
 use Rattle.cube_io.specs.Desks.{faults_in}
 use Rattle.cube_io.specs.Seen.{FolderState, StoreState, Seen, Unused}
 use Rattle.cube_io.specs.States.{State, IsImage, Gained}
-use Rattle.cube_io.specs.declared.store.TheConstants.{SEAL_LOG}
+use Rattle.cube_io.specs.Told.{SameLogs}
 use Rattle.cube_journal.specs.Keeping.{IsInRecovery}
 use Rattle.cube_engine.specs.Kept.{history_of, GivesHistory, IsExact, IsWithin}
 use Rattle.cube_engine.specs.Opening.{IsStartFault}
 use Rattle.cube_engine.specs.declared.fault.EngineFault.{EngineFault}
 use Rattle.cube_engine.specs.declared.fault.EngineFault.TheVariants.{Failed, TooLong, Damaged, OtherCube, Inadmissible, NoMemory}
-use Rattle.cube_seal.specs.Seals.{Agrees, IsSealed, IsSealable, IsSealFault}
+use Rattle.cube_seal.specs.Seals.{seal_log, Agrees, IsSealed, IsSealable, IsSealFault}
 use Rattle.cube_seal.specs.Values.{digest_of_values}
 use Rattle.cube_seal.specs.declared.fault.SealFault.{SealFault}
 use Rattle.cube_seal.specs.declared.fault.SealFault.TheVariants as seal
@@ -53,12 +53,12 @@ IsRefusedIn log called core policy store fault r =
 abbrev pub IsRefused : Core → Policy → StoreState → EngineFault → Report → Type 0
 IsRefused core policy store fault r = IsRefusedIn 0 (codes "journal") core policy store fault r
 
--- the text on a seal that does not hold the journal, where this is the digest of the values
-abbrev pub seal_text : List ℕ → SealFault → List ℕ
-seal_text now seal.Failed = codes "store failed\n"
-seal_text now seal.Damaged = codes "journal: seal damaged\n"
-seal_text now (seal.OtherValues kept) = codes "journal: values " ++ kept ++ codes " are not " ++ now ++ codes "\n"
-seal_text now seal.NoMemory = codes "no memory\n"
+-- the text on a seal that does not hold the journal that is called so, where this is the digest of the values
+abbrev pub seal_text_as : List ℕ → List ℕ → SealFault → List ℕ
+seal_text_as called now seal.Failed = codes "store failed\n"
+seal_text_as called now seal.Damaged = called ++ codes ": seal damaged\n"
+seal_text_as called now (seal.OtherValues kept) = called ++ codes ": values " ++ kept ++ codes " are not " ++ now ++ codes "\n"
+seal_text_as called now seal.NoMemory = codes "no memory\n"
 
 abbrev pub seal_status : SealFault → ℕ
 seal_status seal.Failed = 9
@@ -66,14 +66,27 @@ seal_status seal.Damaged = 4
 seal_status (seal.OtherValues kept) = 4
 seal_status seal.NoMemory = 7
 
--- the bytes of the seal are refused by this fault of theirs
+-- the bytes of the seal beside the log of this number are refused by this fault of theirs, and the journal is called so
+abbrev pub IsUnsealedIn : ℕ → List ℕ → List ℕ → StoreState → SealFault → Report → Type 0
+IsUnsealedIn log called values store fault r =
+    (seal_status fault ≡ 4) × IsReport 4 (seal_text_as called values fault) r × (IsTrue store.told → IsSealFault values (store.logs (seal_log log)).state.now fault)
+
+-- those of the seal beside the one journal
 abbrev pub IsUnsealed : List ℕ → StoreState → SealFault → Report → Type 0
-IsUnsealed values store fault r =
-    (seal_status fault ≡ 4) × IsReport 4 (seal_text values fault) r × (IsTrue store.told → IsSealFault values (store.logs SEAL_LOG).state.now fault)
+IsUnsealed values store fault r = IsUnsealedIn 0 (codes "journal") values store fault r
 
 -- the store counted no fault
 abbrev pub IsCalm : {S : Type 0} → Seen StoreState S → Type 0
 IsCalm store = store.after.faults ≡ store.before.faults
+
+-- A run ended at the seal of the journal in the log of this number, which is called so: memory ran out, or the store failed, or the bytes of
+-- the seal are refused.
+abbrev pub EndsAtSeal : {S : Type 0} → ℕ → List ℕ → List ℕ → Seen StoreState S → Report → Type 0
+EndsAtSeal log called values store r =
+    (NoMessage r × IsCalm store)
+    ⊎ (IsReport 7 (codes "no memory\n") r × IsCalm store)
+    ⊎ (IsReport 9 (codes "store failed\n") r × Rose store.before.faults store.after.faults)
+    ⊎ ((fault : SealFault) × IsUnsealedIn log called values store.before fault r × IsCalm store)
 
 -- A run over this core and policy ended at the journal: memory ran out, or the store failed, or the bytes of the journal are refused, or
 -- those of its seal, which tells the digest of the values of the core.
@@ -91,13 +104,13 @@ AsksStore name store r = IsTrue store.before.told → (store.after.names ≡ sto
 
 -- no log changed but the journal's and the seal's
 abbrev pub OnlyJournal : StoreState → StoreState → Type 0
-OnlyJournal old new = IsTrue old.told → (k : ℕ) → k ≢ 0 → k ≢ SEAL_LOG → new.logs k ≡ old.logs k
+OnlyJournal old new = IsTrue old.told → (k : ℕ) → k ≢ 0 → k ≢ seal_log 0 → new.logs k ≡ old.logs k
 
--- What opening a journal leaves as it was: the store tells what it told before, no other log changed, and it took at most eleven calls.
+-- What opening a journal leaves as it was: the store tells what it told before, no other log changed, and it took at most twelve calls.
 pub record Opens {S : Type 0} (store : Seen StoreState S) : Type 0 where
   pub told : store.after.told ≡ store.before.told
   pub others : OnlyJournal store.before store.after
-  pub calls : IsTrue store.before.told → store.after.calls ≤ store.before.calls + 11
+  pub calls : IsTrue store.before.told → store.after.calls ≤ store.before.calls + 12
 
 -- At each moment the log is as at entry, or every crash leaves what recovers the same.
 abbrev pub RecoversIn : {S : Type 0} → ℕ → Core → Policy → Seen StoreState S → Type 0
@@ -106,9 +119,17 @@ RecoversIn log core policy store = IsTrue store.before.told → Gained (IsInReco
 abbrev pub Recovers : {S : Type 0} → Core → Policy → Seen StoreState S → Type 0
 Recovers core policy store = RecoversIn 0 core policy store
 
--- At no moment does a crash leave a seal of other values, where none did so at entry.
+-- At no moment does a crash leave a seal of other values beside the log of this number, where none did so at entry.
+abbrev pub SealsIn : {S : Type 0} → ℕ → List ℕ → Seen StoreState S → Type 0
+SealsIn log values store =
+    IsTrue store.before.told → IsSealable values (store.before.logs (seal_log log)).state → Gained (IsSealable values) (store.before.logs (seal_log log)) (store.after.logs (seal_log log))
+
 abbrev pub Seals : {S : Type 0} → List ℕ → Seen StoreState S → Type 0
-Seals values store = IsTrue store.before.told → IsSealable values (store.before.logs SEAL_LOG).state → Gained (IsSealable values) (store.before.logs SEAL_LOG) (store.after.logs SEAL_LOG)
+Seals values store = SealsIn 0 values store
+
+-- The seal says nothing yet, or the digest of these values; or no log was changed.
+abbrev pub IsComparedFirst : {S : Type 0} → List ℕ → Seen StoreState S → Type 0
+IsComparedFirst values store = (IsTrue store.before.told → Agrees values (store.before.logs (seal_log 0)).state.now) ⊎ SameLogs store.before store.after
 
 -- A run ended at the journal, over the core and the policy that the files make.
 pub record EndsUnstarted {S : Type 0} (cube : CubeFiles) (files : FolderState) (store : Seen StoreState S) (r : Report) : Type 0 where
@@ -118,6 +139,7 @@ pub record EndsUnstarted {S : Type 0} (cube : CubeFiles) (files : FolderState) (
   pub unstarted : Unstarted core policy store r
   pub passed : Recovers core policy store
   pub seals : Seals (digest_of_values core) store
+  pub compared : IsComparedFirst (digest_of_values core) store
 
 -- A run ended before its cube was open: at a file, or at the journal behind the files of these names.
 abbrev pub EndsClosed : {F S : Type 0} → CubeFiles → List (List ℕ) → Seen FolderState F → Seen StoreState S → Report → Type 0
@@ -128,7 +150,7 @@ pub record HasJournal (cube : CubeFiles) (files : FolderState) (store : StoreSta
   pub told : IsTrue store.told
   pub short : length (store.logs 0).state.now ≤ 2 ^ 28
   pub recovers : (core : Core) (policy : Policy) → Make cube files core policy → IsOk (history_of core policy (store.logs 0).state.now)
-  pub agrees : (core : Core) (policy : Policy) → Make cube files core policy → Agrees (digest_of_values core) (store.logs SEAL_LOG).state.now
+  pub agrees : (core : Core) (policy : Policy) → Make cube files core policy → Agrees (digest_of_values core) (store.logs (seal_log 0)).state.now
 
 -- ---- an open cube
 
@@ -138,8 +160,8 @@ pub record IsOpen {S : Type 0} (cube : CubeFiles) (files : FolderState) (store :
   pub files_make : Make cube files core policy
   pub recovered : IsTrue store.before.told → history_of core policy (store.before.logs 0).state.now ≡ Ok history
   pub admissible : IsAdmissible (shown core policy) history
-  pub agreed : IsTrue store.before.told → Agrees (digest_of_values core) (store.before.logs SEAL_LOG).state.now
-  pub sealed : IsTrue store.before.told → IsSealed (digest_of_values core) (store.after.logs SEAL_LOG).state
+  pub agreed : IsTrue store.before.told → Agrees (digest_of_values core) (store.before.logs (seal_log 0)).state.now
+  pub sealed : IsTrue store.before.told → IsSealed (digest_of_values core) (store.after.logs (seal_log 0)).state
   pub seals : Seals (digest_of_values core) store
 
 -- ---- what a crash may leave

@@ -1,29 +1,30 @@
-// The journals of groups: the store is attached, a book starts over the log of each group, and the seal beside them is held.
+// The journals of groups: the store is attached, each seal is compared, a book starts over the log of each group, and each seal is held.
 ghost use Rattle.std.specs.Prelude.{◌≡◌, ◌<◌, ◌≤◌, ◌+◌, ◌*◌, ◌++◌, ◌∷◌, [], List, length, map, IsTrue, IfOk, IfErr, OnOk};
 ghost use Rattle.cube_model.specs.Cubes.{Each};
 ghost use Rattle.cube_model.specs.Policies.{IsPolicy};
 ghost use Rattle.cube_engine.specs.Worlds.{IsRuled};
 ghost use Rattle.cube_groups.specs.Rules.{AreNew};
 ghost use Rattle.cube_io.specs.Seen.{seen};
+ghost use Rattle.cube_io.specs.Told.{SameLogs};
 ghost use Rattle.cube_opening.specs.Ruling.{AreGroups};
 ghost use Rattle.cube_opening.specs.declared.ruling.RuledGroup.{RuledGroup};
-ghost use Rattle.cube_seal.specs.Seals.{Agrees, IsSealed};
 ghost use Rattle.cube_seal.specs.Values.{digest_of_values as digest_in};
-ghost use Rattle.cube_serving.specs.Grouping.{AllRecover, AreStarted, Gathers, OnlyFrom, OnlyFirst, RestUnstarted, UnstartedGroups};
+ghost use Rattle.cube_serving.specs.Grouping.{journal_of, AllAgree, AllRecover, AllSealed, AllSeals, AreComparedFirst, AreStarted, EndsAtSeals, Gathers, OnlyFrom, OnlyFirst, RestUnstarted, UnstartedGroups};
 ghost use Rattle.cube_serving.specs.NamedBooks.{IsKeptIn};
-ghost use Rattle.cube_serving.specs.Starting.{AsksStore, IsCalm, Seals};
+ghost use Rattle.cube_serving.specs.Starting.{AsksStore, IsCalm};
 ghost use Rattle.cube_serving.specs.declared.named.NamedBook.{NamedBook};
 
 use crate::Groups;
-use crate::starting::{refuse_journal, refuse_seal};
-use cube_core::Core;
+use crate::sealing::{compare_all, hold_all};
+use crate::starting::{attach_store, refuse_journal};
 use cube_engine::SharedCore;
-use cube_io::{SEAL_LOG, Store};
-use cube_model::{Items, Text};
+use cube_io::Store;
+use cube_journal::Digest;
+use cube_model::{Items, NoMemory, Text};
 use cube_opening::{
     Message, Opened, Report, Ruled, RuledGroup, RuledGroups, called, no_message, statuses,
 };
-use cube_seal::{digest_of_values, hold_seal};
+use cube_seal::digest_of_values;
 use std::alloc::Global;
 
 // Adds a group, with the history that the next log recovers.
@@ -119,40 +120,115 @@ fn add_rest<S: Store>(
     add_rest(alloc, message, core, Items::from_vec(rest), store, groups)
 }
 
-// Attaches a store by its name, and starts a book over the log of each group.
-fn start_groups<S: Store>(
+// Puts what each of these journals is called behind the others.
+fn push_called(
+    alloc: Global,
+    groups: &[RuledGroup],
+    names: Vec<Text>,
+) -> Result<Vec<Text>, NoMemory>
+    ensures { IfOk result (λ all. all.items ≡ names.items ++ map journal_of groups.now) }
+{
+    let [group, rest @ ..] = groups else {
+        return Ok(names);
+    };
+    let mut names = names;
+    names.push(called(alloc, b"journal", &group.name)?)?;
+    push_called(alloc, rest, names)
+}
+
+// Attaches a store by its name, and compares the values with the seal of the journal of each group. What the journals are called stands
+// behind it.
+fn approach_all<S: Store>(
     alloc: Global,
     message: Message,
-    core: Core,
-    ruled: RuledGroups,
     name: &Text,
-    stated: u64,
+    groups: &[RuledGroup],
+    values: &Digest,
     store: &mut S,
-) -> Result<Opened<Groups>, Report>
+) -> Result<Opened<Vec<Text>>, Report>
     requires message { message ≡ [] }
-    requires groups { AreGroups core.dims ruled }
+    requires short { Each (λ g. length g.name ≤ 32) groups.now }
+    requires few { length groups.now ≤ 16 }
     ensures message { IfOk result (λ opened. opened.message ≡ []) }
-    ensures ok { IfOk result (λ opened. AreStarted core (seen S.state store.old store.new) 0 ruled opened.value.books) }
-    ensures outcomes { IfOk result (λ opened. (opened.value.outcomes ≡ []) × (opened.value.left ≡ stated)) }
-    ensures attached { OnOk result (IsTrue (S.state store.new).attached) }
-    ensures kept { IsTrue (S.state store.old).told → IfOk result (λ opened. Each (IsKeptIn (S.state store.new).logs) opened.value.books) }
-    ensures err { IfErr result (RestUnstarted core 0 ruled (seen S.state store.old store.new)) }
+    ensures called { IfOk result (λ opened. opened.value.items ≡ map journal_of groups.now) }
+    ensures agreed { IsTrue (S.state store.old).told → OnOk result (AllAgree values.now (S.state store.old) 0 (map journal_of groups.now)) }
+    ensures err { IfErr result (EndsAtSeals 0 (map journal_of groups.now) values.now (seen S.state store.old store.new)) }
     ensures steady { OnOk result (IsCalm (seen S.state store.old store.new)) }
-    ensures passed { AllRecover core 0 ruled (seen S.state store.old store.new) }
+    ensures attached { OnOk result (IsTrue (S.state store.new).attached) }
     ensures names { OnOk result (IsTrue (S.state store.old).told → (S.state store.new).names ≡ (S.state store.old).names ++ name.now ∷ []) }
     ensures names_err { IfErr result (AsksStore name.now (seen S.state store.old store.new)) }
     ensures told { (S.state store.new).told ≡ (S.state store.old).told }
-    ensures frame { OnlyFrom 0 (length ruled) (S.state store.old) (S.state store.new) }
-    ensures calls { IsTrue (S.state store.old).told → (S.state store.new).calls ≤ (S.state store.old).calls + 1 + 6 * length ruled }
+    ensures logs { SameLogs (S.state store.old) (S.state store.new) }
+    ensures calls { IsTrue (S.state store.old).told → (S.state store.new).calls ≤ (S.state store.old).calls + 1 + length groups.now }
 {
-    match store.attach(name) {
-        Ok(()) => {}
-        Err(_) => return Err(
-            message
-                .with(b"store failed\n")
-                .close(alloc, statuses::STORE_FAILED),
-        ),
+    let message = match attach_store(alloc, message, name, store) {
+        Ok(message) => message,
+        Err(report) => return Err(report),
+    };
+    let Ok(called) = push_called(alloc, groups, Vec::new(alloc)) else {
+        return Err(no_message(alloc));
+    };
+    match compare_all(alloc, message, called.as_slice(), 0, values, store) {
+        Ok(message) => Ok(Opened {
+            message,
+            value: called,
+        }),
+        Err(report) => Err(report),
     }
+}
+
+// Groups that were started, and what their journals are called.
+#[derive(Drop)]
+struct Started {
+    groups: Groups,
+    called: Vec<Text>,
+}
+
+// Attaches a store by its name, compares the values with the seal of each journal, and starts a book over the log of each group.
+fn start_groups<S: Store>(
+    alloc: Global,
+    message: Message,
+    ruled: Ruled,
+    values: &Digest,
+    name: &Text,
+    stated: u64,
+    store: &mut S,
+) -> Result<Opened<Started>, Report>
+    requires message { message ≡ [] }
+    requires groups { AreGroups ruled.core.dims ruled.groups }
+    requires values { values.now ≡ digest_in ruled.core }
+    ensures message { IfOk result (λ opened. opened.message ≡ []) }
+    ensures called { IfOk result (λ opened. opened.value.called.items ≡ map journal_of ruled.groups) }
+    ensures ok { IfOk result (λ opened. AreStarted ruled.core (seen S.state store.old store.new) 0 ruled.groups opened.value.groups.books) }
+    ensures outcomes { IfOk result (λ opened. (opened.value.groups.outcomes ≡ []) × (opened.value.groups.left ≡ stated)) }
+    ensures attached { OnOk result (IsTrue (S.state store.new).attached) }
+    ensures kept { IsTrue (S.state store.old).told → IfOk result (λ opened. Each (IsKeptIn (S.state store.new).logs) opened.value.groups.books) }
+    ensures agreed { IsTrue (S.state store.old).told → OnOk result (AllAgree (digest_in ruled.core) (S.state store.old) 0 (map journal_of ruled.groups)) }
+    ensures err { IfErr result (UnstartedGroups ruled.core ruled.groups (seen S.state store.old store.new)) }
+    ensures compared { AreComparedFirst ruled.core ruled.groups (seen S.state store.old store.new) }
+    ensures steady { OnOk result (IsCalm (seen S.state store.old store.new)) }
+    ensures passed { AllRecover ruled.core 0 ruled.groups (seen S.state store.old store.new) }
+    ensures names { OnOk result (IsTrue (S.state store.old).told → (S.state store.new).names ≡ (S.state store.old).names ++ name.now ∷ []) }
+    ensures names_err { IfErr result (AsksStore name.now (seen S.state store.old store.new)) }
+    ensures told { (S.state store.new).told ≡ (S.state store.old).told }
+    ensures frame { OnlyFrom 0 (length ruled.groups) (S.state store.old) (S.state store.new) }
+    ensures calls { IsTrue (S.state store.old).told → (S.state store.new).calls ≤ (S.state store.old).calls + 1 + 7 * length ruled.groups }
+{
+    let Ruled {
+        core,
+        groups: ruled,
+    } = ruled;
+    let (message, called) = match approach_all(
+        alloc,
+        message,
+        name,
+        ruled.as_slice(),
+        values,
+        store,
+    ) {
+        Ok(opened) => (opened.message, opened.value),
+        Err(report) => return Err(report),
+    };
     let Ok(groups) = Groups::new(alloc, stated) else {
         return Err(
             message
@@ -167,10 +243,20 @@ fn start_groups<S: Store>(
                 .close(alloc, statuses::NO_MEMORY),
         );
     };
-    add_rest(alloc, message, &shared, ruled, store, groups)
+    match add_rest(alloc, message, &shared, ruled, store, groups) {
+        Ok(opened) => Ok(Opened {
+            message: opened.message,
+            value: Started {
+                groups: opened.value,
+                called,
+            },
+        }),
+        Err(report) => Err(report),
+    }
 }
 
-/// Attaches a store by its name, starts a book over the log of each group, and holds all by the seal of the values.
+/// Attaches a store by its name, starts a book over the log of each group, and holds each by a seal of the values, which are all compared
+/// first.
 pub fn open_groups<S: Store>(
     alloc: Global,
     message: Message,
@@ -189,26 +275,31 @@ pub fn open_groups<S: Store>(
     ensures outcomes { IfOk result (λ opened. (opened.value.outcomes ≡ []) × (opened.value.left ≡ stated)) }
     ensures attached { OnOk result (IsTrue (S.state store.new).attached) }
     ensures kept { IsTrue (S.state store.old).told → IfOk result (λ opened. Each (IsKeptIn (S.state store.new).logs) opened.value.books) }
-    ensures agreed { IsTrue (S.state store.old).told → OnOk result (Agrees (digest_in ruled.core) ((S.state store.old).logs SEAL_LOG).state.now) }
-    ensures sealed { IsTrue (S.state store.old).told → OnOk result (IsSealed (digest_in ruled.core) ((S.state store.new).logs SEAL_LOG).state) }
+    ensures agreed { IsTrue (S.state store.old).told → OnOk result (AllAgree (digest_in ruled.core) (S.state store.old) 0 (map journal_of ruled.groups)) }
+    ensures sealed { IsTrue (S.state store.old).told → OnOk result (AllSealed (digest_in ruled.core) (S.state store.new) 0 (map journal_of ruled.groups)) }
     ensures err { IfErr result (UnstartedGroups ruled.core ruled.groups (seen S.state store.old store.new)) }
     ensures steady { OnOk result (IsCalm (seen S.state store.old store.new)) }
     ensures passed { AllRecover ruled.core 0 ruled.groups (seen S.state store.old store.new) }
-    ensures seals { Seals (digest_in ruled.core) (seen S.state store.old store.new) }
+    ensures seals { AllSeals (digest_in ruled.core) (seen S.state store.old store.new) 0 (map journal_of ruled.groups) }
+    ensures compared { AreComparedFirst ruled.core ruled.groups (seen S.state store.old store.new) }
     ensures names { OnOk result (IsTrue (S.state store.old).told → (S.state store.new).names ≡ (S.state store.old).names ++ name.now ∷ []) }
     ensures names_err { IfErr result (AsksStore name.now (seen S.state store.old store.new)) }
     ensures told { (S.state store.new).told ≡ (S.state store.old).told }
     ensures others { OnlyFirst (length ruled.groups) (S.state store.old) (S.state store.new) }
-    ensures calls { IsTrue (S.state store.old).told → (S.state store.new).calls ≤ (S.state store.old).calls + 5 + 6 * length ruled.groups }
+    ensures calls { IsTrue (S.state store.old).told → (S.state store.new).calls ≤ (S.state store.old).calls + 1 + 11 * length ruled.groups }
 {
-    let Ruled { core, groups } = ruled;
-    let values = digest_of_values(&core);
-    let opened = match start_groups(alloc, message, core, groups, name, stated, store) {
-        Ok(opened) => opened,
+    let values = digest_of_values(&ruled.core);
+    let (message, started) = match start_groups(
+        alloc, message, ruled, &values, name, stated, store,
+    ) {
+        Ok(opened) => (opened.message, opened.value),
         Err(report) => return Err(report),
     };
-    match hold_seal(alloc, store, &values) {
-        Ok(()) => Ok(opened),
-        Err(fault) => Err(refuse_seal(alloc, opened.message, fault, &values)),
+    match hold_all(alloc, message, started.called.as_slice(), 0, &values, store) {
+        Ok(message) => Ok(Opened {
+            message,
+            value: started.groups,
+        }),
+        Err(report) => Err(report),
     }
 }

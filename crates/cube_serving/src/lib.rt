@@ -7,6 +7,7 @@ mod groups;
 mod housing;
 mod named;
 mod replaying;
+mod sealing;
 mod serving;
 mod starting;
 mod worked;

@@ -121,7 +121,7 @@ pub fn replay_cube<F: Folder, S: Store, O: Sink>(
     ensures names { (store.new ≡ store.old) ⊎ AsksStore journal.now (seen S.state store.old store.new) result }
     ensures others { OnlyJournal (S.state store.old) (S.state store.new) }
     ensures unkept { result.status ≡ 9 → Rose (S.state store.old).faults (S.state store.new).faults × (result.outcomes ≡ []) }
-    ensures calls { result.status ≡ 9 → IsTrue (S.state store.old).told → (S.state store.new).calls ≤ (S.state store.old).calls + 11 }
+    ensures calls { result.status ≡ 9 → IsTrue (S.state store.old).told → (S.state store.new).calls ≤ (S.state store.old).calls + 12 }
     ensures unreadable { result.status ≡ 5 → Rose (F.state files.old).faults (F.state files.new).faults }
     ensures output { result.status ≡ 6 → Rose (O.state out.old).faults (O.state out.new).faults }
     ensures steady { result.status ≢ 5 → IsSteady (seen F.state files.old files.new) }

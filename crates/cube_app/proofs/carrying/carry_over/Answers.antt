@@ -95,6 +95,7 @@ returns-in-Err-open_engine-clause-answers g c =
             unstarted = c.in-Err-open_engine.ensures.err;
             passed = c.in-Err-open_engine.ensures.crash;
             seals = c.in-Err-open_engine.ensures.seals;
+            compared = c.in-Err-open_engine.ensures.compared;
           },
           z.behind,
         );

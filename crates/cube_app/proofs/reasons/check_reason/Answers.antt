@@ -51,6 +51,7 @@ returns-in-Err-open_engine-clause-answers g c =
           unstarted = c.in-Err-open_engine.ensures.err;
           passed = c.in-Err-open_engine.ensures.crash;
           seals = c.in-Err-open_engine.ensures.seals;
+          compared = c.in-Err-open_engine.ensures.compared;
         },
         record { asked = asked_then (names_of c.args.cube.now) (c.args.reason.now ∷ []) g.F.Folder.state c.args.files.now c.open_guarded.new.files c.open_reason.new.files x.behind.asked z.asks; steady = z.reads.steady ∙ x.behind.steady },
       ),

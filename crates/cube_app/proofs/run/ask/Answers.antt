@@ -8,7 +8,7 @@ use Rattle.cube_engine.specs.Engines.{Engine}
 use Rattle.cube_talk.specs.Asks.{Talk}
 use Rattle.cube_talk.specs.Crashes.{TalkedOver}
 use Rattle.cube_serving.proofs.Started.{opened, still_open}
-use Rattle.cube_serving.proofs.Sealing.{seal_is_other}
+use Rattle.cube_serving.proofs.SealsHeld.{seal_is_other}
 use Rattle.cube_opening.proofs.Accepted.{all_accepted}
 use Rattle.cube_opening.proofs.Ended.{not_nine}
 use Rattle.cube_app.proofs.Lives.{moment_of, survived, held_lines}
@@ -87,6 +87,7 @@ returns-in-Err-open_engine-clause-answers g c =
           unstarted = c.in-Err-open_engine.ensures.err;
           passed = c.in-Err-open_engine.ensures.crash;
           seals = c.in-Err-open_engine.ensures.seals;
+          compared = c.in-Err-open_engine.ensures.compared;
         },
         c.in-Ok.ensures.behind,
       ),
@@ -108,6 +109,7 @@ returns-in_default-clause-answers g c =
           unstarted = inr (inl ((e.0, e.1, e.2 ∙ c.with.ensures ∙ ap (λ (t : List ℕ). t ++ codes "no memory\n") y.message), y.steady));
           passed = y.crash;
           seals = y.seals;
+          compared = y.compared;
         },
         c.in-Ok.ensures.behind,
       ),

@@ -9,7 +9,7 @@ use Rattle.cube_opening.proofs.Behind.{asked_then, ends_behind}
 use Rattle.cube_opening.proofs.Ended as ended
 use Rattle.cube_script.specs.Playing.{Playing, has_torn}
 use Rattle.cube_serving.specs.Replaying.{script_said, wire_of, room_for_sends}
-use Rattle.cube_serving.proofs.OpenGroups.{only_sixteen, seal_left, served, unserved}
+use Rattle.cube_serving.proofs.OpenGroups.{only_sixteen, seals_alone, served, unserved}
 use Rattle.cube_serving.proofs.Played.{whole, overran, unfailed, writes, finished, no_wire_failed, ends_none, ends_whole, rose_from, same_room}
 use Rattle.cube_serving.proofs.Unruled as unruled
 use Rattle.cube_serving.proofs.Unstarted as unstarted
@@ -78,6 +78,7 @@ returns-in-Err-open_groups-clause-answers g c =
         unstarted = c.in-Err-open_groups.ensures.err;
         passed = c.in-Err-open_groups.ensures.passed;
         seals = c.in-Err-open_groups.ensures.seals;
+        compared = c.in-Err-open_groups.ensures.compared;
       }),
       refl,
     ))
@@ -93,7 +94,7 @@ returns-in_default-clause-answers g c =
     let files = seen g.F.Folder.state c.args.files.now c.open_script.new.files in
     let behind : GotBehind (ruled_names cube x.ok.0 ++ c.args.script_name.now ∷ []) files = record { asked = asked_then (ruled_names cube x.ok.0) (c.args.script_name.now ∷ []) g.F.Folder.state c.args.files.now c.open_ruled.new.files c.open_script.new.files x.ok.2.asked z.asks; steady = z.reads.steady ∙ x.ok.2.steady } in
     inr (inr (inl (
-      unserved cube (c.args.script_name.now ∷ []) files x.ok.0 ruled.core ruled.groups g.S.Store.state c.args.store.now c.open_groups.new.store c.in-Ok-open_groups.started.value.books x.ok.1 behind y.ok y.over y.rules y.agreed y.sealed y.seals y.passed,
+      unserved cube (c.args.script_name.now ∷ []) files x.ok.0 ruled.core ruled.groups g.S.Store.state c.args.store.now c.open_groups.new.store c.in-Ok-open_groups.started.value.books x.ok.1 behind y.ok y.over y.rules x.rules.few y.agreed y.sealed y.seals y.passed,
       (e.0, e.1, e.2 ∙ c.with.ensures ∙ ap (λ (t : List ℕ). t ++ codes "no memory\n") y.message),
       refl,
     )))
@@ -134,8 +135,8 @@ returns-clause-answers g c =
       said = subst (λ (fs : Option (List (List ℕ × List ℕ))). IfSome fs (λ known. FileSays script_said c.args.script_name.now known (Ok script.0))) f.reads.files script.3;
       plays = (plays, most);
       playing = playing;
-      served = served cube (c.args.script_name.now ∷ []) files f.ok.0 ruled.core ruled.groups tells old mid e.books f.ok.1 behind y.ok y.over y.rules y.agreed y.sealed y.seals new e last end
-          true true wire.log refl refl (seal_left ruled.core tells old mid new ruled.groups e.books f.rules.few y.ok y.told z.others) y.told y.steady y.passed w z.asks;
+      served = served cube (c.args.script_name.now ∷ []) files f.ok.0 ruled.core ruled.groups tells old mid e.books f.ok.1 behind y.ok y.over y.rules f.rules.few y.agreed y.sealed y.seals new e last end
+          true true wire.log refl refl (seals_alone ruled.core tells old mid new ruled.groups e.books f.rules.few y.ok y.told z.others) y.told y.steady y.passed w z.asks;
       whole = λ u is. (
           let some = ends_whole end u _ _ wire.log w.wired.ended is in
           whole script.0 some.0 wire.log (playing.events).0 (sym plays ∙ (playing.events).1) script.2 some.1);
@@ -175,7 +176,7 @@ pub returns-in-Err-open_groups-clause-names : goal.returns-in-Err-open_groups-cl
 returns-in-Err-open_groups-clause-names g c = inr c.in-Err-open_groups.ensures.names_err
 
 pub returns-in-Err-open_groups-clause-others : goal.returns-in-Err-open_groups-clause-others
-returns-in-Err-open_groups-clause-others g c = λ told k far seal. c.in-Err-open_groups.ensures.others told k (omega (arith, far, c.in-Ok.ensures.rules.few)) seal
+returns-in-Err-open_groups-clause-others g c = λ told k far none. c.in-Err-open_groups.ensures.others told k (omega (arith, far, c.in-Ok.ensures.rules.few)) (λ j from low. none j from (let few = c.in-Ok.ensures.rules.few in omega (arith, low, few)))
 
 pub returns-in-Err-open_groups-clause-unkept : goal.returns-in-Err-open_groups-clause-unkept
 returns-in-Err-open_groups-clause-unkept g c = λ nine. (unstarted.failed c.in-Ok.opened.value.core c.in-Ok.opened.value.groups (seen g.S.Store.state c.args.store.now c.open_groups.new.store) c.in-Err-open_groups.report c.in-Err-open_groups.ensures.err nine, unstarted.unasked c.in-Ok.opened.value.core c.in-Ok.opened.value.groups (seen g.S.Store.state c.args.store.now c.open_groups.new.store) c.in-Err-open_groups.report c.in-Err-open_groups.ensures.err)
@@ -193,7 +194,7 @@ pub returns-in_default-clause-names : goal.returns-in_default-clause-names
 returns-in_default-clause-names g c = inr (λ told. inl (c.in-Ok-open_groups.ensures.names told))
 
 pub returns-in_default-clause-others : goal.returns-in_default-clause-others
-returns-in_default-clause-others g c = λ told k far seal. c.in-Ok-open_groups.ensures.others told k (omega (arith, far, c.in-Ok.ensures.rules.few)) seal
+returns-in_default-clause-others g c = λ told k far none. c.in-Ok-open_groups.ensures.others told k (omega (arith, far, c.in-Ok.ensures.rules.few)) (λ j from low. none j from (let few = c.in-Ok.ensures.rules.few in omega (arith, low, few)))
 
 pub returns-in_default-clause-unkept : goal.returns-in_default-clause-unkept
 returns-in_default-clause-unkept g c = λ nine. absurd (omega (arith, c.close.ensures.0, nine))

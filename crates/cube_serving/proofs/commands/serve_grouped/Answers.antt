@@ -4,7 +4,7 @@ use Rattle.cube_io.specs.Seen.{seen}
 use Rattle.cube_opening.specs.Opening.{GotBehind}
 use Rattle.cube_opening.specs.Ruling.{ruled_names}
 use Rattle.cube_serving.proofs.Listening.{heard_or_failed, not_two, not_five, not_six, not_seven, not_nine, eight_failed, failed_eight, all_served}
-use Rattle.cube_serving.proofs.OpenGroups.{seal_left, served, unserved, only_sixteen}
+use Rattle.cube_serving.proofs.OpenGroups.{seals_alone, served, unserved, only_sixteen}
 use Rattle.cube_serving.proofs.Unruled as unruled
 use Rattle.cube_serving.proofs.Unstarted as unstarted
 use Rattle.cube_serving.proofs.commands.serve_grouped.Goals as goal
@@ -31,9 +31,9 @@ returns-clause-answers g c =
       stated_is = w.stated ∙ y.outcomes.1;
       outcomes_are = c.report_serving.ensures.outcomes ∙ c.finish.ensures ∙ sym w.outcomes;
       end = end;
-      served = served cube [] files x.ok.0 ruled.core ruled.groups tells old mid e.books x.ok.1 behind y.ok y.over y.rules y.agreed y.sealed y.seals new e last end
+      served = served cube [] files x.ok.0 ruled.core ruled.groups tells old mid e.books x.ok.1 behind y.ok y.over y.rules x.rules.few y.agreed y.sealed y.seals new e last end
           (g.W.Wire.state c.args.wire.now).told (g.W.Wire.state c.listen.new.self).told (g.W.Wire.state c.serve_groups-end.new.wire).log refl c.in-Ok-listen.ensures.told
-          (seal_left ruled.core tells old mid new ruled.groups e.books x.rules.few y.ok y.told z.others) y.told y.steady y.passed w z.asks;
+          (seals_alone ruled.core tells old mid new ruled.groups e.books x.rules.few y.ok y.told z.others) y.told y.steady y.passed w z.asks;
       status = c.report_serving.ensures.status;
       text = c.report_serving.ensures.text;
     }))
@@ -48,7 +48,7 @@ returns-in-Err-listen-clause-answers g c =
     let files = seen g.F.Folder.state c.args.files.now c.open_ruled.new.files in
     let behind = subst (λ (ns : List (List ℕ)). GotBehind ns files) (sym (append-nil (ruled_names cube x.ok.0))) x.ok.2 in
     inr (inl (
-      unserved cube [] files x.ok.0 ruled.core ruled.groups g.S.Store.state c.args.store.now c.open_groups.new.store c.in-Ok-open_groups.started.value.books x.ok.1 behind y.ok y.over y.rules y.agreed y.sealed y.seals y.passed,
+      unserved cube [] files x.ok.0 ruled.core ruled.groups g.S.Store.state c.args.store.now c.open_groups.new.store c.in-Ok-open_groups.started.value.books x.ok.1 behind y.ok y.over y.rules x.rules.few y.agreed y.sealed y.seals y.passed,
       inl ((e.0, e.1, e.2 ∙ c.with-in-Err-listen.ensures ∙ ap (λ (t : List ℕ). t ++ codes "wire failed\n") y.message), c.in-Err-listen.ensures.cause.failed),
       λ told. c.in-Err-listen.ensures.log told ∙ c.requires.quiet told,
     ))
@@ -63,7 +63,7 @@ returns-in_default-clause-answers g c =
     let files = seen g.F.Folder.state c.args.files.now c.open_ruled.new.files in
     let behind = subst (λ (ns : List (List ℕ)). GotBehind ns files) (sym (append-nil (ruled_names cube x.ok.0))) x.ok.2 in
     inr (inl (
-      unserved cube [] files x.ok.0 ruled.core ruled.groups g.S.Store.state c.args.store.now c.open_groups.new.store c.in-Ok-open_groups.started.value.books x.ok.1 behind y.ok y.over y.rules y.agreed y.sealed y.seals y.passed,
+      unserved cube [] files x.ok.0 ruled.core ruled.groups g.S.Store.state c.args.store.now c.open_groups.new.store c.in-Ok-open_groups.started.value.books x.ok.1 behind y.ok y.over y.rules x.rules.few y.agreed y.sealed y.seals y.passed,
       inr (e.0, e.1, e.2 ∙ c.with.ensures ∙ ap (λ (t : List ℕ). t ++ codes "no memory\n") y.message),
       c.requires.quiet,
     ))
@@ -87,6 +87,7 @@ returns-in-Err-open_groups-clause-answers g c =
         unstarted = c.in-Err-open_groups.ensures.err;
         passed = c.in-Err-open_groups.ensures.passed;
         seals = c.in-Err-open_groups.ensures.seals;
+        compared = c.in-Err-open_groups.ensures.compared;
       }),
       refl,
     )
@@ -168,7 +169,7 @@ pub returns-in-Err-open_groups-clause-names : goal.returns-in-Err-open_groups-cl
 returns-in-Err-open_groups-clause-names g c = inr c.in-Err-open_groups.ensures.names_err
 
 pub returns-in-Err-open_groups-clause-others : goal.returns-in-Err-open_groups-clause-others
-returns-in-Err-open_groups-clause-others g c = λ told k far seal. c.in-Err-open_groups.ensures.others told k (omega (arith, far, c.in-Ok.ensures.rules.few)) seal
+returns-in-Err-open_groups-clause-others g c = λ told k far none. c.in-Err-open_groups.ensures.others told k (omega (arith, far, c.in-Ok.ensures.rules.few)) (λ j from low. none j from (let few = c.in-Ok.ensures.rules.few in omega (arith, low, few)))
 
 pub returns-in-Err-open_groups-clause-unkept : goal.returns-in-Err-open_groups-clause-unkept
 returns-in-Err-open_groups-clause-unkept g c = λ nine. (unstarted.failed c.in-Ok.opened.value.core c.in-Ok.opened.value.groups (seen g.S.Store.state c.args.store.now c.open_groups.new.store) c.in-Err-open_groups.report c.in-Err-open_groups.ensures.err nine, unstarted.unasked c.in-Ok.opened.value.core c.in-Ok.opened.value.groups (seen g.S.Store.state c.args.store.now c.open_groups.new.store) c.in-Err-open_groups.report c.in-Err-open_groups.ensures.err)
@@ -186,7 +187,7 @@ pub returns-in_default-clause-names : goal.returns-in_default-clause-names
 returns-in_default-clause-names g c = inr (λ told. inl (c.in-Ok-open_groups.ensures.names told))
 
 pub returns-in_default-clause-others : goal.returns-in_default-clause-others
-returns-in_default-clause-others g c = λ told k far seal. c.in-Ok-open_groups.ensures.others told k (omega (arith, far, c.in-Ok.ensures.rules.few)) seal
+returns-in_default-clause-others g c = λ told k far none. c.in-Ok-open_groups.ensures.others told k (omega (arith, far, c.in-Ok.ensures.rules.few)) (λ j from low. none j from (let few = c.in-Ok.ensures.rules.few in omega (arith, low, few)))
 
 pub returns-in_default-clause-unkept : goal.returns-in_default-clause-unkept
 returns-in_default-clause-unkept g c = λ nine. absurd (omega (arith, c.close.ensures.0, nine))
@@ -263,7 +264,7 @@ pub returns-in-Err-listen-clause-names : goal.returns-in-Err-listen-clause-names
 returns-in-Err-listen-clause-names g c = inr (λ told. inl (c.in-Ok-open_groups.ensures.names told))
 
 pub returns-in-Err-listen-clause-others : goal.returns-in-Err-listen-clause-others
-returns-in-Err-listen-clause-others g c = λ told k far seal. c.in-Ok-open_groups.ensures.others told k (omega (arith, far, c.in-Ok.ensures.rules.few)) seal
+returns-in-Err-listen-clause-others g c = λ told k far none. c.in-Ok-open_groups.ensures.others told k (omega (arith, far, c.in-Ok.ensures.rules.few)) (λ j from low. none j from (let few = c.in-Ok.ensures.rules.few in omega (arith, low, few)))
 
 pub returns-in-Err-listen-clause-unkept : goal.returns-in-Err-listen-clause-unkept
 returns-in-Err-listen-clause-unkept g c = λ nine. absurd (omega (arith, c.close-in-Err-listen.ensures.0, nine))

@@ -2,7 +2,7 @@ use Rattle.std.proofs.Common.{◌≡◌, ◌∙◌, ◌++◌, ◌∷◌, [], ℕ
 use Rattle.std.specs.Prelude.{IfSome, codes}
 use Rattle.cube_io.specs.Seen.{seen}
 use Rattle.cube_io.specs.Wires.{Plan}
-use Rattle.cube_io.specs.declared.store.TheConstants.{SEAL_LOG}
+use Rattle.cube_seal.specs.Seals.{seal_log}
 use Rattle.cube_engine.specs.Engines.{Engine}
 use Rattle.cube_opening.specs.Opening.{FileSays, names_of}
 use Rattle.cube_opening.proofs.Accepted.{all_accepted}
@@ -75,6 +75,7 @@ returns-in-Err-open_engine-clause-answers g c =
           unstarted = c.in-Err-open_engine.ensures.err;
           passed = c.in-Err-open_engine.ensures.crash;
           seals = c.in-Err-open_engine.ensures.seals;
+          compared = c.in-Err-open_engine.ensures.compared;
         },
         record { asked = asked_then (names_of c.args.cube.now) (c.args.script_name.now ∷ []) g.F.Folder.state c.args.files.now c.open_guarded.new.files c.open_script.new.files x.behind.asked z.asks; steady = z.reads.steady ∙ x.behind.steady },
       ),
@@ -137,7 +138,7 @@ returns-clause-answers g c =
         plays = (plays, most);
         playing = playing;
         served = served c.args.cube.now (g.F.Folder.state c.args.files.now) (tells mid) (seen tells c.args.store.now new) end true true wire.log guarded.core guarded.policy e last c.args.stated
-            (still_open c.args.cube.now (g.F.Folder.state c.args.files.now) tells c.args.store.now mid new guarded.core guarded.policy e.history (λ told. x.others (subst IsTrue (sym y.opens.told) told) SEAL_LOG (λ zero. cc)) at_start)
+            (still_open c.args.cube.now (g.F.Folder.state c.args.files.now) tells c.args.store.now mid new guarded.core guarded.policy e.history (λ told. x.others (subst IsTrue (sym y.opens.told) told) (seal_log 0) (λ zero. cc)) at_start)
             y.engine y.exact y.crash refl x.wired.wired (λ told exact crash. x.wired.held (subst IsTrue (sym y.opens.told) told) exact c.args.store.now crash (sym y.opens.told)) (λ told exact crash. x.survived (subst IsTrue (sym y.opens.told) told) exact c.args.store.now crash (sym y.opens.told)) y.steady x.asks;
         whole = λ u is. (
             let some = ends_whole end u _ _ wire.log x.wired.wired.ended is in

@@ -1,7 +1,7 @@
 use Rattle.std.proofs.Common.{◌∙◌, ◌++◌, ℕ, List, codes, ap, inl, inr, refl, subst, sym, IsTrue}
 use Rattle.cube_io.specs.Causes.{Rose}
 use Rattle.cube_io.specs.Seen.{seen}
-use Rattle.cube_io.specs.declared.store.TheConstants.{SEAL_LOG}
+use Rattle.cube_seal.specs.Seals.{seal_log}
 use Rattle.cube_engine.specs.Engines.{Engine}
 use Rattle.cube_opening.proofs.Accepted.{all_accepted}
 use Rattle.cube_serving.specs.Serving.{asking}
@@ -31,7 +31,7 @@ returns-clause-answers g c =
         outcomes_are = c.report_serving.ensures.outcomes ∙ c.finish.ensures;
         end = end;
         served = served c.args.cube.now (g.F.Folder.state c.args.files.now) (tells mid) (seen tells c.args.store.now new) end (g.W.Wire.state c.args.wire.now).told (g.W.Wire.state c.listen.new.self).told (g.W.Wire.state c.serve_engine-end.new.wire).log guarded.core guarded.policy e last c.args.stated
-            (still_open c.args.cube.now (g.F.Folder.state c.args.files.now) tells c.args.store.now mid new guarded.core guarded.policy e.history (λ told. x.others (subst IsTrue (sym y.opens.told) told) SEAL_LOG (λ zero. cc)) at_start)
+            (still_open c.args.cube.now (g.F.Folder.state c.args.files.now) tells c.args.store.now mid new guarded.core guarded.policy e.history (λ told. x.others (subst IsTrue (sym y.opens.told) told) (seal_log 0) (λ zero. cc)) at_start)
             y.engine y.exact y.crash c.in-Ok-listen.ensures.told x.wired.wired (λ told exact crash. x.wired.held (subst IsTrue (sym y.opens.told) told) exact c.args.store.now crash (sym y.opens.told)) (λ told exact crash. x.survived (subst IsTrue (sym y.opens.told) told) exact c.args.store.now crash (sym y.opens.told)) y.steady x.asks;
         status = c.report_serving.ensures.status;
         text = c.report_serving.ensures.text;
@@ -103,6 +103,7 @@ returns-in-Err-open_engine-clause-answers g c =
           unstarted = c.in-Err-open_engine.ensures.err;
           passed = c.in-Err-open_engine.ensures.crash;
           seals = c.in-Err-open_engine.ensures.seals;
+          compared = c.in-Err-open_engine.ensures.compared;
         },
         c.in-Ok.ensures.behind,
       ),
