@@ -6,6 +6,7 @@ mod auditing;
 mod carrying;
 mod cells;
 mod drafting;
+mod hinting;
 mod making;
 mod noting;
 mod reasons;
@@ -21,9 +22,11 @@ use cube_edge::{
     SocketWire, TcpSockets, TypedSource, WriterSink, hold_streams,
 };
 use cube_io::Failed;
-use cube_model::{Items, NoMemory, Text, Texts};
+use cube_model::{Dims, Items, NoMemory, Text, Texts};
+use cube_seal::line_of;
 use cube_words::{Orders, orders_of};
-use noting::note;
+use hinting::HintingSource;
+use noting::{dims_in, note, values_in};
 use run::run;
 use std::alloc::{AllocError, Global};
 use std::cell::Cell;
@@ -90,7 +93,8 @@ fn carried_on(orders: &Orders) -> Option<&str> {
     }
 }
 
-// The disk of an output. What is compacted takes the seal of its journal along.
+// The disk of an output. What is compacted takes the seal of its journal along, and what is carried over begins with that of the
+// values of its cube; where its files are not accepted nothing is put.
 fn disk_for_output<'a>(
     rt: &'a HostRuntime,
     orders: Option<&Orders>,
@@ -101,6 +105,12 @@ fn disk_for_output<'a>(
             Ok(journal) => disk.sealed_as(journal),
             Err(_) => Ok(disk),
         },
+        Some(Orders::Carry { files, .. }) => {
+            match values_in(rt.alloc(), files, &mut FileFolder::new(rt, io::sink())) {
+                Some(values) => Ok(disk.sealed_with(line_of(&values))),
+                None => Ok(disk),
+            }
+        }
         _ => Ok(disk),
     }
 }
@@ -113,13 +123,21 @@ fn is_same(rt: &HostRuntime, there: &Metadata, other: &str) -> bool {
     }
 }
 
+// Whether a path leads to a seal, which no output takes the place of.
+fn leads_to_seal(rt: &HostRuntime, path: &str) -> bool {
+    match fs::canonicalize(rt, path) {
+        Ok(real) => real.as_path().as_str().ends_with(".seal"),
+        Err(_) => false,
+    }
+}
+
 // Locks the file that the output takes the place of, where one is there that isn't the journal itself: no program goes on
-// with what is no longer behind its name. Fails where another program has it.
+// with what is no longer behind its name. What is refused as an output isn't locked. Fails where another program has it.
 fn lock_output(rt: &HostRuntime, path: &str, journal: &str) -> Result<Option<File>, Failed> {
     let Ok(there) = fs::metadata(rt, path) else {
         return Ok(None);
     };
-    if !there.is_file() || is_same(rt, &there, journal) {
+    if !there.is_file() || is_same(rt, &there, journal) || leads_to_seal(rt, path) {
         return Ok(None);
     }
     let Ok(file) = File::open(rt, path) else {
@@ -183,11 +201,50 @@ fn hold_output(rt: &HostRuntime, orders: Option<&Orders>) -> Result<Option<File>
     }
 }
 
-// Whether these words order lines to be answered as asks.
-fn asks(words: &[Text]) -> bool {
-    match words {
-        [first, ..] => first.as_slice() == b"ask".as_slice(),
-        [] => false,
+// The dimensions over which a person types queries, where that is ordered.
+fn dims_asked(rt: &HostRuntime, orders: Option<&Orders>) -> Option<Dims> {
+    match orders {
+        Some(Orders::Ask { files, .. }) => {
+            dims_in(
+                rt.alloc(),
+                &files.dims,
+                &mut FileFolder::new(rt, rt.stderr()),
+            )
+        }
+        _ => None,
+    }
+}
+
+// Whether these orders are for lines to be answered as asks.
+fn asks(orders: Option<&Orders>) -> bool {
+    match orders {
+        Some(Orders::Ask { .. }) => true,
+        _ => false,
+    }
+}
+
+// The journal behind whose history a command speaks without adding to it, by its name.
+fn looked_into(orders: &Orders) -> Option<&str> {
+    match orders {
+        Orders::Witness { journal, .. }
+        | Orders::Twin { journal, .. }
+        | Orders::Compact { journal, .. }
+        | Orders::Why { journal, .. }
+        | Orders::Advise {
+            journal: Some(journal),
+            ..
+        } => str::from_utf8(journal.as_slice()).ok(),
+        _ => None,
+    }
+}
+
+// The journal of these orders, by its name, where it was never begun and a person sees the notes.
+fn never_begun<'a>(rt: &HostRuntime, orders: Option<&'a Orders>) -> Option<&'a str> {
+    let journal = looked_into(orders?)?;
+    if rt.stderr().is_terminal() && !is_begun(rt, journal) {
+        Some(journal)
+    } else {
+        None
     }
 }
 
@@ -223,8 +280,16 @@ fn main(rt: HostRuntime) -> ExitCode {
     let Ok(mut store) = FileStore::new(rt.alloc(), MachineDisk::new(&rt), rt.stderr()) else {
         return ExitCode::from(7);
     };
+    let unbegun = never_begun(&rt, orders.as_ref());
+    let is_typed = rt.stdin().is_terminal() && rt.stderr().is_terminal() && asks(orders.as_ref());
+    let dims = if is_typed {
+        dims_asked(&rt, orders.as_ref())
+    } else {
+        None
+    };
     let typed = Cell::new(0usize);
-    let mut input = TypedSource::new(ReaderSource::new(rt.reader()), &typed);
+    let input = TypedSource::new(ReaderSource::new(rt.reader()), &typed);
+    let mut input = HintingSource::new(input, rt.alloc(), dims, rt.stderr());
     let Ok(named) = out_named(rt.alloc(), words.as_slice()) else {
         return ExitCode::from(7);
     };
@@ -240,8 +305,7 @@ fn main(rt: HostRuntime) -> ExitCode {
             }
         }
     };
-    let marks = rt.stdin().is_terminal() && rt.stderr().is_terminal() && asks(words.as_slice());
-    let mut out = MarkingSink::new(out, rt.stderr(), &typed, marks);
+    let mut out = MarkingSink::new(out, rt.stderr(), &typed, is_typed);
     let Ok(sockets) = TcpSockets::new(rt.alloc(), &rt, rt.stderr()) else {
         return ExitCode::from(7);
     };
@@ -265,6 +329,9 @@ fn main(rt: HostRuntime) -> ExitCode {
     };
     if let Some(noted) = noted {
         let _ = rt.stderr().write_all(noted.as_slice());
+    }
+    if let Some(journal) = unbegun {
+        let _ = writeln!(rt.stderr(), "{journal}: the history is empty");
     }
     let _ = rt.stderr().write_all(report.text.as_slice());
     let _ = rt

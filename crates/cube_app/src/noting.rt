@@ -1,16 +1,30 @@
-// Notes for a person beside the report of a run: the files are read once more, and nothing of a run rests on them.
+// What is done beside a run with files that are read once more: notes for a person, on which nothing of a run rests, and the seal of what is carried over.
+use cube_core::Core;
 use cube_dims::read_dims;
+use cube_facts::read_facts;
 use cube_io::Folder;
+use cube_journal::Digest;
 use cube_model::{Dims, Text};
 use cube_notes::{note_on_facts, note_on_flat, note_on_policy, note_on_table};
 use cube_opening::{CubeFiles, Report};
 use cube_policy::read_policy;
+use cube_seal::digest_of_values;
 use cube_words::Orders;
 use std::alloc::Global;
 
-fn dims_in<F: Folder>(alloc: Global, name: &Text, files: &mut F) -> Option<Dims> {
+/// The dimensions in a file, where they are accepted.
+pub fn dims_in<F: Folder>(alloc: Global, name: &Text, files: &mut F) -> Option<Dims> {
     let bytes = files.read_file(alloc, name).ok()?;
     read_dims(alloc, bytes.as_slice()).ok()
+}
+
+/// The digest of the values of a cube, where its files are accepted.
+pub fn values_in<F: Folder>(alloc: Global, cube: &CubeFiles, files: &mut F) -> Option<Digest> {
+    let dims = dims_in(alloc, &cube.dims, files)?;
+    let bytes = files.read_file(alloc, &cube.facts).ok()?;
+    let (shape, cube) = read_facts(alloc, &dims, bytes.as_slice()).ok()?;
+    let core = Core::new(alloc, dims, shape, cube).ok()?;
+    Some(digest_of_values(&core))
 }
 
 fn table_note<F: Folder>(alloc: Global, name: &Text, files: &mut F) -> Option<Text> {

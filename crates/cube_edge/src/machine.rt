@@ -29,6 +29,20 @@ const SEAL: &str = ".seal";
 /// A seal has fewer bytes than this.
 const MAX_SEAL: usize = 128;
 
+/// The length of the line of a seal.
+const LINE: usize = 72;
+
+/// The seal that an output takes along.
+#[derive(Drop)]
+enum Along {
+    /// None.
+    Nothing,
+    /// That of the journal of this name, as it stands when the output is put in its place.
+    OfJournal(String),
+    /// One that has this line.
+    Line([u8; LINE]),
+}
+
 /// The files of the machine. It tells nothing of them. A file that it makes is its owner's alone. No file is worked on that
 /// has two names, or by a symbolic link; but the name that `attach` takes may lead over some, and then the files lie where it
 /// leads. Of one for outputs each file is to take the place of another, and is made anew.
@@ -38,8 +52,7 @@ pub struct MachineDisk<'a, R: Files<File = File> + AllocGlobal> {
     // None where there was no memory for them.
     names: Option<Names>,
     is_for_outputs: bool,
-    // The journal whose seal an output takes along.
-    sealed_as: Option<String>,
+    along: Along,
 }
 
 impl<'a, R: Files<File = File> + AllocGlobal> MachineDisk<'a, R> {
@@ -50,7 +63,7 @@ impl<'a, R: Files<File = File> + AllocGlobal> MachineDisk<'a, R> {
             rt,
             names: None,
             is_for_outputs: false,
-            sealed_as: None,
+            along: Along::Nothing,
         }
     }
 
@@ -63,7 +76,7 @@ impl<'a, R: Files<File = File> + AllocGlobal> MachineDisk<'a, R> {
             rt,
             names: None,
             is_for_outputs: true,
-            sealed_as: None,
+            along: Along::Nothing,
         }
     }
 
@@ -74,9 +87,19 @@ impl<'a, R: Files<File = File> + AllocGlobal> MachineDisk<'a, R> {
     {
         let journal = String::from_str(self.rt.alloc(), journal)?;
         Ok(MachineDisk {
-            sealed_as: Some(journal),
+            along: Along::OfJournal(journal),
             ..self
         })
+    }
+
+    /// The same, where what is put begins a journal: a seal with this line stands beside it before.
+    pub fn sealed_with(self, line: [u8; LINE]) -> Self
+        ensures told { (⟦<MachineDisk<'a, R> as Disk>⟧.state result).told ≡ false }
+    {
+        MachineDisk {
+            along: Along::Line(line),
+            ..self
+        }
     }
 
     /// Takes the name that files begin with.
@@ -215,12 +238,21 @@ fn bring_seal<R: Files<File = File> + AllocGlobal>(
         return Ok(());
     }
     let from = format!(in rt.alloc(); "{}{SEAL}", real.as_path().as_str())?;
-    let to = format!(in rt.alloc(); "{output}{SEAL}")?;
-    let beside = format!(in rt.alloc(); "{to}{ENDING}")?;
     let mut seal = [0u8; MAX_SEAL];
     let count = File::open(rt, &from)?.read(&mut seal)?;
+    put_seal(rt, output, &seal[..count.min(MAX_SEAL)])
+}
+
+/// Puts a seal of these bytes beside an output, whole.
+fn put_seal<R: Files<File = File> + AllocGlobal>(
+    rt: &R,
+    output: &str,
+    seal: &[u8],
+) -> Result<(), Trouble> {
+    let to = format!(in rt.alloc(); "{output}{SEAL}")?;
+    let beside = format!(in rt.alloc(); "{to}{ENDING}")?;
     clear(rt, &beside)?;
-    write_all(make(rt, &beside)?, &seal[..count.min(MAX_SEAL)])?;
+    write_all(make(rt, &beside)?, seal)?;
     fs::rename(rt, &beside, &to)?;
     Ok(sync_folder(rt, &to)?)
 }
@@ -374,8 +406,10 @@ impl<R: Files<File = File> + AllocGlobal> Disk for MachineDisk<'_, R> {
             return Err(Trouble::NoFile);
         }
         names.turn_to(from)?;
-        if let Some(journal) = &self.sealed_as {
-            bring_seal(self.rt, journal, names.real())?;
+        match &self.along {
+            Along::Nothing => {}
+            Along::OfJournal(journal) => bring_seal(self.rt, journal, names.real())?,
+            Along::Line(line) => put_seal(self.rt, names.real(), line.as_slice())?,
         }
         fs::rename(self.rt, names.real_path(), names.real())?;
         Ok(sync_folder(self.rt, names.real())?)
