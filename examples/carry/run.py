@@ -115,12 +115,23 @@ def a_month_more(case):
 def into_a_file(case):
     old, new = case.cube(pay(MONTHS[:2])), case.cube(pay(MONTHS[:3]))
     old.ask("journal", BY_AREA)
-    out, journal = new.path("journal"), old.path("journal")
+    out, journal, seal = new.path("journal"), old.path("journal"), new.path("journal.seal")
+    facts, seals = new.path("facts").read_text(), []
     for begun in (None, "what stood there\n"):
         if begun:
             out.write_text(begun)
         status, written, said = new.ends("carry", *old.files("from-"), "--from-journal", journal, "--out", out)
         check((status, written, out.read_text()) == (0, "", new.text("s 0 1 0")), f"{status} {written!r} {said}")
+        check(seal.stat().st_mode & 0o777 == 0o600 and not new.path("journal.seal.new").exists(), "the seal is others' too")
+        seals.append(seal.read_text())
+        seal.write_text("what stood there\n")
+    new.path("facts").write_text(facts.rstrip("\n") + "0\n")
+    seal.write_text(seals[0])
+    ran = new.ends("ask", "--journal", out)
+    check(ran[0] == 4 and "journal: values " in ran[2], f"a value was corrected behind it: {ran}")
+    new.path("facts").write_text(facts)
+    new.ask("journal", BY_AREA)
+    check(seals == [seal.read_text()] * 2, f"another seal than that of the new values: {seals}")
     old.ask("told", BY_CITY)
     before = sorted(new.path("").iterdir())
     for name, status in (("told", 3), ("typo", 9)):
@@ -129,7 +140,7 @@ def into_a_file(case):
     check(not old.path("typo").exists() and sorted(new.path("").iterdir()) == before, "something was made")
     status, written, said = new.ends("carry", *old.files("from-"), "--from-journal", old.path("typo"))
     check((status, written) == (9, "") and said.endswith("typo: missing or empty\nstore failed\n"), f"{status} {said}")
-    return "--out has the carried journal whole, or what stood there; a journal that was never begun is not carried"
+    return "--out has the carried journal whole, with the seal of the new values, or what stood there; a journal that was never begun is not carried"
 
 
 def a_quarter_ends(case):
@@ -226,6 +237,7 @@ def links_that_fix(case):
 
 def nothing_told(case):
     old, new = case.cube(pay(MONTHS[:2])), case.cube(pay(MONTHS[:3]))
+    old.ask("journal")
     carried(new, old)
     old.ask("told", BY_MONTH, BY_AREA)
     status, written, _ = old.ends("carry", *old.files("from-"), "--from-journal", old.path("told"))[:3]

@@ -98,7 +98,7 @@ def side_by_side(folder):
             check(got[0] == status and (size is None or len(got[1]) == size), f"{path}: {got}")
             print(f"{status} {path}")
     names = sorted(it.name for it in cube.folder.iterdir() if it.name.startswith("journal"))
-    check(names == ["journal", "journal.1", "journal.seal"], f"the journals are {names}")
+    check(names == ["journal", "journal.1", "journal.1.seal", "journal.seal"], f"the journals are {names}")
     kept = [(cube.folder / name).read_text().splitlines()[1:] for name in ("journal", "journal.1")]
     check(kept == [[f"q {MONTHS}"], [f"q {AREAS}"]], f"the journals hold {kept}")
     print("the journals are", *names)
@@ -136,6 +136,40 @@ def played(folder):
     wanted = "".join(sent(connection, status, body) for connection, _, status, body in rows)
     check((ran.returncode, ran.stdout.decode()) == (0, wanted), f"replay ended with {ran.returncode}: {ran.stdout.decode()}")
     print("a script of two connections is played to groups, byte for byte")
+
+
+def one_value_corrected(folder):
+    """Each journal is held by a seal of its own: over a corrected value no command goes on from any of them, and nothing is changed."""
+    cube = Cube(folder, listed(("staff", "policy"), ("board", "policy")))
+    with cube.serving() as address:
+        check(asked(address, "board", AREAS) == (200, AREA_ROWS), "the board is not answered")
+    facts = (cube.folder / "facts").read_text()
+    (cube.folder / "facts").write_text(facts.replace(facts.splitlines()[1], facts.splitlines()[1] + "1", 1))
+    before = {it.name: it.read_bytes() for it in cube.folder.iterdir() if it.name.startswith("journal")}
+    (cube.folder / "script").write_text("")
+    alone = cube.words(("--policy", "policy"), "journal.1")
+    played = [*cube.words(), "--script", "script"]
+    for command, words, name in (("ask", alone, "journal"), ("witness", [*alone, "--cell", "cell pay region.city=Lyon, time.month=Feb"], "journal"), ("replay", played, "journal staff")):
+        ran = cube.run(command, *words, given=f"{AREAS}\n")
+        check(ran.returncode == 4 and f"{name}: values " in ran.stderr.decode(), f"{command} over other values: {ran.returncode} {ran.stderr.decode()}")
+    (cube.folder / "journal.seal").unlink()
+    ran = cube.run("replay", *played)
+    check(ran.returncode == 4 and "journal board: values " in ran.stderr.decode(), f"the second seal: {ran.returncode} {ran.stderr.decode()}")
+    left = (cube.folder / "journal.seal").read_bytes()
+    check(left == b"", f"a seal was begun over values that another one refuses: {left}")
+    (cube.folder / "journal.seal").write_bytes(before["journal.seal"])
+    (cube.folder / "journal.1.seal").write_text("values\n")
+    ran = cube.run("replay", *played)
+    check(ran.returncode == 4, f"a damaged seal: {ran.returncode}")
+    (cube.folder / "facts").write_text(facts)
+    ran = cube.run("replay", *played)
+    check(ran.returncode == 4 and "journal board: seal damaged\n" in ran.stderr.decode(), f"a damaged seal: {ran.returncode} {ran.stderr.decode()}")
+    (cube.folder / "journal.1.seal").write_bytes(before["journal.1.seal"])
+    after = {it.name: it.read_bytes() for it in cube.folder.iterdir() if it.name.startswith("journal")}
+    check(after == before, "a refused run changed a journal or a seal")
+    with cube.serving() as address:
+        check(asked(address, "board", MONTHS) == (403, CUT), "the board's history was lost")
+    print("over a value that was corrected no journal of a group goes on, by whatever name it is taken")
 
 
 def query(chance):
@@ -244,6 +278,7 @@ def main():
         folder = pathlib.Path(made)
         side_by_side(folder / "two")
         played(folder / "played")
+        one_value_corrected(folder / "corrected")
         at_random(folder / "random", 1)
         refusals(folder / "refused")
         as_typed(folder)

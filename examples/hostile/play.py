@@ -15,6 +15,8 @@ PATIENCE = 60
 PIECE = 65_536
 SHORT = 1_000
 PLACES = 50
+# A script is no longer than this, but for one way that is: a file of 64 MiB is read.
+LONGEST = 1 << 25
 
 DIMS = """[[dimension]]
 name = "region"
@@ -93,20 +95,39 @@ def replay(folder, script):
     return done.returncode, done.stdout, done.stderr
 
 
+def in_scripts(ways):
+    """The ways in lists, each of which makes a script that is read."""
+    some, size = [], 0
+    for way in ways:
+        if size + len(way[1]) > LONGEST and some:
+            yield some
+            some, size = [], 0
+        some.append(way)
+        size += len(way[1])
+    yield some
+
+
 def play(folder, rows):
-    """Plays all rows of a group in one script: in how many ways."""
-    names, scripts, logs = zip(*played(rows), strict=True)
-    status, written, text = replay(folder, "".join(scripts))
+    """Plays all rows of a group in as few scripts as hold them: in how many ways."""
+    many = 0
+    for ways in in_scripts(played(rows)):
+        play_script(folder, many, ways)
+        many += len(ways)
+    return many
+
+
+def play_script(folder, first, ways):
+    """Plays ways, whose connections have the numbers from the first one on."""
+    status, written, text = replay(folder, "".join(script for _, script, _ in ways))
     check(status == 0, f"replay ended with {status}: {text.decode()}")
     at = 0
-    for number, (name, log) in enumerate(zip(names, logs, strict=True)):
+    for number, (name, _, log) in enumerate(ways, first):
         came = written[at:at + len(log)]
         if came != log:
             came = written[at:].split(b"sent %d " % (number + 1))[0]
             raise Wrong(f"{name}:\nexpected {shown(log)}\ncame     {shown(came)}")
         at += len(log)
     check(at == len(written), f"more than the log: {shown(written[at:])}")
-    return len(names)
 
 
 def shown(log):

@@ -6,10 +6,12 @@ top; needs a second or two.
 """
 
 import os
+import pty
 import re
 import subprocess
 import sys
 import tempfile
+import termios
 
 HERE = os.path.dirname(os.path.abspath(__file__))
 sys.path.insert(0, os.path.join(HERE, ".."))
@@ -66,6 +68,21 @@ class Room:
         words = words.split() if isinstance(words, str) else words
         more = {"stdin": stdin} if stdin is not None else {"input": bytes_of(given)}
         return subprocess.run([CUBE, *words], cwd=self.folder, stdout=stdout, stderr=subprocess.PIPE, **more)
+
+    def typed(self, words, lines):
+        """Runs at a terminal at which these lines are typed: the output, and what else stands on the terminal."""
+        near, far = pty.openpty()
+        quiet = termios.tcgetattr(far)
+        quiet[3] &= ~termios.ECHO
+        termios.tcsetattr(far, termios.TCSANOW, quiet)
+        os.write(near, bytes_of(lines) + b"\x04")
+        ran = subprocess.run([CUBE, *words], cwd=self.folder, stdin=far, stdout=subprocess.PIPE, stderr=far)
+        assert ran.returncode == 0, (words, ran)
+        os.write(far, b"\n")
+        shown = os.read(near, 65_536).replace(b"\r\n", b"\n")
+        os.close(near)
+        os.close(far)
+        return ran.stdout.decode(), shown.decode()
 
 
 def expect(ran, status, out, text, case):
@@ -460,10 +477,28 @@ def transcripts_are_audited():
         expect(room.run("audit --dims d --facts f --policy p --transcript t", stdout=full), 6, None, "output failed\n", "a full output")
 
 
+def a_person_is_told_more():
+    for line, note in (
+        ("range pay time.month=Jan..Feb", 'time.month: "Jan" to "Feb", 2 members\n'), ("range pay region.city=Nice..Paris, time.month=Jan..Feb", 'region.city: "Nice" to "Paris", 2 members\ntime.month: "Jan" to "Feb", 2 members\n'),
+        ("range pay time.month=Jan..Jan", ""), ("slice pay by region.city where time.month=Jan..Feb", ""), ("range pay time.month=Jan..Mar", "^\n"), ("range", "^\n"),
+    ):
+        _, shown = Room(PAY).typed(ASK.split(), f"{line}\n")
+        assert note in shown and ("members" in shown) == ("members" in note), (line, shown)
+        assert b"members" not in Room(PAY).run(ASK, f"{line}\n").stderr, line
+    cell = ["--cell", "cell pay region.city=Lyon, time.month=Feb"]
+    empty = "log: the history is empty\n"
+    for words in (["witness", *cell], ["twin", *cell], ["compact"], ["why", "--query", "slice pay by time.month"], ["advise"]):
+        room = Room(PAY)
+        words = [*words, *ASK.split()[1:]]
+        assert empty in room.typed(words, "")[1], words
+        assert empty not in room.typed(words, "")[1], words
+        assert empty.encode() not in Room(PAY).run(words).stderr, words
+
+
 CHECKS = (
     wrong_words_are_named, help_is_given_whole_and_by_command, lines_are_summed, what_fails_ends_a_run, files_are_summed_up, refused_fact_files_are_named, refused_policy_files_are_named,
     notes_show_what_a_report_has_no_room_for, lines_are_asked, sums_are_written, answers_follow_the_history, journals_are_kept_and_looked_at, sources_and_links_are_read, journals_are_written_down, connections_are_played, sends_pass_the_room, cells_are_told_or_refused,
-    changes_and_twins_follow_the_source, transcripts_are_audited,
+    changes_and_twins_follow_the_source, transcripts_are_audited, a_person_is_told_more,
 )
 
 
