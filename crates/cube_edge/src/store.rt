@@ -236,6 +236,18 @@ impl<D: Disk + Drop, N: Write + Drop> LogFiles<D, N> {
         }
     }
 
+    /// Opens the file of log 0, before that of any other log: who has it has them all. Where there is no memory for that, the
+    /// first call on the log says so.
+    fn begin(&mut self) -> Result<(), Failed>
+        ensures rests { Rests (D.state self.old.disk) (D.state self.new.disk) }
+        ensures name { self.new.name ≡ self.old.name }
+    {
+        match self.open(0) {
+            Err(Unopened::Failed) => Err(Failed),
+            _ => Ok(()),
+        }
+    }
+
     fn read_all(&mut self, alloc: Global, log: u32) -> Result<Text, ReadFault>
         ensures rests { Rests (D.state self.old.disk) (D.state self.new.disk) }
         ensures name { self.new.name ≡ self.old.name }
@@ -329,11 +341,12 @@ impl<D: Disk + Drop, N: Write + Drop> LogFiles<D, N> {
 }
 
 /// Logs in the files of a disk: log 0 in the file that `attach` names, each other log k in that name followed by `.k`, and the
-/// seal of each of the first sixteen in its name followed by `.seal`. A file that isn't there is made. It is opened and locked at the first call on its log, before anything is read, and stays so until
-/// the store is dropped or the program ends, however it ends. A file that another program has locked, that was moved or
-/// deleted, or that another program wrote to, is not worked on: nothing is read of it, written to it or cut from it. Its
-/// notes say why, in a line, and of a log that is read first whether it is new or how many entries it has. Where the disk tells
-/// its files, it tells the logs.
+/// seal of each of the first sixteen in its name followed by `.seal`. A file that isn't there is made. That of log 0 is opened
+/// and locked by `attach`, each other at the first call on its log, before anything is read, and stays so until the store is
+/// dropped or the program ends, however it ends. A file that another program has locked, that was moved or deleted, or that
+/// another program wrote to, is not worked on: nothing is read of it, written to it or cut from it. Its notes say why, in a
+/// line, and of a log that is read first whether it is new or how many entries it has. Where the disk tells its files, it
+/// tells the logs.
 #[derive(Drop)]
 pub struct FileStore<D: Disk + Drop, N: Write + Drop> {
     files: LogFiles<D, N>,
@@ -385,10 +398,13 @@ impl<D: Disk + Drop, N: Write + Drop> Store for FileStore<D, N> {
     ghost whole = { λ s k told. logs_whole (D.state s.0) (λ p. D.whole s.0 p told) k };
 
     fn attach(&mut self, name: &Text) -> Result<(), Failed> {
-        let done = self.files.rename(name.as_slice());
-        if done.is_ok() {
-            self.attached = true;
-        }
+        let done = match self.files.rename(name.as_slice()) {
+            Ok(()) => {
+                self.attached = true;
+                self.files.begin()
+            }
+            Err(failed) => Err(failed),
+        };
         counted(&mut self.faults, done)
     }
 
