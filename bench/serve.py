@@ -1,12 +1,14 @@
 #!/usr/bin/env python3
-"""Measures `cube serve` beside `nginx` with one worker and a static file, whose replies have the same length.
+"""Measures `cube serve` beside `nginx` with one worker and a static file.
 
     serve.py [SECONDS [RUNS]]
 
 The two are asked by turns, for SECONDS each (3), in RUNS runs (5): on one kept connection; on 64 at once; and on one
 while 63 others are idle. Medians are printed, and the ratio of the two; of the 64 also how long the slowest waited for
-a reply beside the median one. Needs Python 3 and `nginx` alone; the program is the environment's CUBE. Clients take up
-to three processors, so there should be four, with nothing else to do.
+a reply beside the median one. The replies of the two are not of one length: the head of `nginx` alone is longer than a
+reply of the program, so its file has one byte. How long each reply is stands before the medians. Needs Python 3 and
+`nginx` alone; the program is the environment's CUBE. Clients take up to three processors, so there should be four, with
+nothing else to do.
 """
 
 import multiprocessing
@@ -145,12 +147,9 @@ def measure(address, seconds):
 def main():
     seconds, runs = (float(word) if number == 0 else int(word) for number, word in enumerate((sys.argv[1:] + ["3", "5"][len(sys.argv) - 1:])[:2]))
     with tempfile.TemporaryDirectory() as folder, serving([*FILES, "--journal", f"{folder}/journal"]) as cube:
-        length = length_of(cube)
         nginx = Nginx(folder, b"x")
         try:
-            # The body is as long as makes the replies of both equal.
-            with open(f"{folder}/reply", "wb") as file:
-                file.write(b"x" * max(length - length_of(nginx.address) + 1, 1))
+            print(f"{'bytes of a reply':<24} cube {length_of(cube):>10,}  nginx {length_of(nginx.address):>10,}", flush=True)
             tables = [[measure(address, seconds) for address in (cube, nginx.address)] for _ in range(runs)]
         finally:
             nginx.end()
