@@ -8,6 +8,8 @@ what was asked, the processor seconds and the peak memory of the run, and the ai
 full ones, which are within the program's limits. A run that takes more than `--limit` processor seconds is stopped, and
 its row says so. Needs Python 3 alone; the program is the environment's CUBE, or else the one that `./cube --version`
 builds. The seconds are processor time, user and system, so other work beside it costs little.
+
+How the cases were found stands in the docstring of each, and in docs/SPEED.md.
 """
 
 import argparse
@@ -30,14 +32,15 @@ PROGRAM = os.environ.get("CUBE", f"{TOP}/crates/cube_app/out/cube_app")
 
 # What an option takes where it is not stated, what --all takes, and what it says.
 SIZES = {
-    "objects": (16, 64, "objects of the policy"),
+    "objects": (8, 64, "objects of the policy"),
+    "measures": (4, 16, "measures that are checked"),
     "entries": (4_096, 16_384, "entries of the journal that is opened"),
     "repeats": (500, 3_400_000, "lines that bring nothing, behind those that make the trees"),
     "ranges": (200, 2_000, "ranges of the journal behind which a reason is asked for"),
     "items": (4_096, 65_536, "items of the transcript"),
     "lines": (10_000, 1_000_000, "lines of the workload"),
     "rows": (100_000, 1_000_000, "rows of the flat file"),
-    "asks": (1_000, 1_000, "lines asked over the flat file"),
+    "asks": (200, 1_000, "lines asked over the flat file"),
     "names": (50_000, 50_000, "names of one level"),
     "records": (250_000, 1_000_000, "records of the fact file with names"),
 }
@@ -59,7 +62,7 @@ def launch(words, folder, files, limit):
     """One run: its status, its processor seconds, and its peak memory in MB."""
     def bounded():
         if limit:
-            resource.setrlimit(resource.RLIMIT_CPU, (limit, limit + 1))
+            resource.setrlimit(resource.RLIMIT_CPU, (limit, resource.getrlimit(resource.RLIMIT_CPU)[1]))
 
     asked, written, said = files
     with open(asked, "rb") as stdin, open(written, "wb") as stdout, open(said, "wb") as stderr:
@@ -72,9 +75,11 @@ def launch(words, folder, files, limit):
 class Ran:
     """What a run used, said and wrote."""
 
-    def __init__(self, status, seconds, memory, stopped, said, written):
-        self.status, self.seconds, self.memory, self.stopped = status, seconds, memory, stopped
+    def __init__(self, status, seconds, memory, said, written):
+        self.status, self.seconds, self.memory = status, seconds, memory
         self.said, self.written = said, written
+        # Its limit alone ends a run so.
+        self.stopped = status == -signal.SIGXCPU
 
 
 class Bench:
@@ -109,9 +114,8 @@ class Bench:
         with open(files[0], "wb") as asked:
             asked.write(stdin)
         status, seconds, memory = self.starter.submit(launch, [self.program, *words], folder, files, self.limit).result()
-        stopped = self.limit > 0 and status in (-signal.SIGXCPU, -signal.SIGKILL) and seconds >= self.limit - 1
         with open(files[1], "rb") as written, open(files[2], errors="replace") as said:
-            return Ran(status, seconds, memory, stopped, said.read(), written.read())
+            return Ran(status, seconds, memory, said.read(), written.read())
 
     def run_whole(self, folder, words, stdin=b""):
         """A run that has to end well, or is stopped."""
@@ -284,25 +288,25 @@ def write_measured(bench, folder, sides, measures):
     write_wide_dims(folder, sides, measures)
     write_wide_facts(folder, sides, measures, chance)
     objects = enumerate(slices_apart(chance, "abc", bench.sizes["objects"]))
-    write_policy(folder, [(name, "lattice") for name in measures], [(measures[number % 16], {}, slices) for number, slices in objects])
+    write_policy(folder, [(name, "lattice") for name in measures], [(measures[number % len(measures)], {}, slices) for number, slices in objects])
 
 
 def measure_check(bench):
-    """`check` of 16 measures under the source rule and objects that differ.
+    """`check` of many measures under the source rule and objects that differ.
 
     The protected cells of each measure are counted by themselves, cuboid by cuboid: the places are grouped 256 times for
     each measure. Each object stands at `all` in each dimension, so it is at or above each cuboid, and its slice is laid over
     the others at each of them. It is worse where the points are few among all, 65,536 of 2^24: places are then sorted by their
     keys, where each key has a list of its own in a full cube.
     """
-    measures = [f"v{number}" for number in range(16)]
+    measures = [f"v{number}" for number in range(bench.sizes["measures"])]
     rows = []
     for sides in ((4,) * 8, (8,) * 8):
         folder, _ = bench.folder(f"measures {sides[0]}", lambda folder: write_measured(bench, folder, sides, measures))
         ran = bench.run_whole(folder, ["check", *FILES])
-        check(ran.stopped or b"measures 16\n" in ran.written and b"points 65536\n" in ran.written, "`check` reads another cube")
-        asked = f"8 dimensions of {sides[0]} leaves, {bench.sizes['objects']} objects"
-        rows.append(row("`check`, 16 measures", asked, ran, "1", "4.4"))
+        check(ran.stopped or b"points 65536\n" in ran.written and b"protected 0\n" not in ran.written, "`check` reads another cube")
+        asked = f"8 dimensions of {sides[0]} leaves, {len(measures)} measures, {bench.sizes['objects']} objects"
+        rows.append(row("`check`", asked, ran, "1", "4.4"))
     return rows
 
 
@@ -311,7 +315,7 @@ def measure_check(bench):
 # The dimension `a` has CLASSES times FOLDS leaves under `0` and `1` of `b`, and behind them RESERVE leaves under `2` alone.
 FOLDS, CLASSES, RESERVE = 16, 1_632, 13_113
 TREE = FOLDS * CLASSES
-# The first towers have 2 and 4 classes, the last one HIGHEST.
+# How many classes each tower has.
 TOWERS = tuple(2 ** power for power in range(1, 9))
 # The levels of `a`, each with half as many members of the trees as the one before.
 LEVELS = "lmnop"
@@ -320,7 +324,7 @@ ASIDE = "cdef"
 
 
 class Links:
-    """Requests over a measure under the rule of links whose trees are as high as a bench can make them.
+    """Requests over a measure under the rule of links whose trees are high.
 
     Links are kept as trees that are merged by rank, with no path shortened. Four slices for each of two members of `b` fold
     the leaves of `a` into trees of 16 places, four high, one for each class. Pairs of neighbours hang one such tree after
@@ -338,15 +342,15 @@ class Links:
         self.values = [[chance.randrange(1000) for _ in range(TREE)] for _ in "01"] + [[chance.randrange(1000) for _ in range(RESERVE)]]
         # The sums of all values at the first members of the level `m`, each of two leaves of the trees or of one behind them.
         self.sums = [0]
-        for total in self.totals(TREE // 2):
+        for total in self.totals(TREE // 2, (0, 1)):
             self.sums.append(self.sums[-1] + total)
         for value in self.values[2]:
             self.sums.append(self.sums[-1] + value)
 
-    def totals(self, groups):
-        """The sums over both halves of the leaves of the trees, which are taken by turns into so many groups."""
+    def totals(self, groups, halves):
+        """The sums of the leaves of the trees, which are taken by turns into so many groups, under some members of `b`."""
         sums = [0] * groups
-        for half in (0, 1):
+        for half in halves:
             for leaf, value in enumerate(self.values[half]):
                 sums[leaf % groups] += value
         return sums
@@ -378,11 +382,7 @@ class Links:
 
     def fold(self, level, half):
         """A slice, and the text of its answer."""
-        groups = TREE >> level
-        sums = [0] * groups
-        for leaf, value in enumerate(self.values[half]):
-            sums[leaf % groups] += value
-        lines = "".join(f"{group},{total}\n" for group, total in enumerate(sums))
+        lines = "".join(f"{group},{total}\n" for group, total in enumerate(self.totals(TREE >> level, (half,))))
         return f"slice w by a.{LEVELS[level]} where b.l={half}", f"a.{LEVELS[level]},w\n{lines}"
 
     def pair(self, group, half):
@@ -624,7 +624,7 @@ def main():
     words = argparse.ArgumentParser(description=__doc__, formatter_class=argparse.RawDescriptionHelpFormatter)
     words.add_argument("--program", default=PROGRAM, help="the program")
     words.add_argument("--number", default="1", help="what the files are made from")
-    words.add_argument("--limit", type=int, default=60, help="processor seconds behind which a run is stopped; 0 for none")
+    words.add_argument("--limit", type=int, default=30, help="processor seconds behind which a run is stopped; 0 for none")
     words.add_argument("--all", action="store_true", help="the full sizes")
     for name, (usual, full, text) in SIZES.items():
         words.add_argument(f"--{name}", type=int, help=f"{text}: {usual}, with --all {full}")
