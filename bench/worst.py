@@ -9,7 +9,7 @@ full ones, which are within the program's limits. A run that takes more than `--
 its row says so. Needs Python 3 alone; the program is the environment's CUBE, or else the one that `./cube --version`
 builds. The seconds are processor time, user and system, so other work beside it costs little.
 
-How the cases were found stands in the docstring of each, and in docs/SPEED.md.
+What makes a case dear stands in its docstring. docs/SPEED.md has the table of the full sizes.
 """
 
 import argparse
