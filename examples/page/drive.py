@@ -1,6 +1,6 @@
 #!/usr/bin/env python3
 """Drives the page in a Chromium without a window: it loads, adds up, lists sums, is refused, and shows what hides the
-cell. SHOTS names a folder for a picture of each step. Where nginx or Chromium is absent it says so, and ends with 0.
+cell; and the pages of two groups, of which one is told what the other is not. SHOTS names a folder for a picture of each step. Where nginx or Chromium is absent it says so, and ends with 0.
 """
 
 import base64
@@ -106,22 +106,35 @@ def steps(browser, address):
     step(browser, address, "hiding", grades, [asked, hidden], ["What hides it", "+0.01", "\u22120.01"])
 
 
+def steps_of_groups(browser, staff, board):
+    january = {"form": "slice", "what": "pay", "level.time": "month", "from.time": "Jan", "group.region": "area"}
+    step(browser, board, "board", january, [(ASK, "reply")], ["Group board", "28527.28", "9967.87"])
+    step(browser, staff, "staff", january, [(ASK, "reply")], ["Group staff", "Not told", "region.branch=Nantes"])
+
+
+def drive(words, take):
+    """Serves by these words, and takes steps in a browser at the addresses that are said."""
+    run = [os.path.join(HERE, "run.sh"), *words]
+    bound = {**os.environ, "SECONDS_AT_MOST": "300"}
+    with tempfile.TemporaryDirectory() as profile, subprocess.Popen(run, stdout=subprocess.PIPE, env=bound) as server:
+        try:
+            many = take.__code__.co_argcount - 1
+            addresses = [server.stdout.readline().decode().strip() or sys.exit(1) for _ in range(many)]
+            browser = Browser(profile)
+            take(browser, *addresses)
+            browser.call("Browser.close")
+            browser.program.wait(SECONDS)
+        finally:
+            server.terminate()
+
+
 def main():
     for program in ("nginx", "chromium"):
         if not shutil.which(program):
             print(f"page: {program} is not installed, so nothing was driven")
             return
-    run = [os.path.join(HERE, "run.sh")]
-    bound = {**os.environ, "SECONDS_AT_MOST": "300"}
-    with tempfile.TemporaryDirectory() as profile, subprocess.Popen(run, stdout=subprocess.PIPE, env=bound) as server:
-        try:
-            address = server.stdout.readline().decode().strip() or sys.exit(1)
-            browser = Browser(profile)
-            steps(browser, address)
-            browser.call("Browser.close")
-            browser.program.wait(SECONDS)
-        finally:
-            server.terminate()
+    drive([], steps)
+    drive(["groups"], steps_of_groups)
 
 
 if __name__ == "__main__":

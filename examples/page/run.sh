@@ -1,10 +1,11 @@
 #!/usr/bin/env bash
 # Serves examples/pay behind a page, on free ports of this machine alone, until Control-C: the cube, and nginx before
-# it. The journal is kept where JOURNAL says, and else is gone with the end. SECONDS_AT_MOST bounds the time.
+# it. `run.sh groups` serves the groups of examples/groups, each with a page of its own at /g/NAME/. The journal is kept
+# where JOURNAL says, and else is gone with the end. SECONDS_AT_MOST bounds the time.
 set -eu
 here=$(cd "$(dirname "$0")" && pwd)
 pay=$here/../pay
-cube=${CUBE:-$here/../../cube}
+cube=$(readlink -f "${CUBE:-$here/../../cube}")
 command -v nginx > /dev/null || { echo "page: nginx is not installed" >&2; exit 1; }
 work=$(mktemp -d)
 chmod 755 "$work"
@@ -32,7 +33,13 @@ wait_for() {
 }
 
 "$cube" --version > /dev/null
-"$cube" serve --dims "$pay/dims.toml" --facts "$pay/facts.csv" --policy "$pay/policy.toml" \
+rules=(--policy "$pay/policy.toml")
+if [ "${1:-}" = groups ]; then
+    # The groups file names its policies from the top of the repository.
+    cd "$here/../.."
+    rules=(--groups examples/groups/groups.toml)
+fi
+"$cube" serve --dims "$pay/dims.toml" --facts "$pay/facts.csv" "${rules[@]}" \
     --journal "${JOURNAL:-$work/journal}" --address 127.0.0.1:0 2> "$work/notes" &
 started+=($!)
 wait_for $! grep -q '^listening on ' "$work/notes"
@@ -44,7 +51,11 @@ sed -e "s/127\.0\.0\.1:8000/127.0.0.1:$port/" -e "s/127\.0\.0\.1:8080/$address/"
 nginx -p "$work" -c "$work/nginx.conf" 2>> "$work/notes" &
 started+=($!)
 wait_for $! bash -c "exec 3<> /dev/tcp/127.0.0.1/$port"
-echo "http://localhost:$port/"
+if [ "${1:-}" = groups ]; then
+    sed -n "s|^name = \"\(.*\)\"|http://localhost:$port/g/\1/|p" examples/groups/groups.toml
+else
+    echo "http://localhost:$port/"
+fi
 sleep "${SECONDS_AT_MOST:-infinity}" &
 started+=($!)
 wait -n || { cat "$work/notes" >&2; exit 1; }

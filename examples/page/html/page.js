@@ -175,7 +175,7 @@ function refused(choice, text) {
     "div", "refusal",
     element("h2", "", "Not told"),
     element("p", "", words),
-    ...(cell === undefined ? [] : [named, button]),
+    ...(cell === undefined ? [] : [named, element("p", "", CAUTION), button]),
     element("p", "said", text),
   );
 }
@@ -194,7 +194,7 @@ function changesTable(csv, decimals) {
 }
 
 async function askChanges(choice, cell) {
-  const { status, text } = await post("/v1/witness", cellText(choice.what, cell));
+  const { status, text } = await post("v1/witness", cellText(choice.what, cell));
   if (status !== 200) return show("changes", fault(status, text));
   return show(
     "changes",
@@ -206,6 +206,9 @@ async function askChanges(choice, cell) {
 
 // ---- talk with the server
 
+// The page of a group lies at /g/NAME/ and asks that group alone: the paths are those beside the page.
+const group = /^\/g\/([\w-]+)\//.exec(location.pathname)?.[1];
+
 // A query goes by POST: its answer is remembered, so nothing may fetch it ahead or anew.
 async function post(path, text) {
   const reply = await fetch(path, { method: "POST", body: new URLSearchParams({ q: text }) });
@@ -213,7 +216,7 @@ async function post(path, text) {
 }
 
 async function askShape() {
-  const reply = await fetch("/v1/shape");
+  const reply = await fetch("v1/shape");
   if (!reply.ok) throw new Error(`status ${reply.status}`);
   return reply.json();
 }
@@ -224,7 +227,7 @@ const fault = (status, text) =>
 async function ask() {
   const choice = chosen();
   show("changes");
-  const { status, text } = await post("/v1/query", queryText(choice));
+  const { status, text } = await post("v1/query", queryText(choice));
   if (status === 200) show("reply", element("h2", "", "Answer"), answered(choice, text));
   else if (status === 403) show("reply", refused(choice, text));
   else show("reply", fault(status, text));
@@ -232,7 +235,8 @@ async function ask() {
 
 function about() {
   const names = shape.dimensions.map(({ name }) => name).join(", ");
-  return `${spaced(String(shape.facts))} facts at ${spaced(String(shape.points))} points of ${names}.`;
+  const whose = group ? `Group ${group}: ` : "";
+  return `${whose}${spaced(String(shape.facts))} facts at ${spaced(String(shape.points))} points of ${names}.`;
 }
 
 async function begin() {

@@ -56,7 +56,10 @@ function signed(units, decimals) {
 
 const BEFORE = "With what was answered before,";
 
-const FOLLOWS = `${BEFORE} the value of a protected cell would follow:`;
+const FOLLOWS = `${BEFORE} the rule would count the value of a protected cell as told:`;
+
+// What a refusal does not mean.
+const CAUTION = "The rule may count more as told than the answers tell. So it may refuse what would do no harm.";
 
 const openedBy = cuboid => cuboid === "all" ? "the sum of all" : `all sums by ${cuboid}`;
 
@@ -65,7 +68,7 @@ const RULES = [
   {
     form: /^source: the cuboid \((.*)\) does not cut the cell \((.*)\)\n$/s,
     tell: ([, cuboid, cell]) => ({
-      words: `${BEFORE} this answer would open ${openedBy(cuboid)}. From these a protected cell could be added up:`,
+      words: `${BEFORE} the rule would count ${openedBy(cuboid)} as told. From these a protected cell could be added up:`,
       cell,
     }),
   },
