@@ -412,7 +412,7 @@ def the_purge(package, folder):
 
 def somebody_else(package, folder):
     root = small_root(folder / "root", "useradd", "userdel")
-    person = "cube:x:1000:1000:Anna Cube:/home/cube:/bin/sh\n"
+    person = "cube:x:1000:1000:Anna Cube:/srv/anna:/bin/sh\n"
     with root.path("etc/passwd").open("a") as file:
         file.write(person)
     with root.path("etc/group").open("a") as file:
