@@ -78,11 +78,14 @@ class Room:
         os.write(near, bytes_of(lines) + b"\x04")
         ran = subprocess.run([CUBE, *words], cwd=self.folder, stdin=far, stdout=subprocess.PIPE, stderr=far)
         assert ran.returncode == 0, (words, ran)
-        os.write(far, b"\n")
-        shown = os.read(near, 65_536).replace(b"\r\n", b"\n")
+        end = b"(end)\r\n"
+        os.write(far, b"(end)\n")
+        shown = b""
+        while not shown.endswith(end):
+            shown += os.read(near, 65_536)
         os.close(near)
         os.close(far)
-        return ran.stdout.decode(), shown.decode()
+        return ran.stdout.decode(), shown.removesuffix(end).replace(b"\r\n", b"\n").decode()
 
 
 def expect(ran, status, out, text, case):
