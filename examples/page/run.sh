@@ -1,10 +1,11 @@
 #!/usr/bin/env bash
 # Serves examples/pay behind a page, on free ports of this machine alone, until Control-C: the cube, and nginx before
-# it. `run.sh groups` serves the groups of examples/groups, each with a page of its own at /g/NAME/. The journal is kept
-# where JOURNAL says, and else is gone with the end. SECONDS_AT_MOST bounds the time.
+# it. `run.sh groups` serves the groups of examples/groups, each with a page of its own at /g/NAME/, and `run.sh ./FOLDER`
+# the files dims.toml, facts.csv and policy.toml of another folder. The journal is kept where JOURNAL says, and else is
+# gone with the end. SECONDS_AT_MOST bounds the time.
 set -eu
 here=$(cd "$(dirname "$0")" && pwd)
-pay=$here/../pay
+files=$here/../pay
 cube=$(readlink -f "${CUBE:-$here/../../cube}")
 command -v nginx > /dev/null || { echo "page: nginx is not installed" >&2; exit 1; }
 work=$(mktemp -d)
@@ -33,13 +34,14 @@ wait_for() {
 }
 
 "$cube" --version > /dev/null
-rules=(--policy "$pay/policy.toml")
+case ${1:-} in */*) files=$(readlink -f "$1") ;; esac
+rules=(--policy "$files/policy.toml")
 if [ "${1:-}" = groups ]; then
     # The groups file names its policies from the top of the repository.
     cd "$here/../.."
     rules=(--groups examples/groups/groups.toml)
 fi
-"$cube" serve --dims "$pay/dims.toml" --facts "$pay/facts.csv" "${rules[@]}" \
+"$cube" serve --dims "$files/dims.toml" --facts "$files/facts.csv" "${rules[@]}" \
     --journal "${JOURNAL:-$work/journal}" --address 127.0.0.1:0 2> "$work/notes" &
 started+=($!)
 wait_for $! grep -q '^listening on ' "$work/notes"
