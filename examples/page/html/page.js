@@ -15,50 +15,55 @@ const show = (id, ...children) => document.getElementById(id).replaceChildren(..
 
 // ---- the menus
 
+// Fills a menu with names in their order, and does nothing where it has them.
 function fill(select, options, none) {
+  const names = none === undefined ? options : ["", ...options];
+  if (select.options.length === names.length && names.every((name, at) => select.options[at].value === name)) return;
   const kept = select.value;
-  const made = options.map(name => new Option(name, name));
-  if (none !== undefined) made.unshift(new Option(none, ""));
-  select.replaceChildren(...made);
-  if (options.includes(kept)) select.value = kept;
+  select.replaceChildren(...names.map(name => new Option(name === "" && none !== undefined ? none : name, name)));
+  if (names.includes(kept)) select.value = kept;
 }
 
-function menu(kind, dimension) {
-  const made = element("select");
-  made.name = `${kind}.${dimension.name}`;
-  made.setAttribute("aria-label", `${kind} ${dimension.name}`);
-  return made;
+// A menu in its label. The name of the dimension stands beside it for the eye, and in it for the ear.
+function menu(kind, title, dimension) {
+  const select = element("select", "");
+  select.name = `${kind}.${dimension.name}`;
+  const label = element("span", "", element("span", "unseen", `${dimension.name}, `), title);
+  return element("label", `menu ${kind}`, label, select);
 }
 
 function dimensionRow(dimension) {
-  const group = menu("group", dimension);
-  const level = menu("level", dimension);
-  fill(group, dimension.levels, "\u2013");
-  fill(level, dimension.levels, "all");
-  return element(
-    "tr", "",
-    element("th", "", dimension.name),
-    element("td", "groups", group),
-    element("td", "", level),
-    element("td", "", menu("from", dimension)),
-    element("td", "spans", menu("to", dimension)),
+  const choices = element(
+    "div", "choices",
+    menu("group", "for each", dimension),
+    menu("level", "where", dimension),
+    menu("from", "is", dimension),
+    menu("to", "to", dimension),
   );
+  const row = element("div", "dimension", element("span", "name", dimension.name), choices);
+  fill(row.querySelector(".group select"), dimension.levels, "\u2013");
+  fill(row.querySelector(".level select"), dimension.levels, "all");
+  return row;
 }
 
 const control = (kind, dimension) => menus.elements[`${kind}.${dimension.name}`];
 
+const appears = (kind, dimension, there) => {
+  control(kind, dimension).closest("label").hidden = !there;
+};
+
 // The menus of members have those of the level beside them, and are there where they are of use.
 function settle() {
   const form = menus.elements.form.value;
-  menus.dataset.form = form;
   for (const dimension of shape.dimensions) {
     const level = control("level", dimension).value;
     const members = level ? membersOf(dimension, level) : [];
     const [from, to] = [control("from", dimension), control("to", dimension)];
     fill(from, members);
     fill(to, members);
-    from.hidden = !level;
-    to.hidden = !level;
+    appears("group", dimension, form === "slice");
+    appears("from", dimension, level);
+    appears("to", dimension, level && form === "range");
     if (to.selectedIndex < from.selectedIndex) to.selectedIndex = from.selectedIndex;
   }
   const choice = chosen();
@@ -79,8 +84,7 @@ function chosen() {
 
 const decimalsOf = name => shape.measures.find(measure => measure.name === name)?.decimals ?? 0;
 
-// Presets the menus from the address, in which each has its name: ?form=slice&what=pay&group.region=area
-// It asks nothing: who follows a link has not asked yet.
+// Presets the menus from words, in which each has its name: ?form=slice&what=pay&group.region=area
 function preset(words) {
   for (const kind of ["what", "form", "group", "level", "from", "to"]) {
     for (const [name, value] of words) {
@@ -90,92 +94,29 @@ function preset(words) {
   }
 }
 
-// ---- the answer
-
-// Makes the bar of each of these numbers, on one scale from the least to the most, with 0 on it.
-function barsOf(numbers) {
-  const least = Math.min(0, ...numbers);
-  const width = Math.max(0, ...numbers) - least || 1;
-  return number => {
-    const made = element("span", number < 0 ? "bar below" : "bar");
-    made.style.marginLeft = `${100 * (Math.min(0, number) - least) / width}%`;
-    made.style.width = `${100 * Math.abs(number) / width}%`;
-    return made;
-  };
-}
-
-const table = (className, titles, lines) =>
-  element("table", className, element("thead", "", element("tr", "", ...titles)), element("tbody", "", ...lines));
-
-// The titles of names, with a number behind them.
-const titlesOf = head => head.map((name, at) => element("th", at === head.length - 1 ? "number" : "", name));
-
-// A table with a bar behind each sum.
-function listed(head, rows) {
-  const bar = barsOf(rows.map(row => Number(row.at(-1))));
-  const lines = rows.map(row => element(
-    "tr", "",
-    ...row.slice(0, -1).map(name => element("th", "", name)),
-    element("td", "number", spaced(row.at(-1))),
-    element("td", "bars", bar(Number(row.at(-1)))),
-  ));
-  return table("list", [...titlesOf(head), element("th")], lines);
-}
-
-// The groupings of an answer, each with its members that have a row.
-function axesOf(choice, head, rows) {
-  return choice.dimensions.filter(({ group }) => group).map(({ dimension, group }, at) => {
-    const there = new Set(rows.map(row => row[at]));
-    return { at, title: head[at], members: membersOf(dimension, group).filter(name => there.has(name)) };
-  });
-}
-
-// Sums of two groupings: the longer one down, the other across.
-function gridded(down, across, rows) {
-  const bar = barsOf(rows.map(row => Number(row[2])));
-  const lines = Map.groupBy(rows, row => row[down.at]);
-  const cellOf = (line, name) => {
-    const row = line.find(it => it[across.at] === name);
-    if (!row) return element("td", "number none", "\u00b7");
-    return element("td", "number", spaced(row[2]), bar(Number(row[2])));
-  };
-  const body = down.members.map(name => element(
-    "tr", "",
-    element("th", "", name),
-    ...across.members.map(it => cellOf(lines.get(name), it)),
-  ));
-  const titles = across.members.map(name => element("th", "number", name));
-  return table("grid", [element("th", "", down.title), ...titles], body);
-}
-
-// A grid is for two groupings whose numbers stand beside one another on a line.
-function tabled(choice, head, rows) {
-  if (head.length !== 3) return listed(head, rows);
-  const [across, down] = axesOf(choice, head, rows).sort((one, other) => one.members.length - other.members.length);
-  const widest = Math.max(...rows.map(row => row[2].length));
-  return across.members.length * (widest + 1) <= 80 ? gridded(down, across, rows) : listed(head, rows);
-}
-
-function answered(choice, csv) {
-  const [head, ...rows] = readCsv(csv);
-  if (!rows.length) return element("p", "", "No fact is picked.");
-  return head.length === 1 ? element("p", "sum", spaced(rows[0][0])) : tabled(choice, head, rows);
-}
-
 // ---- the refusal, and the changes that hide its cell
 
-function refused(choice, text) {
-  const { words, cell } = refusal(text);
+function hideButton(choice, cell) {
   const button = element("button", "", "Show what hides it");
   button.type = "button";
   button.id = "hide";
-  button.onclick = () => askChanges(choice, cell);
-  const named = element("p", "cell", element("code", "", `${choice.what} (${cell})`));
+  button.onclick = () => askChanges(choice, cell).catch(unreached);
+  return button;
+}
+
+function refused(choice, query, text) {
+  const { words, parts, cell } = refusal(text);
+  const named = [["Measure", choice.what], ...parts].flatMap(([name, part]) => [
+    element("dt", "", name),
+    element("dd", "", element("code", "", part)),
+  ]);
   return element(
     "div", "refusal",
     element("h2", "", "Not told"),
+    element("p", "", element("code", "", query)),
     element("p", "", words),
-    ...(cell === undefined ? [] : [named, element("p", "", CAUTION), button]),
+    element("dl", "", ...named),
+    ...(cell === undefined ? [] : [element("p", "caution", CAUTION), hideButton(choice, cell)]),
     element("p", "said", text),
   );
 }
@@ -183,25 +124,27 @@ function refused(choice, text) {
 const HIDING = "There is another cube, which differs from this one by these changes alone. All that was answered " +
   "so far is the same in both, and the cell is not. So the answers do not tell its value.";
 
-function changesTable(csv, decimals) {
+function changesTable(query, csv, decimals) {
   const [head, ...rows] = readCsv(csv);
   const lines = rows.map(row => element(
     "tr", "",
-    ...row.slice(0, -1).map(name => element("th", "", name)),
+    ...row.slice(0, -1).map(rowName),
     element("td", "number", signed(row.at(-1), decimals)),
   ));
-  return table("list", titlesOf(head), lines);
+  return boxed("changes", element("span", "", "Changes that hide ", element("code", "", query)), titlesOf(head), lines);
 }
 
 async function askChanges(choice, cell) {
-  const { status, text } = await post("v1/witness", cellText(choice.what, cell));
+  const query = cellText(choice.what, cell);
+  const { status, text } = await post("v1/witness", query);
   if (status !== 200) return show("changes", fault(status, text));
-  return show(
+  show(
     "changes",
     element("h2", "", "What hides it"),
     element("p", "", HIDING),
-    changesTable(text, choice.decimals),
+    changesTable(query, text, choice.decimals),
   );
+  show("status", "What hides the cell is shown below.");
 }
 
 // ---- talk with the server
@@ -212,7 +155,8 @@ const group = /^\/g\/([\w-]+)\//.exec(location.pathname)?.[1];
 // A query goes by POST: its answer is remembered, so nothing may fetch it ahead or anew.
 async function post(path, text) {
   const reply = await fetch(path, { method: "POST", body: new URLSearchParams({ q: text }) });
-  return { status: reply.status, text: await reply.text() };
+  const bytes = await reply.arrayBuffer();
+  return { status: reply.status, bytes, text: new TextDecoder("utf-8", { ignoreBOM: true }).decode(bytes) };
 }
 
 async function askShape() {
@@ -224,13 +168,56 @@ async function askShape() {
 const fault = (status, text) =>
   element("div", "refusal", element("h2", "", "No answer"), element("p", "said", `${status} ${text}`));
 
-async function ask() {
-  const choice = chosen();
+// The parts of the page that show a reply, and how it ended in few words.
+function replyOf(choice, query, { status, text, bytes }) {
+  if (status === 200) return answered(choice, query, text, bytes);
+  if (status === 403) return { parts: [refused(choice, query, text)], outcome: "Not told" };
+  return { parts: [fault(status, text)], outcome: "No answer" };
+}
+
+// Takes the earlier answer away, with its file.
+function clear() {
+  const file = document.querySelector("#reply a[download]");
+  if (file) URL.revokeObjectURL(file.href);
+  show("reply");
   show("changes");
-  const { status, text } = await post("v1/query", queryText(choice));
-  if (status === 200) show("reply", element("h2", "", "Answer"), answered(choice, text));
-  else if (status === 403) show("reply", refused(choice, text));
-  else show("reply", fault(status, text));
+}
+
+let asking = false;
+
+// One ask at a time: the reply that is shown is that of the last.
+async function ask() {
+  if (asking) return;
+  asking = true;
+  const choice = chosen();
+  const query = queryText(choice);
+  const words = String(new URLSearchParams(new FormData(menus)));
+  clear();
+  show("status", "Asking.");
+  const reply = await post("v1/query", query).catch(unreached);
+  asking = false;
+  if (!reply) return;
+  const { parts, outcome } = replyOf(choice, query, reply);
+  show("reply", ...parts);
+  show("status", `${outcome}.`);
+  keepAsk({ query, words, outcome });
+  showAsks(again);
+  bringUp();
+}
+
+// The reply begins on the screen.
+function bringUp() {
+  const status = document.getElementById("status");
+  const { top } = status.getBoundingClientRect();
+  if (top < 0 || top > 0.6 * innerHeight) status.scrollIntoView();
+}
+
+// Sets the menus as they were at an ask, and asks. Where the cube is another by now they may not fit.
+function again({ query, words }) {
+  if (asking) return;
+  preset(new URLSearchParams(words));
+  if (document.getElementById("text").textContent === query) ask();
+  else show("status", "The cube has changed since. This cannot be asked again.");
 }
 
 function about() {
@@ -242,25 +229,29 @@ function about() {
 async function begin() {
   shape = await askShape();
   show("about", about());
+  if (group) document.title = `Sums, ${group}`;
   fill(menus.elements.what, shape.measures.map(({ name }) => name), "facts");
   menus.elements.what.value = shape.measures[0].name;
   show("dimensions", ...shape.dimensions.map(dimensionRow));
   menus.onchange = () => {
-    show("reply");
-    show("changes");
+    clear();
+    show("status");
     settle();
   };
   menus.onsubmit = event => {
     event.preventDefault();
-    ask().catch(unreached);
+    ask();
   };
   settle();
   menus.hidden = false;
+  showAsks(again);
+  // It asks nothing: who follows a link has not asked yet.
   preset(new URLSearchParams(location.search));
 }
 
 function unreached(error) {
   if (!shape) show("about", "Nothing is known of the cube.");
+  show("status", "No answer.");
   show("reply", fault("", `the server was not reached: ${error.message}`));
 }
 

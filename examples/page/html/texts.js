@@ -43,8 +43,16 @@ function readCsv(text) {
   return rows.slice(0, -1);
 }
 
-// A number with its thousands apart.
-const spaced = number => number.replace(/\B(?<!\.\d*)(?=(\d{3})+(?!\d))/g, "\u202f").replace("-", "\u2212");
+// A name for the file of an answer.
+const fileName = query => `${query.replace(/[^A-Za-z0-9_-]+/g, "-").slice(0, 80)}.csv`;
+
+// The parts of a number between which its thousands stand apart. Joined they are the number.
+const thousands = number => number.split(/\B(?<!\.\d*)(?=(?:\d{3})+(?!\d))/);
+
+// A number with its thousands apart. A sum is not written so, but as served.
+const spaced = number => thousands(number).join("\u202f");
+
+const counted = (number, one, more) => `${spaced(String(number))} ${number === 1 ? one : more}`;
 
 // A number of smallest units, with a sign and the decimals of its measure.
 function signed(units, decimals) {
@@ -56,49 +64,54 @@ function signed(units, decimals) {
 
 const BEFORE = "With what was answered before,";
 
-const FOLLOWS = `${BEFORE} the rule would count the value of a protected cell as told:`;
+const FOLLOWS = `${BEFORE} the rule would count the value of a protected cell as told.`;
 
 // What a refusal does not mean.
-const CAUTION = "The rule may count more as told than the answers tell. So it may refuse what would do no harm.";
+const CAUTION = "The rule counts more as told than was told, so it may refuse what would have been harmless. " +
+  "The refusal does not mean that the answer would have given this cell away.";
 
-const openedBy = cuboid => cuboid === "all" ? "the sum of all" : `all sums by ${cuboid}`;
+const openedBy = cuboid => cuboid === "(all)" ? "the sum of all" : `all sums by ${cuboid.slice(1, -1)}`;
 
-// What each rule says in plain words, and the cell that it names.
+// A text between whose pieces stand cuboids, places or cells in brackets. A bracket in a quoted name ends none.
+function formOf(...pieces) {
+  const bracketed = String.raw`(\((?:[^"]|"(?:[^"\\]|\\.)*")*?\))`;
+  return new RegExp(`^${pieces.join(bracketed)}\n$`, "s");
+}
+
+// What each rule says in plain words, and the parts of its text as served, of which the cell is the last.
 const RULES = [
   {
-    form: /^source: the cuboid \((.*)\) does not cut the cell \((.*)\)\n$/s,
-    tell: ([, cuboid, cell]) => ({
-      words: `${BEFORE} the rule would count ${openedBy(cuboid)} as told. From these a protected cell could be added up:`,
-      cell,
-    }),
+    form: formOf("source: the cuboid ", " does not cut the cell ", ""),
+    words: cuboid => `${BEFORE} the rule would count ${openedBy(cuboid)} as told. From these a protected cell could be added up.`,
+    parts: ["Cuboid", "Cell"],
   },
   {
-    form: /^single: link \d+, \((.*)\), fixes the cell \((.*)\)\n$/s,
-    tell: ([, place, cell]) => ({
-      words: `This sum pairs its places, and one is left over: ${place}. ${FOLLOWS}`,
-      cell,
-    }),
+    form: formOf(String.raw`single: link (\d+), `, ", fixes the cell ", ""),
+    words: (_, place) => `This sum pairs its places, and one is left over: ${place.slice(1, -1)}. ${FOLLOWS}`,
+    parts: ["Link", "Place", "Cell"],
   },
   {
-    form: /^pair: link \d+, \((.*)\) and \((.*)\), fixes the cell \((.*)\)\n$/s,
-    tell: ([, one, other, cell]) => ({
-      words: `This sum pairs ${one} with ${other}. ${FOLLOWS}`,
-      cell,
-    }),
+    form: formOf(String.raw`pair: link (\d+), `, " and ", ", fixes the cell ", ""),
+    words: (_, one, other) => `This sum pairs ${one.slice(1, -1)} with ${other.slice(1, -1)}. ${FOLLOWS}`,
+    parts: ["Link", "Place", "Other place", "Cell"],
   },
   {
     form: /^full: /,
-    tell: () => ({ words: "As much was answered as can be remembered. What earlier answers tell is still told." }),
+    words: () => "As much was answered as can be remembered. What earlier answers tell is still told.",
+    parts: [],
   },
 ];
 
-// The words of a refusal, and its cell as a query names it.
+// The words of a refusal, its parts with their names, and its cell as a query names it.
 function refusal(text) {
-  for (const { form, tell } of RULES) {
-    const found = text.match(form);
-    if (found) return tell(found);
+  for (const { form, words, parts } of RULES) {
+    const [, ...found] = text.match(form) ?? [];
+    if (!form.test(text)) continue;
+    const rule = ["Rule", text.slice(0, text.indexOf(":"))];
+    const named = parts.map((part, at) => [part, found[at]]);
+    return { words: words(...found), parts: [rule, ...named], cell: found[parts.length - 1]?.slice(1, -1) };
   }
-  return { words: "The answer was refused." };
+  return { words: "The answer was refused.", parts: [] };
 }
 
 const cellText = (what, cell) => cell === "all" ? `cell ${what}` : `cell ${what} ${cell}`;
