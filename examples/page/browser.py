@@ -7,7 +7,8 @@ import subprocess
 import sys
 import time
 
-SECONDS = 10
+# What is waited for comes within a blink, but on a machine that has other work.
+SECONDS = 60
 # A width and a height, whether it is a phone, and the scheme of colours that is preferred.
 LOOKS = {
     "desktop": (1000, 1200, False, "light"),
@@ -116,6 +117,9 @@ class Browser:
             picture.write(base64.b64decode(self.call("Page.captureScreenshot", captureBeyondViewport=True, clip=clip)["data"]))
 
     def close(self):
-        self.page = {}
-        self.call("Browser.close")
-        self.program.wait(SECONDS)
+        """Ends it, also where it does not answer any more."""
+        os.close(self.commands)
+        try:
+            self.program.wait(SECONDS)
+        except subprocess.TimeoutExpired:
+            self.program.kill()

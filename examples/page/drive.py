@@ -171,6 +171,7 @@ def walled(browser, address):
     check(strict, f"the policy is {policy}")
     check(not re.search(r"<style|<script(?! src)| style=| on\w+=", page), "a script or a style in the page")
     load(browser, address, "walled")
+    same(browser.errors, [], "what the browser says of the page")
     browser.value("document.body.setAttribute('style', 'opacity: 0.5')")
     same(browser.value("getComputedStyle(document.body).opacity"), "1", "a style in the page")
     script = "(() => { try { const it = document.createElement('script'); it.text = 'window.broken = 1'; document.body.append(it); } catch {} })()"
@@ -216,7 +217,7 @@ EACH = 24
 
 
 def write_cube(folder):
-    """864 points of 24 facts, whose sum passes what 64 bits of a browser's numbers hold. All of it may be asked."""
+    """864 points of 24 facts, whose sum passes what the numbers of a browser hold, with sums below 0. All may be asked."""
     dims = [("region", ["branch", "area"], BRANCHES), ("time", ["month", "quarter", "year"], TIMES), ("grade", ["grade"], [[it] for it in GRADES])]
     made = "".join(
         f"[[dimension]]\nname = {json.dumps(name)}\nlevels = {json.dumps(levels)}\npaths = {json.dumps(paths, ensure_ascii=False)}\n"
@@ -227,7 +228,7 @@ def write_cube(folder):
     for branch, _ in BRANCHES:
         for month in MONTHS:
             for grade in GRADES:
-                low, high = (-3, 9) if branch == "Aarau" else (4, 10)
+                low, high = (-9, 2) if branch == "Aarau" else (4, 10)
                 facts[branch, month, grade] = [number.randint(low * 10**11, high * 10**11) for _ in range(EACH)]
     with open(os.path.join(folder, "dims.toml"), "w") as file:
         file.write(f"{made}[[measure]]\nname = \"pay\"\ndecimals = 2\n")
@@ -275,9 +276,9 @@ def exact(browser, address, sums):
     same(browser.value("document.querySelector('.sum').textContent"), total, "the whole sum")
     same(browser.value("said"), ["Asking.", "Answered: 1 sum."], "what two clicks ask")
     same(browser.value("getSelection().selectAllChildren(document.querySelector('.sum')), String(getSelection())"), total, "the sum copied")
-    alike = [["one", "90071992547409.92"], ["other", "90071992547409.93"]]
-    said = browser.value(f"leastAndMost({json.dumps(alike)})")
-    same(said, "The least sum is 90071992547409.92 (one), the greatest is 90071992547409.93 (other).", "two sums that round to one")
+    less, more = "9007199254740993.01", "9007199254740993.02"
+    said = browser.value(f"leastAndMost([['one', '{less}'], ['other', '{more}']])")
+    same(said, f"The least sum is {less} (one), the greatest is {more} (other).", "two sums that round to one")
     print("exact", flush=True)
 
 
@@ -364,6 +365,7 @@ def pictured(browser, address):
     asked(browser)
     rows = rows_of(post(address, "slice pay by region.branch where time.month=2024-05")[1].decode())[1:]
     bars_show(browser, rows)
+    check(any(row[-1].startswith("-") for row in rows), "no bar is below 0")
     load(browser, address, "below", {**may, "group.region": "branch", "group.grade": "grade"})
     asked(browser)
     bars_show(browser, rows_of(post(address, "slice pay by region.branch, grade.grade where time.month=2024-05")[1].decode())[1:])
@@ -484,8 +486,7 @@ def downloaded(file):
         return it.read()
 
 
-def steps_of_a_large_cube(browser, address):
-    sums = write_cube.sums
+def steps_of_a_large_cube(browser, address, sums):
     every = {"form": "slice", "what": "pay", "group.region": "branch", "group.time": "month", "group.grade": "grade"}
     one = {"form": "range", "what": "pay", "level.region": "branch", "level.time": "month", "level.grade": "grade"}
     may = {"form": "slice", "what": "pay", "group.region": "branch", "level.time": "month", "from.time": "2024-05"}
@@ -594,16 +595,18 @@ def prepare(browser):
 def drive(words, take):
     """Serves by these words, and takes steps in a browser at the addresses that are said."""
     run = [os.path.join(HERE, "run.sh"), *words]
-    bound = {**os.environ, "SECONDS_AT_MOST": "300"}
-    with tempfile.TemporaryDirectory() as profile, subprocess.Popen(run, stdout=subprocess.PIPE, env=bound) as server:
+    bound = {**os.environ, "SECONDS_AT_MOST": "900"}
+    with tempfile.TemporaryDirectory(ignore_cleanup_errors=True) as profile, subprocess.Popen(run, stdout=subprocess.PIPE, env=bound) as server:
         try:
             many = take.__code__.co_argcount - 1
             addresses = [server.stdout.readline().decode().strip() or sys.exit(1) for _ in range(many)]
             browser = Browser(profile)
-            prepare(browser)
-            take(browser, *addresses)
-            same(browser.errors, [], "what the browser says of the page")
-            browser.close()
+            try:
+                prepare(browser)
+                take(browser, *addresses)
+                same(browser.errors, [], "what the browser says of the page")
+            finally:
+                browser.close()
         finally:
             server.terminate()
 
@@ -615,8 +618,8 @@ def main():
             return
     drive([], steps)
     with tempfile.TemporaryDirectory() as folder:
-        write_cube.sums = write_cube(folder)
-        drive([folder], steps_of_a_large_cube)
+        sums = write_cube(folder)
+        drive([folder], lambda browser, address: steps_of_a_large_cube(browser, address, sums))
     with tempfile.TemporaryDirectory() as folder:
         write_days(folder)
         drive([folder], steps_of_days)
