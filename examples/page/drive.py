@@ -428,6 +428,7 @@ def tab_to(browser, wanted, most=40):
     """Goes on by the key Tab alone. Each stop has a ring that is seen."""
     for _ in range(most):
         browser.key("Tab")
+        check(browser.value("document.activeElement !== document.body"), f"{wanted} is not reached by Tab")
         same(browser.value("measures.dimRing()"), [], "the ring of the focus")
         if focused(browser).startswith(wanted):
             return
