@@ -3,6 +3,7 @@ use Rattle.std.proofs.Common.{◌≡◌, ◌⊎◌, inl, inr, ℕ, ◌==◌, ◌
 use Rattle.std.proofs.lemmas.Bool.Decides.{nat_tests}
 use Rattle.cube_model.specs.declared.ask.Ask.{Ask}
 use Rattle.cube_model.specs.declared.outcome.Outcome.{Outcome}
+use Rattle.cube_model.specs.declared.outcome.Outcome.TheVariants.{Given, JournalFault, NoMemory}
 use Rattle.cube_model.specs.declared.reply.Fixed.{Fixed}
 use Rattle.cube_model.specs.declared.reply.Fixed.TheVariants as constant
 use Rattle.cube_model.specs.declared.reply.Reply.{Reply}
@@ -125,7 +126,9 @@ asked_fine m (o ∷ outcomes) c q ask t f = answered_fine c q (m.reply t.course.
 
 starved_fine : (outcomes : List Outcome) (c : ℕ) (q : Request) (t : Turn) → IsFine t → IsFine (starved_by outcomes c q t)
 starved_fine [] c q t f = f
-starved_fine (o ∷ outcomes) c q t f = answered_fine c q (reply.Fixed constant.NoMemory) (record { course = counted outcomes t.course; live = t.live }) f
+starved_fine (Given ∷ outcomes) c q t f = f
+starved_fine (JournalFault ∷ outcomes) c q t f = f
+starved_fine (NoMemory ∷ outcomes) c q t f = answered_fine c q (reply.Fixed constant.NoMemory) (record { course = counted outcomes t.course; live = t.live }) f
 
 abbrev with_starved : List Bool → Turn → Turn
 with_starved starved t = record { course = record t.course { starved = starved }; live = t.live }

@@ -3,6 +3,7 @@ use Rattle.std.proofs.Common.{◌≡◌, ℕ, ◌&&◌, ◌||◌, Bool, true, fa
 use Rattle.std.proofs.lemmas.List.{append-nil}
 use Rattle.cube_model.specs.declared.ask.Ask.{Ask}
 use Rattle.cube_model.specs.declared.outcome.Outcome.{Outcome}
+use Rattle.cube_model.specs.declared.outcome.Outcome.TheVariants.{Given, JournalFault, NoMemory}
 use Rattle.cube_model.specs.declared.reply.Fixed.{Fixed}
 use Rattle.cube_model.specs.declared.reply.Fixed.TheVariants as constant
 use Rattle.cube_model.specs.declared.reply.Reply.{Reply}
@@ -178,15 +179,21 @@ asked_like m a b (out ∷ outcomes) c q ask t o =
 
 starved_same : (r : List Room) (outcomes : List Outcome) (c : ℕ) (q : Request) (t : Turn) → starved_by outcomes c q (turned r t) ≡ turned r (starved_by outcomes c q t)
 starved_same r [] c q t = refl
-starved_same r (o ∷ outcomes) c q t = (blind_answered c q (reply.Fixed constant.NoMemory)).same r (record { course = counted outcomes t.course; live = t.live })
+starved_same r (Given ∷ outcomes) c q t = refl
+starved_same r (JournalFault ∷ outcomes) c q t = refl
+starved_same r (NoMemory ∷ outcomes) c q t = (blind_answered c q (reply.Fixed constant.NoMemory)).same r (record { course = counted outcomes t.course; live = t.live })
 
 starved_rooms : (outcomes : List Outcome) (c : ℕ) (q : Request) (t : Turn) → (starved_by outcomes c q t).course.rooms ≡ t.course.rooms
 starved_rooms [] c q t = refl
-starved_rooms (o ∷ outcomes) c q t = (blind_answered c q (reply.Fixed constant.NoMemory)).rooms (record { course = counted outcomes t.course; live = t.live })
+starved_rooms (Given ∷ outcomes) c q t = refl
+starved_rooms (JournalFault ∷ outcomes) c q t = refl
+starved_rooms (NoMemory ∷ outcomes) c q t = (blind_answered c q (reply.Fixed constant.NoMemory)).rooms (record { course = counted outcomes t.course; live = t.live })
 
 starved_calls : (outcomes : List Outcome) (c : ℕ) (q : Request) (t : Turn) → (starved_by outcomes c q t).course.calls ≡ t.course.calls
 starved_calls [] c q t = refl
-starved_calls (o ∷ outcomes) c q t = (blind_answered c q (reply.Fixed constant.NoMemory)).calls (record { course = counted outcomes t.course; live = t.live })
+starved_calls (Given ∷ outcomes) c q t = refl
+starved_calls (JournalFault ∷ outcomes) c q t = refl
+starved_calls (NoMemory ∷ outcomes) c q t = (blind_answered c q (reply.Fixed constant.NoMemory)).calls (record { course = counted outcomes t.course; live = t.live })
 
 abbrev with_starved : List Bool → Turn → Turn
 with_starved starved t = record { course = record t.course { starved = starved }; live = t.live }

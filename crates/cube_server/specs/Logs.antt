@@ -3,6 +3,7 @@ use Rattle.std.specs.Prelude.{ℕ, ◌-◌, ◌&&◌, ◌||◌, ◌==◌, Bool, 
 use Rattle.std.specs.List.{list_any}
 use Rattle.cube_model.specs.declared.ask.Ask.{Ask}
 use Rattle.cube_model.specs.declared.outcome.Outcome.{Outcome}
+use Rattle.cube_model.specs.declared.outcome.Outcome.TheVariants.{Given, JournalFault, NoMemory}
 use Rattle.cube_model.specs.declared.reply.Fixed.{Fixed}
 use Rattle.cube_model.specs.declared.reply.Fixed.TheVariants as constant
 use Rattle.cube_model.specs.declared.reply.Reply.{Reply}
@@ -112,10 +113,12 @@ abbrev pub asked_by : Manner → List Outcome → ℕ → Request → Ask → Tu
 asked_by m [] c q ask t = cut_off t
 asked_by m (o ∷ outcomes) c q ask t = answered c q (m.reply t.course.rooms ask o) (record { course = called m ask o outcomes t.course; live = t.live })
 
--- a constant reply that finds no memory takes an outcome too
+-- A constant reply that finds no memory takes an outcome too, that of an ask that found none; where another comes next the list ends.
 abbrev pub starved_by : List Outcome → ℕ → Request → Turn → Turn
 starved_by [] c q t = cut_off t
-starved_by (o ∷ outcomes) c q t = answered c q (reply.Fixed constant.NoMemory) (record { course = counted outcomes t.course; live = t.live })
+starved_by (Given ∷ outcomes) c q t = cut_off t
+starved_by (JournalFault ∷ outcomes) c q t = cut_off t
+starved_by (NoMemory ∷ outcomes) c q t = answered c q (reply.Fixed constant.NoMemory) (record { course = counted outcomes t.course; live = t.live })
 
 abbrev pub constant_by : List Bool → ℕ → Request → Fixed → Turn → Turn
 constant_by [] c q f t = answered c q (reply.Fixed f) t
