@@ -1,16 +1,18 @@
 // What is drafted is read as those who use it will read it.
-ghost use Rattle.std.specs.Prelude.{◌≡◌, Ok, IfOk, OnOk, IfErr};
+ghost use Rattle.std.specs.Prelude.{◌≡◌, ◌==◌, ◌<◌, ℕ, length, true, slice_index_or, Ok, IfOk, OnOk, IfErr};
+ghost use Rattle.std.specs.List.{list_any};
+ghost use Rattle.cube_model.specs.declared.policy.Method.TheVariants as method;
 ghost use Rattle.cube_model.specs.declared.policy.Policy.{Policy};
 ghost use Rattle.cube_model.specs.declared.shape.Shape.{Shape};
 ghost use Rattle.cube_dims.specs.DimsFile.{dims_of};
 ghost use Rattle.cube_facts.specs.FactFile.{filled_of};
 ghost use Rattle.cube_policy.specs.PolicyFile.{policy_of};
-ghost use Rattle.cube_draft.specs.Drafts.{IsFilled, IsGoverned};
+ghost use Rattle.cube_draft.specs.Drafts.{is_controlled as controls, is_governed as governs, IsFilled, IsGoverned};
 
 use crate::fault::DraftFault;
 use cube_dims::{DimsFault, read_dims};
 use cube_facts::{FactsFault, read_facts};
-use cube_model::{Dims, LimitKind, Text};
+use cube_model::{Dims, LimitKind, Method, Object, Policy, Text};
 use cube_policy::{PolicyFault, read_policy};
 use std::alloc::Global;
 
@@ -70,13 +72,53 @@ pub(crate) fn check_facts(alloc: Global, dims: &Dims, bytes: &[u8]) -> Result<()
     }
 }
 
-/// Reads a policy file that was drafted.
+// Whether a measure is under a control.
+fn is_controlled(methods: &[Method], measure: usize) -> bool
+    ensures { result ≡ controls (slice_index_or methods.now measure method.Plain) }
+{
+    match methods.get(measure) {
+        Some(Method::Lattice) | Some(Method::Parity) => true,
+        Some(Method::Plain) | None => false,
+    }
+}
+
+// Whether an object protects a measure.
+fn has_object(objects: &[Object], measure: usize) -> bool
+    ensures { result ≡ list_any (λ o. o.measure == measure) objects.now }
+{
+    objects
+        .iter()
+        .any(|object| object.measure as usize == measure)
+}
+
+// Whether a measure is under a control and an object protects it.
+fn is_governed(policy: &Policy, measure: usize) -> bool
+    ensures { result ≡ governs policy.now measure }
+{
+    is_controlled(policy.methods.as_slice(), measure)
+        && has_object(policy.objects.as_slice(), measure)
+}
+
+// Whether so many measures are.
+fn are_governed(policy: &Policy, measures: usize) -> bool
+    ensures { result ≡ true → (m : ℕ) → m < measures → governs policy.now m ≡ true }
+{
+    for measure in 0..measures {
+        if !is_governed(policy, measure) {
+            return false;
+        }
+    }
+    true
+}
+
+/// Reads a policy file that was drafted, which leaves no measure open.
 pub(crate) fn check_policy(alloc: Global, dims: &Dims, text: &Text) -> Result<(), DraftFault>
     ensures { OnOk result (IsGoverned dims.now text.now) }
 {
     check_length(text)?;
     match read_policy(alloc, dims, text.as_slice()) {
-        Ok(_) => Ok(()),
+        Ok(policy) if are_governed(&policy, dims.measures().len()) => Ok(()),
+        Ok(_) => Err(DraftFault::Untrue),
         Err(fault) => Err(policy_fault(fault)),
     }
 }

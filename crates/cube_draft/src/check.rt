@@ -182,8 +182,8 @@ fn is_among(names: &[Text], name: &[u8]) -> bool
     names.iter().any(|other| name == other.as_slice())
 }
 
-// Whether a dimension has a level of this name.
-fn has_level(dimensions: &[Dimension], name: &[u8]) -> bool
+/// Whether a dimension has a level of this name.
+pub(crate) fn has_level(dimensions: &[Dimension], name: &[u8]) -> bool
     ensures { result ≡ list_any (λ d. list_any (bytes_eq name.now) d.levels) dimensions.now }
 {
     dimensions.iter().any(|d| is_among(d.levels(), name))

@@ -7,6 +7,7 @@ mod choices;
 mod columns;
 mod fault;
 mod hierarchy;
+mod kept;
 mod kind;
 mod order;
 mod plan;

@@ -9,6 +9,7 @@ use crate::accept::{check_facts, check_policy, read_drafted};
 use crate::check::are_true;
 use crate::choices::Choices;
 use crate::fault::DraftFault;
+use crate::kept::keeps;
 use crate::plan::{Plan, make_plan};
 use crate::shown::is_shown;
 use crate::table::{Table, read_columns};
@@ -45,25 +46,26 @@ fn check_filled(
 }
 
 // The draft of two texts, where they are read without a fault, and the fact file under them. That
-// its dimensions are true of the columns follows from how they were found; it is looked at again,
-// since nothing else is believed of the texts.
+// its dimensions are true of the columns and keep what was stated follows from how they were found;
+// it is looked at again, since nothing else is believed of the texts.
 fn accepted(
     alloc: Global,
     bytes: &[u8],
     table: &Table,
     plan: &Plan,
+    choices: &Choices,
     texts: Draft,
 ) -> Result<Draft, DraftFault>
     requires holds { Holds bytes.now table.now.header table.now.members.items table.now.fields.items table.now.rows }
     requires shown { table.now.sound ≡ true → Shown bytes.now table.now.header table.now.members.items table.now.fields.items table.now.rows table.now.decimals.items }
     requires unmarked { begins_with_mark (strip_bom bytes.now) ≡ false }
-    ensures { IfOk result (λ draft. IsDraft bytes.now draft.dims draft.policy) }
+    ensures { IfOk result (λ draft. IsDraft bytes.now choices.now draft.dims draft.policy) }
 {
     let said = read_drafted(alloc, &texts.dims)?;
     let agrees = are_true(&said, table, plan.dimensions.as_slice());
     check_filled(alloc, bytes, table, &said, agrees)?;
     check_policy(alloc, &said, &texts.policy)?;
-    if !agrees {
+    if !agrees || !keeps(choices, &said) {
         return Err(DraftFault::Untrue);
     }
     Ok(texts)
@@ -75,11 +77,11 @@ fn accepted(
 /// once more, without reading the file again. The file is read again under the drafted dimensions
 /// only where one pass over it does not show that it is accepted.
 pub fn draft_files(alloc: Global, bytes: &[u8], choices: &Choices) -> Result<Draft, DraftFault>
-    ensures { IfOk result (λ draft. IsDraft bytes.now draft.dims draft.policy) }
+    ensures { IfOk result (λ draft. IsDraft bytes.now choices.now draft.dims draft.policy) }
 {
     let table = read_columns(alloc, bytes, choices)?;
     let plan = make_plan(alloc, &table, choices)?;
     let dims = dims_text(alloc, &table, &plan)?;
     let policy = policy_text(alloc, &table, &plan)?;
-    accepted(alloc, bytes, &table, &plan, Draft { dims, policy })
+    accepted(alloc, bytes, &table, &plan, choices, Draft { dims, policy })
 }
