@@ -13,7 +13,7 @@ use Rattle.cube_groups.specs.declared.group.GroupFile.{GroupFile}
 use Rattle.cube_io.specs.Seen.{FolderState, Seen, seen}
 use Rattle.cube_opening.specs.Opening.{AskedFor, AskedUpTo, EndsAt, FileSays}
 use Rattle.cube_opening.specs.Reports.{NoMessage}
-use Rattle.cube_opening.specs.Ruling.{group_policy_said, IsRuledBy, AreRuledBy, AreGroups, HaveNames, EndsAtOne, EndsAtRules, groups_said, one_group}
+use Rattle.cube_opening.specs.Ruling.{group_policy_said, IsRuledBy, AreRuledBy, AreGroups, HaveNames, IsAlone, most_groups, EndsAtOne, EndsAtRules, groups_said, one_group}
 use Rattle.cube_opening.specs.declared.cube_files.Rules.{Rules}
 use Rattle.cube_opening.specs.declared.cube_files.Rules.TheVariants.{One, Groups as Listed}
 use Rattle.cube_opening.specs.declared.report.Report.{Report}
@@ -142,3 +142,10 @@ read_groups s files fs all some few short new (more, whole, named, policies, sai
       apart = subst (AreNew []) (sym named) new;
       policies = policies;
     })
+
+-- there are at most so many as the rules allow
+pub at_most : (rules : Rules) (s : Dims) (fs : List GroupFile) (gs : List RuledGroup) → IsAlone rules fs → HaveNames fs gs → AreGroups s gs → length gs ≤ most_groups rules
+at_most (One policy) s fs gs alone named are =
+    let one : length fs ≡ 1 = ap (λ (l : List GroupFile). length l) alone in
+    omega (arith, named_length fs gs named, one)
+at_most (Listed name) s fs gs alone named are = are.few

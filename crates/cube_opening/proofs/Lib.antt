@@ -2,3 +2,4 @@ pub mod Accepted
 pub mod Behind
 pub mod Groups
 pub mod Ended
+pub mod Causes

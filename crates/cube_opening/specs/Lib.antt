@@ -1,3 +1,4 @@
 pub mod Reports
+pub mod Causes
 pub mod Opening
 pub mod Ruling

@@ -40,6 +40,16 @@ abbrev pub Lists : Rules → List (List ℕ × List ℕ) → List GroupFile → 
 Lists (One policy) known list = list ≡ one_group policy
 Lists (Groups name) known list = FileSays groups_said name known (Ok list)
 
+-- under one policy there is that group alone, whatever the folder tells
+abbrev pub IsAlone : Rules → List GroupFile → Type 0
+IsAlone (One policy) fs = fs ≡ one_group policy
+IsAlone (Groups name) fs = ⊤
+
+-- so many groups there are at most
+abbrev pub most_groups : Rules → ℕ
+most_groups (One policy) = 1
+most_groups (Groups name) = 16
+
 -- the policy file of the group says this policy
 abbrev pub IsRuledBy : Dims → List (List ℕ × List ℕ) → GroupFile → RuledGroup → Type 0
 IsRuledBy s known f g = FileSays (group_policy_said s f.name) f.policy known (Ok g.policy)
@@ -105,6 +115,7 @@ pub record AreGroups (s : Dims) (gs : List RuledGroup) : Type 0 where
 -- The groups were read: they are listed, their files say their policies, and these files were asked for.
 pub record IsRead {F : Type 0} (rules : Rules) (s : Dims) (fs : List GroupFile) (gs : List RuledGroup) (folder : Seen FolderState F) : Type 0 where
   pub said : IfSome folder.before.files (λ known. Lists rules known fs × AreRuledBy s known fs gs)
+  pub alone : IsAlone rules fs
   pub named : HaveNames fs gs
   pub asked : AskedFor (list_names rules ++ policy_names fs) folder
 
@@ -117,6 +128,7 @@ pub record MakesGroups (cube : RuledFiles) (core : Core) (fs : List GroupFile) (
 -- so it is where the folder tells them
 pub record MakeGroups (cube : RuledFiles) (folder : FolderState) (core : Core) (fs : List GroupFile) (gs : List RuledGroup) : Type 0 where
   pub make : IfSome folder.files (MakesGroups cube core fs gs)
+  pub alone : IsAlone cube.rules fs
   pub named : HaveNames fs gs
 
 -- the files are there and are accepted

@@ -10,7 +10,7 @@ ghost use Rattle.cube_groups.specs.declared.fault.GroupsFault.TheVariants as gro
 ghost use Rattle.cube_groups.specs.declared.group.GroupFile.{GroupFile};
 ghost use Rattle.cube_opening.specs.Opening.{fault_text, FileSays, AskedFor, EndsAt, GotBehind, Reads};
 ghost use Rattle.cube_opening.specs.Reports.{IsReport, NoMessage};
-ghost use Rattle.cube_opening.specs.Ruling.{groups_said, called as called_as, group_policy_said, one_group, Lists, IsRuledBy, AreRuledBy, HaveNames, AreGroups, list_names, policy_names, ruled_names, EndsAtOne, EndsAtRules, EndsUnruled, IsRead, MakeGroups};
+ghost use Rattle.cube_opening.specs.Ruling.{groups_said, called as called_as, group_policy_said, one_group, Lists, IsRuledBy, AreRuledBy, HaveNames, AreGroups, list_names, most_groups, policy_names, ruled_names, EndsAtOne, EndsAtRules, EndsUnruled, IsRead, MakeGroups};
 ghost use Rattle.cube_opening.specs.declared.cube_files.Rules.TheVariants as orders;
 ghost use Rattle.cube_opening.specs.declared.ruling.RuledGroup.{RuledGroup};
 
@@ -273,6 +273,7 @@ pub fn open_ruled<F: Folder>(
     ensures message { IfOk result (λ opened. opened.message ≡ []) }
     ensures ok { IfOk result (λ opened. (fs : List GroupFile) × MakeGroups cube.now (F.state files.old) opened.value.core fs opened.value.groups × GotBehind (ruled_names cube.now fs) (seen F.state files.old files.new)) }
     ensures rules { IfOk result (λ opened. AreGroups opened.value.core.dims opened.value.groups) }
+    ensures few { IfOk result (λ opened. length opened.value.groups ≤ most_groups cube.now.rules) }
     ensures err { IfErr result (EndsUnruled cube.now (seen F.state files.old files.new)) }
     ensures reads { Reads (seen F.state files.old files.new) result }
 {
