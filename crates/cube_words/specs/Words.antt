@@ -9,6 +9,7 @@ use Rattle.cube_words.specs.declared.words.Command.{Command}
 use Rattle.cube_words.specs.declared.words.Command.TheVariants as command
 use Rattle.cube_opening.specs.declared.cube_files.CubeFiles.{CubeFiles}
 use Rattle.cube_opening.specs.declared.cube_files.RuledFiles.{RuledFiles}
+use Rattle.cube_opening.specs.declared.cube_files.Rules.{Rules}
 use Rattle.cube_opening.specs.declared.cube_files.Rules.TheVariants as rules
 use Rattle.cube_words.specs.declared.drafting.Drafting.{Drafting as DraftOrders}
 use Rattle.cube_words.specs.declared.ordered.Making.{Making}
@@ -196,8 +197,17 @@ files_of words = record { dims = value_of Dims words; facts = value_of Facts wor
 abbrev pub older_files_of : List (List ℕ) → CubeFiles
 older_files_of words = record { dims = value_of FromDims words; facts = value_of FromFacts words; policy = value_of FromPolicy words }
 
-abbrev pub grouped_files_of : List (List ℕ) → RuledFiles
-grouped_files_of words = record { dims = value_of Dims words; facts = value_of Facts words; rules = rules.Groups (value_of Groups words) }
+-- those of a cube whose users are ruled so
+abbrev pub ruled_files_of : Rules → List (List ℕ) → RuledFiles
+ruled_files_of r words = record { dims = value_of Dims words; facts = value_of Facts words; rules = r }
+
+-- one policy rules all users
+abbrev pub one_policy : List (List ℕ) → Rules
+one_policy words = rules.One (value_of Policy words)
+
+-- each group has a policy of its own
+abbrev pub own_policies : List (List ℕ) → Rules
+own_policies words = rules.Groups (value_of Groups words)
 
 -- the number that is stated, or the usual one
 abbrev pub stated_by : ℕ → Option (List ℕ) → ℕ
@@ -237,10 +247,10 @@ orders_with command.Carry words = orders.Carry (files_of words) (older_files_of 
 orders_with command.Why words = orders.Why (files_of words) (value_of Journal words) (value_of Query words) (value_behind (option_word Reason) words)
 orders_with command.Audit words = orders.Audit (files_of words) (value_of Transcript words)
 orders_with command.Advise words = orders.Advise (files_of words) (value_behind (option_word Journal) words) (value_behind (option_word Workload) words)
-orders_with command.Serve words = orders.Serve (files_of words) (value_of Journal words) (value_of Address words) (stated MAX_REQUESTS words) (idle words)
-orders_with command.ServeGroups words = orders.ServeGroups (grouped_files_of words) (value_of Journal words) (value_of Address words) (stated MAX_REQUESTS words) (idle words)
-orders_with command.Replay words = orders.Replay (files_of words) (value_of Journal words) (value_of Script words) (stated USUAL_REQUESTS words)
-orders_with command.ReplayGroups words = orders.ReplayGroups (grouped_files_of words) (value_of Journal words) (value_of Script words) (stated USUAL_REQUESTS words)
+orders_with command.Serve words = orders.Serve (ruled_files_of (one_policy words) words) (value_of Journal words) (value_of Address words) (stated MAX_REQUESTS words) (idle words)
+orders_with command.ServeGroups words = orders.Serve (ruled_files_of (own_policies words) words) (value_of Journal words) (value_of Address words) (stated MAX_REQUESTS words) (idle words)
+orders_with command.Replay words = orders.Replay (ruled_files_of (one_policy words) words) (value_of Journal words) (value_of Script words) (stated USUAL_REQUESTS words)
+orders_with command.ReplayGroups words = orders.Replay (ruled_files_of (own_policies words) words) (value_of Journal words) (value_of Script words) (stated USUAL_REQUESTS words)
 orders_with command.Demo words = orders.Demo (making_of words)
 
 abbrev pub unless_missing : Command → List (List ℕ) → Option Setting → Result Orders Usage
@@ -285,7 +295,7 @@ out_of (orders.Compact files journal out) = out
 out_of (orders.Carry files older journal out) = out
 out_of other = None
 
--- the files of the cube, where one policy is for all users
+-- the files of the cube, of a command for one policy
 abbrev pub cube_of : Orders → Option CubeFiles
 cube_of (orders.Check files) = Some files
 cube_of (orders.Ask files journal stated) = Some files
@@ -296,8 +306,6 @@ cube_of (orders.Carry files older journal out) = Some files
 cube_of (orders.Why files journal query reason) = Some files
 cube_of (orders.Audit files transcript) = Some files
 cube_of (orders.Advise files journal workload) = Some files
-cube_of (orders.Serve files journal address stated idle) = Some files
-cube_of (orders.Replay files journal script stated) = Some files
 cube_of other = None
 
 -- none of the words behind the command is wrong, and none is missing
@@ -311,8 +319,6 @@ IsMade m = (1 ≤ m.size) × (m.size ≤ MAX_SIZE)
 abbrev pub Fits : Orders → Type 0
 Fits (orders.Ask files journal stated) = 1 ≤ stated
 Fits (orders.Serve files journal address stated idle) = 1 ≤ stated
-Fits (orders.ServeGroups files journal address stated idle) = 1 ≤ stated
 Fits (orders.Replay files journal script stated) = 1 ≤ stated
-Fits (orders.ReplayGroups files journal script stated) = 1 ≤ stated
 Fits (orders.Demo making) = IsMade making
 Fits other = Unit {0}

@@ -5,7 +5,7 @@ ghost use Rattle.cube_model.specs.Cubes.{IsIn};
 ghost use Rattle.cube_words.specs.declared.words.Command.TheVariants as command;
 ghost use Rattle.cube_words.specs.declared.words.Setting.TheVariants as setting;
 ghost use Rattle.cube_words.specs.declared.words.TheConstants.{MAX_REQUESTS, MAX_SIZE};
-ghost use Rattle.cube_words.specs.Words.{option_word, needed as needed_by, value_behind as value_in, value_of, files_of as files_in, older_files_of as older_files_in, grouped_files_of as grouped_files_in, stated as stated_in, idle as idle_in_words, making_of as making_in, plain_drafting as plain_drafting_in, orders_with as orders_behind, out_of, cube_of, IsRight, IsMade, Fits};
+ghost use Rattle.cube_words.specs.Words.{option_word, needed as needed_by, value_behind as value_in, value_of, files_of as files_in, older_files_of as older_files_in, ruled_files_of as ruled_files_in, one_policy as one_policy_in, own_policies as own_policies_in, stated as stated_in, idle as idle_in_words, making_of as making_in, plain_drafting as plain_drafting_in, orders_with as orders_behind, out_of, cube_of, IsRight, IsMade, Fits};
 
 use crate::drafting::Drafting;
 use crate::words::{
@@ -100,14 +100,6 @@ pub enum Orders {
     },
     /// Answer asks over the network, at most as many as are stated. A connection may be still for so many seconds.
     Serve {
-        files: CubeFiles,
-        journal: Text,
-        address: Text,
-        stated: u64,
-        idle: u32,
-    },
-    /// Answer the asks of groups over the network, as under `Serve`.
-    ServeGroups {
         files: RuledFiles,
         journal: Text,
         address: Text,
@@ -116,13 +108,6 @@ pub enum Orders {
     },
     /// Play a script of connections, and answer at most as many asks as are stated.
     Replay {
-        files: CubeFiles,
-        journal: Text,
-        script: Text,
-        stated: u64,
-    },
-    /// Play a script of connections to groups, as under `Replay`.
-    ReplayGroups {
         files: RuledFiles,
         journal: Text,
         script: Text,
@@ -145,7 +130,7 @@ impl Orders {
         }
     }
 
-    /// The names of the cube's files, where one policy is for all users.
+    /// The names of the cube's files, of a command for one policy.
     pub fn cube(&self) -> Option<&CubeFiles>
         ensures { option_copied result ≡ cube_of self.now }
     {
@@ -158,9 +143,7 @@ impl Orders {
             | Orders::Carry { files, .. }
             | Orders::Why { files, .. }
             | Orders::Audit { files, .. }
-            | Orders::Advise { files, .. }
-            | Orders::Serve { files, .. }
-            | Orders::Replay { files, .. } => Some(files),
+            | Orders::Advise { files, .. } => Some(files),
             _ => None,
         }
     }
@@ -227,19 +210,41 @@ fn older_files_of(alloc: Global, words: &[Text], command: Command) -> Result<Cub
     })
 }
 
-// The files of a cube whose users are in groups.
-fn grouped_files_of(alloc: Global, words: &[Text], command: Command) -> Result<RuledFiles, NoMemory>
+// The files of a cube whose users are ruled so.
+fn ruled_files_of(
+    alloc: Global,
+    words: &[Text],
+    command: Command,
+    rules: Rules,
+) -> Result<RuledFiles, NoMemory>
     requires right { IsRight command words.now }
     requires dims { IsIn setting.Dims (needed_by command) }
     requires facts { IsIn setting.Facts (needed_by command) }
-    requires groups { IsIn setting.Groups (needed_by command) }
-    ensures { IfOk result (λ files. files ≡ grouped_files_in words.now) }
+    ensures { IfOk result (λ files. files ≡ ruled_files_in rules words.now) }
 {
     Ok(RuledFiles {
         dims: needed_text(alloc, words, command, Setting::Dims)?,
         facts: needed_text(alloc, words, command, Setting::Facts)?,
-        rules: Rules::Groups(needed_text(alloc, words, command, Setting::Groups)?),
+        rules,
     })
+}
+
+// One policy for all users.
+fn one_policy(alloc: Global, words: &[Text], command: Command) -> Result<Rules, NoMemory>
+    requires right { IsRight command words.now }
+    requires policy { IsIn setting.Policy (needed_by command) }
+    ensures { IfOk result (λ rules. rules ≡ one_policy_in words.now) }
+{
+    Ok(Rules::One(needed_text(alloc, words, command, Setting::Policy)?))
+}
+
+// A policy of its own for each group.
+fn own_policies(alloc: Global, words: &[Text], command: Command) -> Result<Rules, NoMemory>
+    requires right { IsRight command words.now }
+    requires groups { IsIn setting.Groups (needed_by command) }
+    ensures { IfOk result (λ rules. rules ≡ own_policies_in words.now) }
+{
+    Ok(Rules::Groups(needed_text(alloc, words, command, Setting::Groups)?))
 }
 
 // The stated number of asks, or the usual one.
@@ -440,8 +445,9 @@ fn serve_with(alloc: Global, words: &[Text]) -> Result<Orders, NoMemory>
     ensures fits { IfOk result Fits }
 {
     let command = Command::Serve;
+    let rules = one_policy(alloc, words, command)?;
     Ok(Orders::Serve {
-        files: files_of(alloc, words, command)?,
+        files: ruled_files_of(alloc, words, command, rules)?,
         journal: needed_text(alloc, words, command, Setting::Journal)?,
         address: needed_text(alloc, words, command, Setting::Address)?,
         stated: stated_to_serve(words, command),
@@ -455,8 +461,9 @@ fn serve_groups_with(alloc: Global, words: &[Text]) -> Result<Orders, NoMemory>
     ensures fits { IfOk result Fits }
 {
     let command = Command::ServeGroups;
-    Ok(Orders::ServeGroups {
-        files: grouped_files_of(alloc, words, command)?,
+    let rules = own_policies(alloc, words, command)?;
+    Ok(Orders::Serve {
+        files: ruled_files_of(alloc, words, command, rules)?,
         journal: needed_text(alloc, words, command, Setting::Journal)?,
         address: needed_text(alloc, words, command, Setting::Address)?,
         stated: stated_to_serve(words, command),
@@ -470,8 +477,9 @@ fn replay_with(alloc: Global, words: &[Text]) -> Result<Orders, NoMemory>
     ensures fits { IfOk result Fits }
 {
     let command = Command::Replay;
+    let rules = one_policy(alloc, words, command)?;
     Ok(Orders::Replay {
-        files: files_of(alloc, words, command)?,
+        files: ruled_files_of(alloc, words, command, rules)?,
         journal: needed_text(alloc, words, command, Setting::Journal)?,
         script: needed_text(alloc, words, command, Setting::Script)?,
         stated: stated(words, command, USUAL_REQUESTS),
@@ -484,8 +492,9 @@ fn replay_groups_with(alloc: Global, words: &[Text]) -> Result<Orders, NoMemory>
     ensures fits { IfOk result Fits }
 {
     let command = Command::ReplayGroups;
-    Ok(Orders::ReplayGroups {
-        files: grouped_files_of(alloc, words, command)?,
+    let rules = own_policies(alloc, words, command)?;
+    Ok(Orders::Replay {
+        files: ruled_files_of(alloc, words, command, rules)?,
         journal: needed_text(alloc, words, command, Setting::Journal)?,
         script: needed_text(alloc, words, command, Setting::Script)?,
         stated: stated(words, command, USUAL_REQUESTS),
