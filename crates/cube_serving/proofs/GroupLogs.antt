@@ -20,7 +20,7 @@ use Rattle.cube_server.specs.Logs.{Call as Reached}
 use Rattle.cube_server.specs.Seen.{DeskState}
 use Rattle.cube_serving.specs.Grouping.{AllOf}
 use Rattle.cube_serving.specs.NamedBooks.{room, rooms_of, AreNumbered, place, places_of, HoldsAt}
-use Rattle.cube_serving.specs.ServedGroups.{turn_of, RoomHas}
+use Rattle.cube_serving.specs.Serving.{turn_of, RoomHas}
 use Rattle.cube_serving.specs.Starting.{IsBetween, SurvivedIn, HeldIn}
 use Rattle.cube_serving.specs.declared.named.NamedBook.{NamedBook}
 use Rattle.cube_serving.proofs.Grouped.{after_is, turns_grow}

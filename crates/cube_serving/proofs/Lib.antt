@@ -6,7 +6,6 @@ pub mod Started
 pub mod SealsHeld
 pub mod Held
 pub mod Phrases
-pub mod Wired
 pub mod Played
 mod Listening
 pub mod Grouped
@@ -17,3 +16,5 @@ pub mod Shared
 pub mod OpenGroups
 pub mod Unruled
 pub mod Unstarted
+pub mod Everyone
+pub mod Causes

@@ -25,7 +25,7 @@ use Rattle.cube_seal.specs.Seals.{seal_log, IsSealed}
 use Rattle.cube_seal.specs.Values.{digest_of_values}
 use Rattle.cube_serving.specs.Grouping.{GroupRun, AllAgree, AllOf, AllRecover, AllSealed, AllSeals, AreOpen, AreStarted, OnlyFrom, OnlyFirst, journal_of, ruled, ruled_by}
 use Rattle.cube_serving.specs.NamedBooks.{Groups}
-use Rattle.cube_serving.specs.ServedGroups.{IsInGroupsTurn, HoldFrom, AreRunsOf, ServeWire, ServedGroups, UnservedGroups, WiredGroups}
+use Rattle.cube_serving.specs.Serving.{IsInTurn, HoldFrom, AreRunsOf, ServeWire, Served, Unserved, Wired}
 use Rattle.cube_serving.specs.Starting.{RecoversIn, SurvivedIn, HeldIn}
 use Rattle.cube_serving.specs.declared.named.NamedBook.{NamedBook}
 use Rattle.cube_serving.proofs.SealsHeld.{seals_still}
@@ -154,7 +154,7 @@ module _ {F S : Type 0} (cube : RuledFiles) (more : List (List ℕ)) (files : Se
   run_recovers rs runs passed = subst (λ (l : List RuledGroup). AllRecover core 0 l (seen tells old mid)) (sym (runs_ruled core (seen tells old mid) 0 gs bs rs started runs)) passed
 
   -- nothing was asked
-  pub unserved : AllRecover core 0 gs (seen tells old mid) → UnservedGroups cube more files (seen tells old mid)
+  pub unserved : AllRecover core 0 gs (seen tells old mid) → Unserved cube more files (seen tells old mid)
   unserved passed = record {
     core = core;
     groups = runs_at bs;
@@ -165,11 +165,11 @@ module _ {F S : Type 0} (cube : RuledFiles) (more : List (List ℕ)) (files : Se
 
   -- a wire was served
   pub served : (new : S) (e last : Groups) (end : Result (Unit {0}) ServeFault) (told heard_told : Bool) (log : List LogEntry) → bs ≡ e.books → heard_told ≡ told → SealsLeft tells old mid new → (tells mid).told ≡ (tells old).told → (tells mid).faults ≡ (tells old).faults
-      → AllRecover core 0 gs (seen tells old mid) → (w : ServeWire tells core e last end heard_told log mid new) → RoseBy (faults_in last.outcomes) (tells mid).faults (tells new).faults → ServedGroups cube more files (seen tells old new) w.asking end told log
+      → AllRecover core 0 gs (seen tells old mid) → (w : ServeWire tells core e last end heard_told log mid new) → RoseBy (faults_in last.outcomes) (tells mid).faults (tells new).faults → Served cube more files (seen tells old new) w.asking end told log
   served new e last end told heard_told log is same_heard stays told_same steady passed w failed =
       let runs : AreRunsOf bs w.asking.groups = subst (λ (xs : List NamedBook). AreRunsOf xs w.asking.groups) (sym is) w.runs in
-      let both : (v : WiredGroups core w.asking end told log) × HoldFrom tells core w.asking.groups v.asked.calls mid new =
-      subst (λ (b : Bool). (v : WiredGroups core w.asking end b log) × HoldFrom tells core w.asking.groups v.asked.calls mid new) same_heard (w.wired, w.held) in
+      let both : (v : Wired core w.asking end told log) × HoldFrom tells core w.asking.groups v.asked.calls mid new =
+      subst (λ (b : Bool). (v : Wired core w.asking end b log) × HoldFrom tells core w.asking.groups v.asked.calls mid new) same_heard (w.wired, w.held) in
       record {
         core = core;
         opened = are_open new w.asking.groups runs stays;
@@ -178,7 +178,7 @@ module _ {F S : Type 0} (cube : RuledFiles) (more : List (List ℕ)) (files : Se
             (w.survived (subst IsTrue (sym told_same) are) old (sym told_same))
             (runs_exact core (seen tells old mid) 0 gs bs w.asking.groups started runs are)
             (all_unmap (λ k (g : RuledGroup). RecoversIn k core g.policy (seen tells old mid)) ruled_by 0 w.asking.groups (run_recovers w.asking.groups runs passed));
-        held = λ are. all_three (λ k (g : GroupRun). IsExact core g.policy g.first ((tells mid).logs k).state) (λ k (g : GroupRun). RecoversIn k core g.policy (seen tells old mid)) (λ k (g : GroupRun). HeldIn k core g.policy (IsInGroupsTurn core w.asking.groups both.0.asked.calls k) (seen tells old new)) 0 w.asking.groups
+        held = λ are. all_three (λ k (g : GroupRun). IsExact core g.policy g.first ((tells mid).logs k).state) (λ k (g : GroupRun). RecoversIn k core g.policy (seen tells old mid)) (λ k (g : GroupRun). HeldIn k core g.policy (IsInTurn core w.asking.groups both.0.asked.calls k) (seen tells old new)) 0 w.asking.groups
             (both.1 (subst IsTrue (sym told_same) are) old (sym told_same))
             (runs_exact core (seen tells old mid) 0 gs bs w.asking.groups started runs are)
             (all_unmap (λ k (g : RuledGroup). RecoversIn k core g.policy (seen tells old mid)) ruled_by 0 w.asking.groups (run_recovers w.asking.groups runs passed));
@@ -192,8 +192,8 @@ module _ {S : Type 0} (core : Core) (tells : S → StoreState) (old mid new : S)
   pub seals_alone : OnlyFrom 0 (length bs) (tells mid) (tells new) → SealsLeft tells old mid new
   seals_alone frame told j low = let long = started_few core (seen tells old mid) 0 gs bs started in frame (subst IsTrue (sym told_same) told) (seal_log j) (inr (omega (arith, few, long, low)))
 
-  -- and each log behind the first sixteen
-  pub only_sixteen : OnlyFirst (length gs) (tells old) (tells mid) → OnlyFrom 0 (length bs) (tells mid) (tells new) → OnlyFirst 16 (tells old) (tells new)
-  only_sixteen opened frame told k far none =
+  -- and each log behind the first ones, so many
+  pub only_most : (most : ℕ) → length gs ≤ most → OnlyFirst (length gs) (tells old) (tells mid) → OnlyFrom 0 (length bs) (tells mid) (tells new) → OnlyFirst most (tells old) (tells new)
+  only_most most below opened frame told k far none =
       let long = started_few core (seen tells old mid) 0 gs bs started in
-      frame (subst IsTrue (sym told_same) told) k (inr (omega (arith, far, few, long))) ∙ opened told k (omega (arith, far, few)) (λ j from low. none j from (omega (arith, low, few)))
+      frame (subst IsTrue (sym told_same) told) k (inr (omega (arith, far, below, long))) ∙ opened told k (omega (arith, far, below)) (λ j from low. none j from (omega (arith, low, below)))

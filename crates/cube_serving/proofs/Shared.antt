@@ -28,7 +28,7 @@ use Rattle.cube_server.proofs.Likeness.{logs_are_alike}
 use Rattle.cube_talk.specs.Talk.{max_input}
 use Rattle.cube_serving.specs.Grouping.{GroupRun, first_room, last_room, first_rooms, last_rooms}
 use Rattle.cube_serving.specs.NamedBooks.{Groups, rooms_of, dims_of, AreInOrder, AreNumbered, places_of, HoldsAt}
-use Rattle.cube_serving.specs.ServedGroups.{GroupsAsking, groups_before, groups_behind, turn_of, luck_in, GroupsTell, WiredGroups, RoomHas, IsInGroupsTurn, HoldFrom, AreRunsOf, SurviveFrom, ServeWire}
+use Rattle.cube_serving.specs.Serving.{Asking, desk_before, desk_behind, turn_of, luck_in, Tells, Wired, RoomHas, IsInTurn, HoldFrom, AreRunsOf, SurviveFrom, ServeWire}
 use Rattle.cube_serving.specs.Serving.{Ends}
 use Rattle.cube_serving.specs.Starting.{SurvivedIn, RecoversIn, HeldIn}
 use Rattle.cube_serving.specs.declared.named.NamedBook.{NamedBook}
@@ -117,21 +117,21 @@ module _ (core : Core) (e last : Groups) (some : 1 ≤ length e.books) (over : O
   abbrev gs : List GroupRun
   gs = map (run_from core.dims asked.calls) e.books
 
-  abbrev a : GroupsAsking
+  abbrev a : Asking
   a = record { groups = gs; stated = e.left; left = last.left; outcomes = last.outcomes }
 
   dims_are : dims_of e.books ≡ core.dims
   dims_are = first_dims core e.books some over
 
   -- the desk before the asks and behind them, by the runs
-  before_is : desk_at e ≡ groups_before core a
+  before_is : desk_at e ≡ desk_before core a
   unfolding desk
   before_is = desk_is (manner (dims_of e.books)) (manner core.dims) (rooms_of e.books) (first_rooms core gs) e.left e.outcomes [] (ap manner dims_are) (sym (firsts core asked.calls e.books over)) unasked
 
   led : rooms_of last.books ≡ map (ended (by_words core.dims) (map turn_of asked.calls)) (rooms_of e.books)
   led = asked.rooms_are ∙ ap (λ (d : Dims). after (manner d) (rooms_of e.books) asked.calls) dims_are ∙ after_is core.dims (rooms_of e.books) asked.calls
 
-  behind_is : desk_at last ≡ groups_behind core a
+  behind_is : desk_at last ≡ desk_behind core a
   unfolding desk
   behind_is = desk_is (manner (dims_of last.books)) (manner core.dims) (rooms_of last.books) (last_rooms core gs) last.left last.outcomes last.outcomes (same ∙ ap manner dims_are) (led ∙ sym (lasts core asked.calls e.books over)) refl
 
@@ -139,7 +139,7 @@ module _ (core : Core) (e last : Groups) (some : 1 ≤ length e.books) (over : O
   apart = subst AreApart (sym (firsts core asked.calls e.books over)) order.apart
 
   -- what the log tells
-  told : (log : List LogEntry) → Serves (groups_before core a) (groups_behind core a) max_input log → GroupsTell core a log
+  told : (log : List LogEntry) → Serves (desk_before core a) (desk_behind core a) max_input log → Tells core a log
   told log served =
       let events = events_in log in
       let luck = luck_in core a log served.outcomes served.starved in
@@ -160,7 +160,7 @@ module _ (core : Core) (e last : Groups) (some : 1 ≤ length e.books) (over : O
       }
 
   -- what was asked, over the runs
-  asked_runs : Called (groups_before core a) (groups_behind core a)
+  asked_runs : Called (desk_before core a) (desk_behind core a)
   asked_runs = record {
     calls = asked.calls;
     rooms_are = lasts core asked.calls e.books over ∙ sym (after_is core.dims (rooms_of e.books) asked.calls) ∙ ap (λ (rs : List Room). after (manner core.dims) rs asked.calls) (sym (firsts core asked.calls e.books over));
@@ -171,12 +171,12 @@ module _ (core : Core) (e last : Groups) (some : 1 ≤ length e.books) (over : O
         (subst (λ (rs : List Room). FailedFresh (manner (dims_of e.books)) rs asked.calls) (sym (firsts core asked.calls e.books over)) asked.fresh);
   }
 
-  pub wired : (end_is : Result (Unit {0}) ServeFault) (is_told : Bool) (log : List LogEntry) → Ends end_is is_told (desk_at e) (desk_at last) log → last.left + length last.outcomes ≡ e.left + length e.outcomes → (IsTrue is_told → Serves (desk_at e) (desk_at last) max_input log) → WiredGroups core a end_is is_told log
+  pub wired : (end_is : Result (Unit {0}) ServeFault) (is_told : Bool) (log : List LogEntry) → Ends end_is is_told (desk_at e) (desk_at last) log → last.left + length last.outcomes ≡ e.left + length e.outcomes → (IsTrue is_told → Serves (desk_at e) (desk_at last) max_input log) → Wired core a end_is is_told log
   wired end_is is_told log ends counted serves = record {
-    ended = subst (λ (x : DeskState). Ends end_is is_told x (groups_behind core a) log) before_is (subst (λ (x : DeskState). Ends end_is is_told (desk_at e) x log) behind_is ends);
+    ended = subst (λ (x : DeskState). Ends end_is is_told x (desk_behind core a) log) before_is (subst (λ (x : DeskState). Ends end_is is_told (desk_at e) x log) behind_is ends);
     counted = (let none = ap (λ (os : List Outcome). length os) unasked in omega (arith, counted, none));
     asked = asked_runs;
-    tells = λ are. told log (subst (λ (x : DeskState). Serves x (groups_behind core a) max_input log) before_is (subst (λ (x : DeskState). Serves (desk_at e) x max_input log) behind_is (serves are)));
+    tells = λ are. told log (subst (λ (x : DeskState). Serves x (desk_behind core a) max_input log) before_is (subst (λ (x : DeskState). Serves (desk_at e) x max_input log) behind_is (serves are)));
   }
 
   -- what was left of the logs
@@ -222,8 +222,8 @@ module _ (core : Core) (e last : Groups) (some : 1 ≤ length e.books) (over : O
       let calls = asked.calls in
       let within = HoldsAt IsWithin (places_of last.books) in
       let exact = HoldsAt IsExact (places_of last.books) in
-      all_map (λ k (g : GroupRun). IsExact core g.policy g.first ((tells mid).logs k).state → RecoversIn k core g.policy (seen tells opened mid) → HeldIn k core g.policy (IsInGroupsTurn core gs calls k) (seen tells opened new)) (run_from s calls) 0 e.books
-      (each_book (λ k b. IsExact core b.book.policy b.book.history ((tells mid).logs k).state → RecoversIn k core b.book.policy (seen tells opened mid) → HeldIn k core b.book.policy (IsInGroupsTurn core gs calls k) (seen tells opened new)) e.books
+      all_map (λ k (g : GroupRun). IsExact core g.policy g.first ((tells mid).logs k).state → RecoversIn k core g.policy (seen tells opened mid) → HeldIn k core g.policy (IsInTurn core gs calls k) (seen tells opened new)) (run_from s calls) 0 e.books
+      (each_book (λ k b. IsExact core b.book.policy b.book.history ((tells mid).logs k).state → RecoversIn k core b.book.policy (seen tells opened mid) → HeldIn k core b.book.policy (IsInTurn core gs calls k) (seen tells opened new)) e.books
       (λ front back g is.
       let c : g.book.core ≡ core = each_here (λ b. b.book.core ≡ core) g front back (subst (Over core) is over) in
       let w = subst (WereAsked s calls within exact e.left (desk_at last) (tells mid) (tells new)) is (were (tells mid) (tells new) v same_asked) in
@@ -235,7 +235,7 @@ module _ (core : Core) (e last : Groups) (some : 1 ≤ length e.books) (over : O
       (held_meanwhile s calls within exact e.left (desk_at last) (tells mid) (seen tells opened new) are front back g w (subst (λ (x : Core). IsExact x g.book.policy g.book.history ((tells mid).logs k).state) (sym c) is_exact)
       (subst (λ (x : Core). Gained (IsInRecovery (history_of x g.book.policy) ((tells opened).logs k).state) ((tells opened).logs k) ((tells mid).logs k)) (sym c) (recovers (subst IsTrue (sym told_same) are)))))))
 
-  pub serves : {S : Type 0} (tells : S → StoreState) (mid new : S) (end_is : Result (Unit {0}) ServeFault) (is_told : Bool) (log : List LogEntry) (w : WiredGroups core a end_is is_told log) → w.asked.calls ≡ asked.calls → SurviveFrom tells core a mid new → HoldFrom tells core gs asked.calls mid new
+  pub serves : {S : Type 0} (tells : S → StoreState) (mid new : S) (end_is : Result (Unit {0}) ServeFault) (is_told : Bool) (log : List LogEntry) (w : Wired core a end_is is_told log) → w.asked.calls ≡ asked.calls → SurviveFrom tells core a mid new → HoldFrom tells core gs asked.calls mid new
       → ServeWire tells core e last end_is is_told log mid new
   serves tells mid new end_is is_told log w same_calls v h = record {
     asking = a;

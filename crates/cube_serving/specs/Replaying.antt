@@ -1,27 +1,31 @@
--- What is written of a script that was played to a cube.
+-- What is written of a script that was played to the groups of a cube.
 use Rattle.std.specs.Prelude.{◌≡◌, ◌≢◌, ◌⊎◌, ℕ, Bool, true, false, List, [], ◌∷◌, ◌++◌, length, codes, decimal, if◌then◌else◌, IfSome}
 use Rattle.std.specs.declared.result.Result.{Result}
 use Rattle.std.specs.declared.result.Result.TheVariants.{Ok, Err}
 use Rattle.std.specs.Io.KnownBytes.{Appends}
 use Rattle.cube_model.specs.declared.outcome.Outcome.{Outcome}
+use Rattle.cube_model.specs.Cores.{Core}
+use Rattle.cube_groups.specs.declared.group.GroupFile.{GroupFile}
 use Rattle.cube_io.specs.Causes.{Rose}
 use Rattle.cube_io.specs.Content.{AppendsPrefix}
 use Rattle.cube_io.specs.Seen.{FolderState, SinkState, StoreState, Seen, Unused}
 use Rattle.cube_io.specs.Wires.{Arrival, LogEntry, events_in, render}
 use Rattle.cube_io.specs.Wires.Arrival.{End}
 use Rattle.cube_io.specs.Wires.LogEntry.{Torn, Shut}
-use Rattle.cube_opening.specs.Opening.{fault_text, faulted, unless_long, FileSays, EndsAtLast, GotBehind, HasAll, HasFile, names_with}
+use Rattle.cube_opening.specs.Opening.{fault_text, faulted, unless_long, FileSays, EndsAt, HasFile}
 use Rattle.cube_opening.specs.Reports.{IsReport, IsDone}
-use Rattle.cube_opening.specs.declared.cube_files.CubeFiles.{CubeFiles}
+use Rattle.cube_opening.specs.Ruling.{HasGroups, MakeGroups, ruled_names}
+use Rattle.cube_opening.specs.declared.cube_files.RuledFiles.{RuledFiles}
 use Rattle.cube_opening.specs.declared.report.Report.{Report}
+use Rattle.cube_opening.specs.declared.ruling.RuledGroup.{RuledGroup}
 use Rattle.cube_script.specs.Playing.{Playing, IsPlaying, starting, has_torn, passes_capacity_by}
 use Rattle.cube_script.specs.Scripts.{script_of}
 use Rattle.cube_script.specs.declared.script_wire.SendCapacity.{SendCapacity}
 use Rattle.cube_script.specs.declared.script_wire.TheConstants.{MAX_SENDS, MAX_SENT_BYTES}
 use Rattle.cube_server.specs.declared.serving.ServeFault.{ServeFault}
 use Rattle.cube_server.specs.declared.serving.ServeFault.TheVariants.{WireFailed}
+use Rattle.cube_serving.specs.Grouping.{EndsClosedGroups, HaveJournals}
 use Rattle.cube_serving.specs.Serving.{Asking, Served, Unserved, served_status, served_text}
-use Rattle.cube_serving.specs.Starting.{EndsClosed, HasJournal}
 
 -- ---- the script
 
@@ -66,35 +70,43 @@ Writes end log out r =
 
 -- ---- the whole
 
+-- the files make a core and groups, and the run ended at the script
+pub record Unscripted {F : Type 0} (cube : RuledFiles) (script_name : List ℕ) (files : Seen FolderState F) (r : Report) : Type 0 where
+  pub core : Core
+  pub listed : List GroupFile
+  pub groups : List RuledGroup
+  pub files_make : MakeGroups cube files.before core listed groups
+  pub ends : EndsAt (ruled_names cube listed) script_said script_name files r
+
 -- The events of the script came over a wire that was served as `Served` says, and what was written is the text of its log. The wire
 -- played the script: it gave the first events of it, all of them where the end came, no send passed the space, and nothing went out of a
 -- send that failed. A send failed only where it would have passed the space, and it was the last; and the wire failed only behind it.
-pub record Replayed {S O : Type 0} (cube : CubeFiles) (script_name : List ℕ) (stated : ℕ) (files : FolderState) (store : Seen StoreState S) (out : Seen SinkState O) (r : Report) : Type 0 where
+pub record Replayed {F S O : Type 0} (cube : RuledFiles) (script_name : List ℕ) (stated : ℕ) (files : Seen FolderState F) (store : Seen StoreState S) (out : Seen SinkState O) (r : Report) : Type 0 where
   pub script : List Arrival
   pub wire : Playing
   pub asking : Asking
   pub stated_is : asking.stated ≡ stated
   pub outcomes_are : r.outcomes ≡ asking.outcomes
   pub end : Result (Unit {0}) ServeFault
-  pub said : IfSome files.files (λ known. FileSays script_said script_name known (Ok script))
+  pub said : IfSome files.before.files (λ known. FileSays script_said script_name known (Ok script))
   pub plays : (wire.script ≡ (wire_of script).script) × (wire.most ≡ room_for_sends)
   pub playing : IsPlaying wire
-  pub served : Served cube files store asking end true wire.log
+  pub served : Served cube (script_name ∷ []) files store asking end true wire.log
   pub whole : (u : Unit {0}) → end ≡ Ok u → events_in wire.log ≡ script ++ End ∷ []
   pub cause : has_torn wire.log ≡ true → EndsOverrun room_for_sends wire.log
   pub unfailed : has_torn wire.log ≡ false → end ≢ Err WireFailed
   pub writes : Writes end wire.log out r
 
--- a run of `replay` ends at the script, or before its cube is open, or for want of memory behind that; or it plays the script and writes
--- the log
-abbrev pub ReplayEnds : {F S O : Type 0} → CubeFiles → List ℕ → ℕ → Seen FolderState F → Seen StoreState S → Seen SinkState O → Report → Type 0
+-- a run of `replay` ends at the script, or before its groups are open, or for want of memory behind that; or it plays the script and
+-- writes the log
+abbrev pub ReplayEnds : {F S O : Type 0} → RuledFiles → List ℕ → ℕ → Seen FolderState F → Seen StoreState S → Seen SinkState O → Report → Type 0
 ReplayEnds cube script_name stated files store out r =
-    (EndsAtLast cube script_said script_name files r × Unused store × Unused out)
-    ⊎ (EndsClosed cube (names_with cube script_name) files store r × Unused out)
-    ⊎ (Unserved cube files.before store × IsReport 7 (codes "no memory\n") r × GotBehind (names_with cube script_name) files × Unused out)
-    ⊎ (Replayed cube script_name stated files.before store out r × GotBehind (names_with cube script_name) files)
+    (Unscripted cube script_name files r × Unused store × Unused out)
+    ⊎ (EndsClosedGroups cube (script_name ∷ []) files store r × Unused out)
+    ⊎ (Unserved cube (script_name ∷ []) files store × IsReport 7 (codes "no memory\n") r × Unused out)
+    ⊎ Replayed cube script_name stated files store out r
 
--- where the files, the script and the journal are accepted, no count rose and less was taken than is taken at most, all is done
-abbrev pub ReplayCompletes : {F S O : Type 0} → CubeFiles → List ℕ → Seen FolderState F → Seen StoreState S → Seen SinkState O → Report → Type 0
-ReplayCompletes cube script_name files store out r = HasAll cube files.before → HasFile script_said script_name files.before → HasJournal cube files.before store.before → r.status ≢ 10
+-- where the files, the script and the journals are accepted, no count rose and less was taken than is taken at most, all is done
+abbrev pub ReplayCompletes : {F S O : Type 0} → RuledFiles → List ℕ → Seen FolderState F → Seen StoreState S → Seen SinkState O → Report → Type 0
+ReplayCompletes cube script_name files store out r = HasGroups cube files.before → HasFile script_said script_name files.before → HaveJournals cube files.before store.before → r.status ≢ 10
     → ¬ Rose files.before.faults files.after.faults → (r.outcomes ≡ [] → ¬ Rose store.before.faults store.after.faults) → ¬ Rose out.before.faults out.after.faults → IsDone r

@@ -10,7 +10,7 @@ ghost use Rattle.cube_server.specs.Pools.{IsFree};
 ghost use Rattle.cube_server.specs.declared.serving.ServeFault.TheVariants as fault;
 ghost use Rattle.cube_serving.specs.Grouping.{OnlyFrom};
 ghost use Rattle.cube_serving.specs.NamedBooks.{IsKeptIn};
-ghost use Rattle.cube_serving.specs.ServedGroups.{ServeWire};
+ghost use Rattle.cube_serving.specs.Serving.{ServeWire};
 
 use crate::Groups;
 use crate::serving::MAX_EVENTS;

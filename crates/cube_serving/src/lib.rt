@@ -1,10 +1,10 @@
 //! A cube behind its journal: the journal is opened, and the cube is served over connections, or to a script of them.
 #![tactic(auto)]
 
-mod commands;
 mod gathering;
 mod groups;
 mod housing;
+mod laws;
 mod named;
 mod replaying;
 mod sealing;
@@ -12,10 +12,10 @@ mod serving;
 mod starting;
 mod worked;
 
-pub use commands::{replay_grouped, serve_grouped};
 pub use gathering::open_groups;
 pub use groups::Groups;
 pub use housing::serve_groups;
+pub use laws::one_group_is_the_cube;
 pub use replaying::replay_cube;
 pub use serving::serve_cube;
 pub use starting::open_engine;

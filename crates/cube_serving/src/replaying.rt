@@ -1,23 +1,26 @@
-// `replay`: the cube of the files is asked by the connections of a script, and the log of what was sent is written.
-ghost use Rattle.std.specs.Prelude.{◌≡◌, ◌≢◌, ◌⊎◌, ◌≤◌, ◌+◌, ◌++◌, ◌∷◌, [], List, decimal, codes, true, false, length, is_err, IsTrue, IfOk, IfErr, OnOk, IfSome, Ok, Err};
+// `replay`: the groups of the files are asked by the connections of a script, and the log of what was sent is written.
+ghost use Rattle.std.specs.Prelude.{◌≡◌, ◌≢◌, ◌⊎◌, ◌≤◌, ◌+◌, ◌*◌, ◌++◌, ◌∷◌, [], List, decimal, codes, true, false, length, is_err, IsTrue, IfOk, IfErr, OnOk, IfSome, Ok, Err};
 ghost use Rattle.std.specs.List.{list_any};
-ghost use Rattle.cube_io.specs.Causes.{Rose};
 ghost use Rattle.cube_io.specs.Files.{max_file};
 ghost use Rattle.cube_io.specs.Seen.{seen};
 ghost use Rattle.cube_io.specs.Wires.{Arrival};
-ghost use Rattle.cube_opening.specs.Opening.{FileSays, AskedFor, EndsAt, Reads, IsSteady};
+ghost use Rattle.cube_opening.specs.Causes.{HasCauses, of_command};
+ghost use Rattle.cube_opening.specs.Opening.{FileSays, AskedFor, EndsAt, Reads};
 ghost use Rattle.cube_opening.specs.Reports.{IsReport};
+ghost use Rattle.cube_opening.specs.Ruling.{most_groups};
 ghost use Rattle.cube_script.specs.Playing.{has_torn};
 ghost use Rattle.cube_server.specs.Steps.{is_end};
 ghost use Rattle.cube_server.specs.declared.serving.ServeFault.TheVariants as fault;
+ghost use Rattle.cube_serving.specs.Grouping.{OnlyFirst};
 ghost use Rattle.cube_serving.specs.Replaying.{script_said, wire_of, ReplayEnds, ReplayCompletes, played_status, played_text};
-ghost use Rattle.cube_serving.specs.Starting.{AsksStore, OnlyJournal};
+ghost use Rattle.cube_serving.specs.Starting.{AsksStore};
 
-use crate::serving::{report_serving, serve_engine};
-use crate::starting::open_engine;
+use crate::gathering::open_groups;
+use crate::housing::serve_groups;
+use crate::serving::report_serving;
 use cube_io::{Failed, Folder, Sink, Store};
 use cube_model::{Outcomes, Text};
-use cube_opening::{CubeFiles, Message, Opened, Report, open_guarded, read_bytes, statuses};
+use cube_opening::{Message, Opened, Report, RuledFiles, open_ruled, read_bytes, statuses};
 use cube_script::{ScriptFault, ScriptWire};
 use cube_server::{Pool, ServeFault};
 use std::alloc::Global;
@@ -45,8 +48,8 @@ fn make_wire(alloc: Global, message: Message, bytes: &Text) -> Result<Opened<Scr
     }
 }
 
-/// Reads the script.
-pub(crate) fn open_script<F: Folder>(
+// Reads the script.
+fn open_script<F: Folder>(
     alloc: Global,
     message: Message,
     name: &Text,
@@ -78,8 +81,8 @@ fn overrun_room(message: Message, requests: u64, events: u64) -> Message
         .with(b" events\n")
 }
 
-/// The report on how a play ended.
-pub(crate) fn report_play(
+// The report on how a play ended.
+fn report_play(
     message: Message,
     end: Result<(), ServeFault>,
     written: Result<(), Failed>,
@@ -103,11 +106,12 @@ pub(crate) fn report_play(
     overrun_room(message, requests, wire.taken()).close_with(statuses::ALL_SPENT, outcomes)
 }
 
-/// Plays a script to the cube of the files, from the history on that the journal holds, and writes the log of what was sent.
+/// Plays a script to the groups over the cube of the files, each from the history on that its journal holds, and writes the log of what
+/// was sent.
 pub fn replay_cube<F: Folder, S: Store, O: Sink>(
     alloc: Global,
     message: Message,
-    cube: &CubeFiles,
+    cube: &RuledFiles,
     journal: &Text,
     script_name: &Text,
     stated: u64,
@@ -119,28 +123,22 @@ pub fn replay_cube<F: Folder, S: Store, O: Sink>(
     requires stated { 1 ≤ stated }
     ensures answers { ReplayEnds cube.now script_name.now stated (seen F.state files.old files.new) (seen S.state store.old store.new) (seen O.state out.old out.new) result }
     ensures names { (store.new ≡ store.old) ⊎ AsksStore journal.now (seen S.state store.old store.new) result }
-    ensures others { OnlyJournal (S.state store.old) (S.state store.new) }
-    ensures unkept { result.status ≡ 9 → Rose (S.state store.old).faults (S.state store.new).faults × (result.outcomes ≡ []) }
-    ensures calls { result.status ≡ 9 → IsTrue (S.state store.old).told → (S.state store.new).calls ≤ (S.state store.old).calls + 12 }
-    ensures unreadable { result.status ≡ 5 → Rose (F.state files.old).faults (F.state files.new).faults }
-    ensures output { result.status ≡ 6 → Rose (O.state out.old).faults (O.state out.new).faults }
-    ensures steady { result.status ≢ 5 → IsSteady (seen F.state files.old files.new) }
-    ensures output_steady { result.status ≢ 6 → (O.state out.new).faults ≡ (O.state out.old).faults }
+    ensures others { OnlyFirst (most_groups cube.now.rules) (S.state store.old) (S.state store.new) }
+    ensures causes { HasCauses (of_command (seen F.state files.old files.new) (seen S.state store.old store.new) (seen O.state out.old out.new)) result }
+    ensures calls { result.status ≡ 9 → IsTrue (S.state store.old).told → (S.state store.new).calls ≤ (S.state store.old).calls + 1 + 11 * most_groups cube.now.rules }
     ensures memory { result.status ≡ 7 → (result.outcomes ≡ []) × (out.new ≡ out.old) }
     ensures complete { ReplayCompletes cube.now script_name.now (seen F.state files.old files.new) (seen S.state store.old store.new) (seen O.state out.old out.new) result }
-    ensures wire { result.status ≢ 8 }
-    ensures words { result.status ≢ 2 }
 {
-    let opened = match open_guarded(alloc, message, cube, files) {
+    let opened = match open_ruled(alloc, message, cube, files) {
         Ok(opened) => opened,
         Err(report) => return report,
     };
-    let guarded = opened.value;
+    let ruled = opened.value;
     let played = match open_script(alloc, opened.message, script_name, files) {
         Ok(played) => played,
         Err(report) => return report,
     };
-    let started = match open_engine(alloc, played.message, guarded, journal, stated, store) {
+    let started = match open_groups(alloc, played.message, ruled, journal, stated, store) {
         Ok(started) => started,
         Err(report) => return report,
     };
@@ -151,9 +149,9 @@ pub fn replay_cube<F: Folder, S: Store, O: Sink>(
             .close(alloc, statuses::NO_MEMORY);
     };
     let mut wire = played.value;
-    let mut engine = started.value;
-    let end = serve_engine(alloc, &mut engine, store, &mut wire, &mut pool);
+    let mut groups = started.value;
+    let end = serve_groups(alloc, &mut groups, store, &mut wire, &mut pool);
     let _taken = wire.taken();
     let written = wire.write_log(out);
-    report_play(started.message, end, written, &wire, engine.finish())
+    report_play(started.message, end, written, &wire, groups.finish())
 }

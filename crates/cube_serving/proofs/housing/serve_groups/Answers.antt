@@ -3,7 +3,7 @@ use Rattle.cube_engine.specs.Kept.{IsWithin}
 use Rattle.cube_serving.specs.NamedBooks.{dims_of}
 use Rattle.cube_serving.proofs.Shared.{desk_at, foreign, hold, serves, survive, wired, wired_calls}
 use Rattle.cube_serving.proofs.Phrases.{phrased}
-use Rattle.cube_serving.proofs.Wired.{ends, rose_for}
+use Rattle.cube_serving.proofs.Listening.{ends, rose_for}
 use Rattle.cube_serving.proofs.housing.serve_groups.Goals as goal
 
 pub serve-requires-clause-phrased : goal.serve-requires-clause-phrased

@@ -18,12 +18,11 @@ use Rattle.cube_query.specs.Faults.{request_of}
 use Rattle.cube_query.specs.Grammar.{queries, is_begun, syntax_at, query_of}
 use Rattle.cube_query.specs.Requests.{resolved}
 use Rattle.cube_text.specs.Quoting.{is_bare}
-use Rattle.cube_engine.specs.Examples.{own, pay_policy, pay_rooms, months}
+use Rattle.cube_engine.specs.Examples.{own, pay_rooms, months}
 use Rattle.cube_engine.specs.Steps.{manner}
-use Rattle.cube_engine.specs.Worlds.{first_history}
 use Rattle.cube_server.specs.Crashes.{IsInHand}
-use Rattle.cube_serving.specs.Examples.{areas, two_calls}
-use Rattle.cube_serving.specs.Serving.{IsInTurn}
+use Rattle.cube_serving.specs.Examples.{areas, pay_run, two_calls}
+use Rattle.cube_serving.specs.Serving.{IsInTurn, RoomHas}
 use Rattle.cube_serving.proofs.worked.worked_in_hand.Goals as goal
 
 abbrev by_month : Ask
@@ -55,8 +54,8 @@ in_hand here (inr (inl e)) = inr (e ∙ enters)
 in_hand here (inr (inr i)) = inr (behind_months here (subst (λ (rooms : List Room). IsInHand (manner pay_dims) rooms (record { ask = by_area; outcome = Given } ∷ []) here) enters i))
 
 -- so each history in hand is one of two
-one_of_two : (h : List Entry) → IsInTurn pay_core pay_policy [] two_calls h → (h ≡ []) ⊎ (h ≡ Asked months ∷ [])
-one_of_two h x = ⊎_elim (λ e. inl (x.2 ∙ ap first_history e)) (λ e. inr (x.2 ∙ ap first_history e)) (in_hand x.0 x.1)
+one_of_two : (h : List Entry) → IsInTurn pay_core (pay_run ∷ []) two_calls 0 h → (h ≡ []) ⊎ (h ≡ Asked months ∷ [])
+one_of_two h x = ⊎_elim (λ e. inl (subst (λ (rooms : List Room). RoomHas 0 rooms h) e x.2)) (λ e. inr (subst (λ (rooms : List Room). RoomHas 0 rooms h) e x.2)) (in_hand x.0 x.1)
 
 pub returns-clause-begins : goal.returns-clause-begins
 returns-clause-begins c = (pay_rooms [], inl refl, refl)
