@@ -5,7 +5,7 @@ pub mod Handed
 mod Handing
 pub mod Lives
 pub mod Ordered
-mod Statuses
 pub mod TwinFiles
 pub mod Said
 mod Unread
+mod Causes

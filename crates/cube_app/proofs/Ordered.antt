@@ -4,15 +4,15 @@ use Rattle.std.specs.Prelude.{IfOk, IfErr}
 use Rattle.std.specs.declared.result.Result.{Result}
 use Rattle.std.specs.declared.result.Result.TheVariants.{Ok, Err}
 use Rattle.cube_io.specs.Seen.{StoreState}
+use Rattle.cube_opening.specs.Causes.{HasCauses, IsStatus, IsStill, Rises}
 use Rattle.cube_opening.specs.Reports.{IsReport, NoMessage}
 use Rattle.cube_opening.specs.declared.report.Report.{Report}
 use Rattle.cube_serving.specs.Grouping.{OnlyFirst}
 use Rattle.cube_serving.specs.Starting.{OnlyJournal}
 use Rattle.cube_words.specs.declared.ordered.Orders.{Orders}
 use Rattle.cube_words.specs.declared.words.Usage.{Usage}
-use Rattle.cube_app.specs.Runs.{Outside, Obeyed, Untouched, CalmStatus, Runs}
+use Rattle.cube_app.specs.Runs.{Outside, Obeyed, Untouched, IsCalm, CalmStatus, Runs, counted}
 use Rattle.cube_app.specs.Texts.{usage_text}
-use Rattle.cube_app.proofs.Statuses.{calm_end}
 
 -- what was obeyed, by another name of the orders
 pub obeyed_as : {F S I O W : Type 0} {objects : Outside F S I O W} {r : Report} (o o' : Orders) → o ≡ o' → Obeyed o' objects r → Obeyed o objects r
@@ -33,6 +33,21 @@ each_err (Err e) P f = f e
 no_memory : {n : ℕ} → n ≡ 7 → CalmStatus n
 no_memory e = inr (inr (inr (inr (inl e))))
 
+-- where no count rose the status is one of the run's own
+calm_end : {F S I O W : Type 0} {objects : Outside F S I O W} {r : Report} → HasCauses (counted objects) r → IsCalm objects → CalmStatus r.status
+calm_end {F} {S} {I} {O} {W} {objects} {r} x calm = go x.status
+  where
+    unread : (Rises (counted objects).files × IsStill (counted objects).input) ⊎ (Rises (counted objects).input × IsStill (counted objects).files) → ⊥
+    unread (inl e) = calm.files e.0
+    unread (inr e) = calm.input e.0
+
+    go : IsStatus r.status → CalmStatus r.status
+    go (inl e) = inr e
+    go (inr (inl e)) = absurd (unread (x.unreadable e))
+    go (inr (inr (inl e))) = absurd (calm.out (x.output e))
+    go (inr (inr (inr (inl e)))) = absurd (calm.wire (x.unheard e))
+    go (inr (inr (inr (inr e)))) = absurd (calm.store (x.unkept e).0)
+
 -- nothing is done where there is no memory to begin
 pub not_begun : {F S I O W : Type 0} {objects : Outside F S I O W} {r : Report} (words : List (List ℕ)) (given : Result Orders Usage) → NoMessage r → Untouched objects → Runs words given objects r
 not_begun {F} {S} {I} {O} {W} {objects} {r} words given none same = record {
@@ -45,8 +60,8 @@ pub refused_as : {F S I O W : Type 0} {objects : Outside F S I O W} {r : Report}
 refused_as {F} {S} {I} {O} {W} {objects} {r} words given usage is told same = subst (λ (x : Result Orders Usage). Runs words x objects r) is (record { refused = (told, same); obeyed = tt; calm = λ calm. wrong told })
   where
     wrong : IsReport 2 (usage_text words usage) r ⊎ NoMessage r → CalmStatus r.status
-    wrong (inl e) = inr (inl e.0)
+    wrong (inl e) = inl e.0
     wrong (inr e) = no_memory e.0
 
 pub run_as : {F S I O W : Type 0} {objects : Outside F S I O W} {r : Report} (words : List (List ℕ)) (given : Result Orders Usage) (orders : Orders) → Ok orders ≡ given → Obeyed orders objects r → Runs words given objects r
-run_as {F} {S} {I} {O} {W} {objects} {r} words given orders is done = subst (λ (x : Result Orders Usage). Runs words x objects r) is (record { refused = tt; obeyed = inl done; calm = calm_end orders objects r done })
+run_as {F} {S} {I} {O} {W} {objects} {r} words given orders is done = subst (λ (x : Result Orders Usage). Runs words x objects r) is (record { refused = tt; obeyed = inl done; calm = calm_end {objects = objects} done.causes })

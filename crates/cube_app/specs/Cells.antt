@@ -1,11 +1,12 @@
 -- All that `witness`, `twin` and `compact` do.
-use Rattle.std.specs.Prelude.{◌≡◌, ◌⊎◌, ◌≤◌, ◌+◌, ⊤, ℕ, IsTrue, IsOk, List, ◌++◌, codes}
+use Rattle.std.specs.Prelude.{◌≡◌, ◌⊎◌, ◌≤◌, ◌+◌, ⊤, ℕ, nat_lt, IsTrue, IsOk, List, ◌++◌, length, codes, if◌then◌else◌}
 use Rattle.std.specs.declared.result.Result.{Result}
 use Rattle.std.specs.declared.result.Result.TheVariants.{Ok, Err}
 use Rattle.cube_model.specs.declared.entry.Entry.{Entry}
 use Rattle.cube_model.specs.declared.policy.Policy.{Policy}
 use Rattle.cube_model.specs.Cores.{Core, shown}
 use Rattle.cube_io.specs.Causes.{Rose}
+use Rattle.cube_io.specs.Files.{max_file}
 use Rattle.cube_io.specs.Seen.{FolderState, SinkState, StoreState, Seen, Unused}
 use Rattle.cube_engine.specs.Changes.{changes_for, text_of, twin_for}
 use Rattle.cube_engine.specs.Compacting.{compacted_text, KeepsAll}
@@ -19,11 +20,16 @@ use Rattle.cube_app.specs.Ends.{AsksJournal}
 use Rattle.cube_app.specs.declared.cells.Telling.{Telling}
 use Rattle.cube_app.specs.declared.cells.Telling.TheVariants.{Changes, Twin, Compacted}
 
+-- a fact file that is longer than one that is read may be is refused
+abbrev pub unless_too_long : Result (List ℕ) (ℕ × List ℕ) → Result (List ℕ) (ℕ × List ℕ)
+unless_too_long (Ok text) = if nat_lt max_file (length text) then Err (413, codes "twin limit file 67108864\n") else Ok text
+unless_too_long (Err why) = Err why
+
 -- the changes for a cell in words, the fact file that they make, or the journal of the compacted history; or the status and the line that
 -- say why there is none
 abbrev pub told_text : Telling → Core → Policy → List Entry → List ℕ → Result (List ℕ) (ℕ × List ℕ)
 told_text Changes core policy h cell = text_of core.dims (shown core policy) (changes_for core.dims (shown core policy) h cell)
-told_text Twin core policy h cell = twin_for core policy h cell
+told_text Twin core policy h cell = unless_too_long (twin_for core policy h cell)
 told_text Compacted core policy h cell = Ok (compacted_text core policy h)
 
 -- The text was put on the sink, or the cell is refused with the line and nothing is put. Memory may run out before.

@@ -22,7 +22,7 @@ pub record Drafted {O : Type 0} (drafting : Drafting) (files : FolderState) (out
   pub bytes : List ℕ
   pub draft : Draft
   pub file : IfSome files.files (λ known. file_of known drafting.facts ≡ Some bytes)
-  pub is_draft : IsDraft bytes draft.dims draft.policy
+  pub is_draft : IsDraft bytes drafting.choices draft.dims draft.policy
   pub printed : Prints (text_in drafting draft) out r
 
 -- nothing can be drafted, for a reason that is told, or memory ran out

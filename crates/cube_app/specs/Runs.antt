@@ -1,13 +1,15 @@
 -- What a run of the program does: all that is promised of the top call.
-use Rattle.std.specs.Prelude.{◌≡◌, ◌≢◌, ◌⊎◌, ℕ, List, [], Result, IfOk, IfErr}
+use Rattle.std.specs.Prelude.{◌≡◌, ◌⊎◌, ℕ, List, [], Result, IfOk, IfErr}
 use Rattle.cube_io.specs.Causes.{Rose}
 use Rattle.cube_io.specs.Seen.{FolderState, SourceState, SinkState, StoreState, WireState, Seen, Unused}
+use Rattle.cube_opening.specs.Causes.{Counts, of_files, of_store, of_input, of_out, of_wire, IsOwn, HasCauses}
 use Rattle.cube_opening.specs.Reports.{IsReport, NoMessage, Prints}
+use Rattle.cube_opening.specs.Ruling.{most_groups}
 use Rattle.cube_opening.specs.declared.report.Report.{Report}
 use Rattle.cube_serving.specs.Grouping.{OnlyFirst}
 use Rattle.cube_words.specs.Help.{help_said}
 use Rattle.cube_words.specs.declared.ordered.Orders.{Orders}
-use Rattle.cube_words.specs.declared.ordered.Orders.TheVariants.{Help, Version, Draft, Sum, Check, Ask, Witness, Twin, Compact, Carry, Why, Audit, Advise, Serve, ServeGroups, Replay, ReplayGroups, Demo}
+use Rattle.cube_words.specs.declared.ordered.Orders.TheVariants.{Help, Version, Draft, Sum, Check, Ask, Witness, Twin, Compact, Carry, Why, Audit, Advise, Serve, Replay, Demo}
 use Rattle.cube_words.specs.declared.words.Usage.{Usage}
 use Rattle.cube_app.specs.Advising.{AdviseRun}
 use Rattle.cube_app.specs.Auditing.{AuditRun}
@@ -17,7 +19,7 @@ use Rattle.cube_app.specs.declared.cells.Telling.TheVariants as telling
 use Rattle.cube_app.specs.Drafting.{DraftRun}
 use Rattle.cube_app.specs.Making.{DemoRun}
 use Rattle.cube_app.specs.Reasons.{ReasonRun}
-use Rattle.cube_app.specs.Serves.{ServeRun, ServeGroupsRun, ReplayRun, ReplayGroupsRun}
+use Rattle.cube_app.specs.Serves.{ServeRun, ReplayRun}
 use Rattle.cube_app.specs.Summary.{CheckRun}
 use Rattle.cube_app.specs.Talks.{SumRun, AskRun}
 use Rattle.cube_app.specs.Texts.{usage_text, version_text}
@@ -49,9 +51,7 @@ Does (Why cube journal query reason) objects r = ReasonRun cube journal query re
 Does (Audit cube transcript) objects r = AuditRun cube transcript objects.files objects.out r
 Does (Advise cube journal workload) objects r = AdviseRun cube journal workload objects.files objects.store objects.out r
 Does (Serve cube journal address stated idle) objects r = ServeRun cube journal address stated objects.files objects.store objects.wire r
-Does (ServeGroups cube journal address stated idle) objects r = ServeGroupsRun cube journal address stated objects.files objects.store objects.wire r
 Does (Replay cube journal script stated) objects r = ReplayRun cube journal script stated objects.files objects.store objects.out r
-Does (ReplayGroups cube journal script stated) objects r = ReplayGroupsRun cube journal script stated objects.files objects.store objects.out r
 Does (Demo making) objects r = DemoRun making objects.out r
 
 -- What it leaves as it was. Only `ask`, `serve` and `replay` report what became of asks.
@@ -70,36 +70,27 @@ Leaves (Why cube journal query reason) objects r = Unused objects.input × Unuse
 Leaves (Audit cube transcript) objects r = Unused objects.store × Unused objects.input × Unused objects.wire × (r.outcomes ≡ [])
 Leaves (Advise cube journal workload) objects r = Unused objects.input × Unused objects.wire × (r.outcomes ≡ [])
 Leaves (Serve cube journal address stated idle) objects r = Unused objects.input × Unused objects.out
-Leaves (ServeGroups cube journal address stated idle) objects r = Unused objects.input × Unused objects.out
 Leaves (Replay cube journal script stated) objects r = Unused objects.input × Unused objects.wire
-Leaves (ReplayGroups cube journal script stated) objects r = Unused objects.input × Unused objects.wire
 Leaves (Demo making) objects r = Unused objects.files × Unused objects.store × Unused objects.input × Unused objects.wire × (r.outcomes ≡ [])
 
 -- ---- what every command keeps to
 
--- A fault is answered only where it was counted in this run, and at most one count rises.
-pub record HasCauses {F S I O W : Type 0} (objects : Outside F S I O W) (r : Report) : Type 0 where
-  pub unreadable : r.status ≡ 5 → (Rose objects.files.before.faults objects.files.after.faults × (objects.input.after.faults ≡ objects.input.before.faults))
-      ⊎ (Rose objects.input.before.faults objects.input.after.faults × (objects.files.after.faults ≡ objects.files.before.faults))
-  pub output : r.status ≡ 6 → Rose objects.out.before.faults objects.out.after.faults
-  pub unheard : r.status ≡ 8 → Rose objects.wire.before.faults objects.wire.after.faults
-  pub unkept : r.status ≡ 9 → Rose objects.store.before.faults objects.store.after.faults × (r.outcomes ≡ [])
-  pub steady : r.status ≢ 5 → (objects.files.after.faults ≡ objects.files.before.faults) × (objects.input.after.faults ≡ objects.input.before.faults)
-  pub output_steady : r.status ≢ 6 → objects.out.after.faults ≡ objects.out.before.faults
-  pub wire_steady : r.status ≢ 8 → objects.wire.after.faults ≡ objects.wire.before.faults
+-- what the objects counted
+abbrev pub counted : {F S I O W : Type 0} → Outside F S I O W → Counts
+counted objects = record { files = of_files objects.files; store = of_store objects.store; input = of_input objects.input; out = of_out objects.out; wire = of_wire objects.wire }
 
 -- how many journals a run may have
 abbrev pub journals_of : Orders → ℕ
-journals_of (ServeGroups cube journal address stated idle) = 16
-journals_of (ReplayGroups cube journal script stated) = 16
+journals_of (Serve cube journal address stated idle) = most_groups cube.rules
+journals_of (Replay cube journal script stated) = most_groups cube.rules
 journals_of other = 1
 
--- These orders were obeyed. Status 2 is for wrong words alone, and no log of the store changed but those of its journals and their seal.
+-- These orders were obeyed. Status 2 is for wrong words alone, a fault of an object outside is reported only where it was counted, and no
+-- log of the store changed but those of its journals and their seals.
 pub record Obeyed {F S I O W : Type 0} (orders : Orders) (objects : Outside F S I O W) (r : Report) : Type 0 where
   pub does : Does orders objects r
   pub leaves : Leaves orders objects r
-  pub causes : HasCauses objects r
-  pub ordered : r.status ≢ 2
+  pub causes : HasCauses (counted objects) r
   pub others : OnlyFirst (journals_of orders) objects.store.before objects.store.after
 
 -- ---- where nothing outside failed
@@ -112,10 +103,9 @@ pub record IsCalm {F S I O W : Type 0} (objects : Outside F S I O W) : Type 0 wh
   pub out : ¬ Rose objects.out.before.faults objects.out.after.faults
   pub wire : ¬ Rose objects.wire.before.faults objects.wire.after.faults
 
--- the statuses of a run where none rose: all was done, the words are wrong, a file or a cell is refused, or the journal, memory ran out, or
--- as much was taken as is taken at most
+-- the statuses of a run where none rose: one of its own, or that of wrong words
 abbrev pub CalmStatus : ℕ → Type 0
-CalmStatus n = (n ≡ 0) ⊎ (n ≡ 2) ⊎ (n ≡ 3) ⊎ (n ≡ 4) ⊎ (n ≡ 7) ⊎ (n ≡ 10)
+CalmStatus n = (n ≡ 2) ⊎ IsOwn n
 
 -- ---- the whole
 

@@ -6,6 +6,7 @@ ghost use Rattle.cube_io.specs.Causes.{Rose};
 ghost use Rattle.cube_io.specs.Files.{max_file};
 ghost use Rattle.cube_io.specs.Seen.{seen};
 ghost use Rattle.cube_model.specs.Policies.{IsPolicy};
+ghost use Rattle.cube_opening.specs.Causes.{HasCauses, of_command, of_listing, only_out};
 ghost use Rattle.cube_opening.specs.Opening.{FileSays, AskedFor, EndsAt, GotBehind, HasAll, IsSteady, Make, Reads};
 ghost use Rattle.cube_opening.specs.Reports.{IsReport};
 ghost use Rattle.cube_serving.specs.Starting.{AsksStore, OnlyJournal};
@@ -130,8 +131,7 @@ fn put_advice<O: Sink>(
 ) -> Report
     requires { message ≡ [] }
     ensures puts { (said : List ℕ) → IfOk text (λ text. text ≡ said) → Puts said (seen O.state out.old out.new) result }
-    ensures output { result.status ≡ 6 → Rose (O.state out.old).faults (O.state out.new).faults }
-    ensures output_steady { result.status ≢ 6 → (O.state out.new).faults ≡ (O.state out.old).faults }
+    ensures causes { HasCauses (only_out (seen O.state out.old out.new)) result }
     ensures status { (result.status ≡ 0) ⊎ (result.status ≡ 6) ⊎ (result.status ≡ 7) }
     ensures outcomes { result.outcomes ≡ [] }
 {
@@ -154,14 +154,8 @@ fn advise_first<F: Folder, O: Sink>(
 ) -> Report
     requires { message ≡ [] }
     ensures answers { FirstEnds cube.now workload.now (seen F.state files.old files.new) (seen O.state out.old out.new) result }
-    ensures unreadable { result.status ≡ 5 → Rose (F.state files.old).faults (F.state files.new).faults }
-    ensures output { result.status ≡ 6 → Rose (O.state out.old).faults (O.state out.new).faults }
-    ensures steady { result.status ≢ 5 → IsSteady (seen F.state files.old files.new) }
-    ensures output_steady { result.status ≢ 6 → (O.state out.new).faults ≡ (O.state out.old).faults }
+    ensures causes { HasCauses (of_listing (seen F.state files.old files.new) (seen O.state out.old out.new)) result }
     ensures complete { HasAll cube.now (F.state files.old) → HasWorkload workload.now (F.state files.old) → ¬ Rose (F.state files.old).faults (F.state files.new).faults → ¬ Rose (O.state out.old).faults (O.state out.new).faults → (result.status ≡ 0) ⊎ (result.status ≡ 7) }
-    ensures words { result.status ≢ 2 }
-    ensures wire { result.status ≢ 8 }
-    ensures store { result.status ≢ 9 }
     ensures outcomes { result.outcomes ≡ [] }
 {
     let opened = match open_advisable(alloc, message, cube, workload, files) {
@@ -191,16 +185,10 @@ fn advise_later<F: Folder, S: Store, O: Sink>(
     requires { message ≡ [] }
     ensures answers { LaterEnds cube.now workload.now (seen F.state files.old files.new) (seen S.state store.old store.new) (seen O.state out.old out.new) result }
     ensures names { (store.new ≡ store.old) ⊎ AsksStore journal.now (seen S.state store.old store.new) result }
-    ensures unkept { result.status ≡ 9 → Rose (S.state store.old).faults (S.state store.new).faults }
+    ensures causes { HasCauses (of_command (seen F.state files.old files.new) (seen S.state store.old store.new) (seen O.state out.old out.new)) result }
     ensures calls { IsTrue (S.state store.old).told → (S.state store.new).calls ≤ (S.state store.old).calls + 12 }
     ensures others { OnlyJournal (S.state store.old) (S.state store.new) }
-    ensures unreadable { result.status ≡ 5 → Rose (F.state files.old).faults (F.state files.new).faults }
-    ensures output { result.status ≡ 6 → Rose (O.state out.old).faults (O.state out.new).faults }
-    ensures steady { result.status ≢ 5 → IsSteady (seen F.state files.old files.new) }
-    ensures output_steady { result.status ≢ 6 → (O.state out.new).faults ≡ (O.state out.old).faults }
     ensures complete { AdviseCompletes cube.now (Some journal.now) workload.now (seen F.state files.old files.new) (seen S.state store.old store.new) (seen O.state out.old out.new) result }
-    ensures words { result.status ≢ 2 }
-    ensures wire { result.status ≢ 8 }
     ensures outcomes { result.outcomes ≡ [] }
 {
     let opened = match open_advisable(alloc, message, cube, workload, files) {
@@ -235,16 +223,10 @@ pub fn advise<F: Folder, S: Store, O: Sink>(
     requires { message ≡ [] }
     ensures answers { AdviseEnds cube.now journal.now workload.now (seen F.state files.old files.new) (seen S.state store.old store.new) (seen O.state out.old out.new) result }
     ensures names { AsksIfNamed journal.now (seen S.state store.old store.new) result }
-    ensures unkept { result.status ≡ 9 → Rose (S.state store.old).faults (S.state store.new).faults }
+    ensures causes { HasCauses (of_command (seen F.state files.old files.new) (seen S.state store.old store.new) (seen O.state out.old out.new)) result }
     ensures calls { IsTrue (S.state store.old).told → (S.state store.new).calls ≤ (S.state store.old).calls + 12 }
     ensures others { OnlyJournal (S.state store.old) (S.state store.new) }
-    ensures unreadable { result.status ≡ 5 → Rose (F.state files.old).faults (F.state files.new).faults }
-    ensures output { result.status ≡ 6 → Rose (O.state out.old).faults (O.state out.new).faults }
-    ensures steady { result.status ≢ 5 → IsSteady (seen F.state files.old files.new) }
-    ensures output_steady { result.status ≢ 6 → (O.state out.new).faults ≡ (O.state out.old).faults }
     ensures complete { AdviseCompletes cube.now journal.now workload.now (seen F.state files.old files.new) (seen S.state store.old store.new) (seen O.state out.old out.new) result }
-    ensures words { result.status ≢ 2 }
-    ensures wire { result.status ≢ 8 }
     ensures outcomes { result.outcomes ≡ [] }
 {
     match journal {

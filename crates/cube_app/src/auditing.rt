@@ -1,6 +1,5 @@
 // `audit`: a transcript of some server's queries and replies is checked against the cube of the files.
 ghost use Rattle.std.specs.Prelude.{◌≡◌, ◌≢◌, ◌⊎◌, ◌≤◌, ◌<◌, ◌∷◌, [], length, codes, IfOk, IfErr, OnOk, IfSome, Ok};
-ghost use Rattle.cube_io.specs.Causes.{Rose};
 ghost use Rattle.cube_io.specs.Seen.{seen};
 ghost use Rattle.cube_model.specs.Policies.{IsPolicy};
 ghost use Rattle.cube_audit.specs.Audits.{audited};
@@ -8,7 +7,8 @@ ghost use Rattle.cube_audit.specs.AuditText as said;
 ghost use Rattle.cube_audit.specs.Sound.{SaysSound};
 ghost use Rattle.cube_audit.specs.Words.{fault_words};
 ghost use Rattle.cube_audit.specs.declared.transcript.TranscriptFault.TheVariants as faults;
-ghost use Rattle.cube_opening.specs.Opening.{fault_text as refusal, FileSays, AskedFor, EndsAt, Reads, IsSteady};
+ghost use Rattle.cube_opening.specs.Causes.{HasCauses, of_listing};
+ghost use Rattle.cube_opening.specs.Opening.{fault_text as refusal, FileSays, AskedFor, EndsAt, Reads};
 ghost use Rattle.cube_opening.specs.Reports.{IsReport, NoMessage};
 ghost use Rattle.cube_app.specs.Auditing.{transcript_said, AuditEnds, AuditCompletes};
 
@@ -114,14 +114,8 @@ pub fn audit<F: Folder, O: Sink>(
 ) -> Report
     requires { message ≡ [] }
     ensures answers { AuditEnds cube.now transcript.now (seen F.state files.old files.new) (seen O.state out.old out.new) result }
-    ensures unreadable { result.status ≡ 5 → Rose (F.state files.old).faults (F.state files.new).faults }
-    ensures output { result.status ≡ 6 → Rose (O.state out.old).faults (O.state out.new).faults }
-    ensures steady { result.status ≢ 5 → IsSteady (seen F.state files.old files.new) }
-    ensures output_steady { result.status ≢ 6 → (O.state out.new).faults ≡ (O.state out.old).faults }
+    ensures causes { HasCauses (of_listing (seen F.state files.old files.new) (seen O.state out.old out.new)) result }
     ensures complete { AuditCompletes cube.now transcript.now (seen F.state files.old files.new) (seen O.state out.old out.new) result }
-    ensures words { result.status ≢ 2 }
-    ensures wire { result.status ≢ 8 }
-    ensures store { result.status ≢ 9 }
     ensures outcomes { result.outcomes ≡ [] }
 {
     let opened = match open_guarded(alloc, message, cube, files) {

@@ -2,7 +2,6 @@
 ghost use Rattle.std.specs.Prelude.{◌≡◌, ◌≢◌, ◌⊎◌, ◌≤◌, ◌+◌, [], IsTrue, IfOk, IfErr};
 ghost use Rattle.cube_model.specs.Entries.{requests};
 ghost use Rattle.cube_model.specs.Policies.{IsPolicy};
-ghost use Rattle.cube_io.specs.Causes.{Rose};
 ghost use Rattle.cube_io.specs.Seen.{seen};
 ghost use Rattle.cube_carry.specs.Carrying.{IsCarried};
 ghost use Rattle.cube_carry.specs.Continues.{Continues, KeepsValues};
@@ -14,7 +13,7 @@ ghost use Rattle.cube_carrying.specs.declared.breach.Compared.TheVariants as com
 ghost use Rattle.cube_carrying.specs.declared.histories.Carried.TheVariants as carried;
 ghost use Rattle.cube_engine.specs.Kept.{digest_for};
 ghost use Rattle.cube_journal.specs.SecondText.{journal2_text as second_text};
-ghost use Rattle.cube_opening.specs.Opening.{IsSteady};
+ghost use Rattle.cube_opening.specs.Causes.{HasCauses, of_command, only_out};
 ghost use Rattle.cube_app.specs.declared.carrying.Uncarried.TheVariants as why;
 ghost use Rattle.cube_app.specs.Carrying.{Handing, Carries, IsUncarried, IsHanded, HandsSo, CarryEnds, CarryCompletes, carried_entries, handing_of};
 ghost use Rattle.cube_serving.specs.Starting.{AsksStore, OnlyJournal};
@@ -158,8 +157,7 @@ fn put_carried<O: Sink>(
     requires { message ≡ [] }
     ensures hands { HandsSo said (seen O.state out.old out.new) result }
     ensures accepted { (x : Handing) → IfErr said (IsUncarried x) → IsHanded x → result.status ≢ 3 }
-    ensures output { result.status ≡ 6 → Rose (O.state out.old).faults (O.state out.new).faults }
-    ensures output_steady { result.status ≢ 6 → (O.state out.new).faults ≡ (O.state out.old).faults }
+    ensures causes { HasCauses (only_out (seen O.state out.old out.new)) result }
     ensures status { (result.status ≡ 0) ⊎ (result.status ≡ 3) ⊎ (result.status ≡ 6) ⊎ (result.status ≡ 7) }
     ensures outcomes { result.outcomes ≡ [] }
 {
@@ -186,16 +184,10 @@ pub fn carry_over<F: Folder, S: Store, O: Sink>(
     requires { message ≡ [] }
     ensures answers { CarryEnds cube.now older.now (seen F.state files.old files.new) (seen S.state store.old store.new) (seen O.state out.old out.new) result }
     ensures names { (store.new ≡ store.old) ⊎ AsksStore journal.now (seen S.state store.old store.new) result }
-    ensures unkept { result.status ≡ 9 → Rose (S.state store.old).faults (S.state store.new).faults }
+    ensures causes { HasCauses (of_command (seen F.state files.old files.new) (seen S.state store.old store.new) (seen O.state out.old out.new)) result }
     ensures calls { IsTrue (S.state store.old).told → (S.state store.new).calls ≤ (S.state store.old).calls + 12 }
     ensures others { OnlyJournal (S.state store.old) (S.state store.new) }
-    ensures unreadable { result.status ≡ 5 → Rose (F.state files.old).faults (F.state files.new).faults }
-    ensures output { result.status ≡ 6 → Rose (O.state out.old).faults (O.state out.new).faults }
-    ensures steady { result.status ≢ 5 → IsSteady (seen F.state files.old files.new) }
-    ensures output_steady { result.status ≢ 6 → (O.state out.new).faults ≡ (O.state out.old).faults }
     ensures complete { CarryCompletes cube.now older.now (seen F.state files.old files.new) (seen S.state store.old store.new) (seen O.state out.old out.new) result }
-    ensures words { result.status ≢ 2 }
-    ensures wire { result.status ≢ 8 }
     ensures outcomes { result.outcomes ≡ [] }
 {
     let opened = match open_guarded(alloc, message, cube, files) {

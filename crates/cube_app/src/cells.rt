@@ -1,16 +1,15 @@
 // What is told of an open cube: the changes that hide a cell or the fact file that they make, or the history written down as what it
 // holds.
-ghost use Rattle.std.specs.Prelude.{◌≡◌, ◌≢◌, ◌⊎◌, ◌≤◌, ◌+◌, ◌++◌, ℕ, List, Result, [], IsTrue, IfOk, IfErr, IsOk, Ok, codes};
-ghost use Rattle.cube_io.specs.Causes.{Rose};
+ghost use Rattle.std.specs.Prelude.{◌≡◌, ◌≢◌, ◌⊎◌, ◌≤◌, ◌+◌, ◌++◌, ℕ, List, Result, [], IsTrue, IfOk, IfErr, IsOk, Ok, Err, codes};
 ghost use Rattle.cube_io.specs.Seen.{seen};
 ghost use Rattle.cube_engine.specs.Changes.{Refuses};
-ghost use Rattle.cube_opening.specs.Opening.{IsSteady};
-ghost use Rattle.cube_app.specs.Cells.{Tells, TellEnds, TellCompletes, told_text};
+ghost use Rattle.cube_opening.specs.Causes.{HasCauses, of_command, only_out};
+ghost use Rattle.cube_app.specs.Cells.{Tells, TellEnds, TellCompletes, told_text, unless_too_long as unless_long};
 ghost use Rattle.cube_serving.specs.Starting.{AsksStore, OnlyJournal};
 
 use crate::run::print;
 use cube_engine::{Engine, NoChanges};
-use cube_io::{Folder, Sink, Store};
+use cube_io::{Folder, MAX_FILE, Sink, Store};
 use cube_model::Text;
 use cube_opening::{CubeFiles, Message, Report, open_guarded, refuse_line, statuses};
 use cube_serving::open_engine;
@@ -37,8 +36,7 @@ fn put_told<O: Sink>(
     requires { message ≡ [] }
     ensures tells { (said : Result (List ℕ) (ℕ × List ℕ)) → IfOk told (λ text. said ≡ Ok text) → IfErr told (λ why. Refuses why said) → Tells said (seen O.state out.old out.new) result }
     ensures accepted { (said : Result (List ℕ) (ℕ × List ℕ)) → IfErr told (λ why. Refuses why said) → IsOk said → result.status ≢ 3 }
-    ensures output { result.status ≡ 6 → Rose (O.state out.old).faults (O.state out.new).faults }
-    ensures output_steady { result.status ≢ 6 → (O.state out.new).faults ≡ (O.state out.old).faults }
+    ensures causes { HasCauses (only_out (seen O.state out.old out.new)) result }
     ensures status { (result.status ≡ 0) ⊎ (result.status ≡ 3) ⊎ (result.status ≡ 6) ⊎ (result.status ≡ 7) }
     ensures outcomes { result.outcomes ≡ [] }
 {
@@ -51,6 +49,28 @@ fn put_told<O: Sink>(
     }
 }
 
+// A twin whose fact file no command reads.
+fn too_long(alloc: Global) -> NoChanges
+    ensures { (said : Result (List ℕ) (ℕ × List ℕ)) → said ≡ Err (413, codes "twin limit file 67108864\n") → Refuses result said }
+{
+    match Text::from_bytes(alloc, b"twin limit file 67108864\n") {
+        Ok(line) => NoChanges::Said { status: 413, line },
+        Err(_) => NoChanges::NoMemory,
+    }
+}
+
+// The fact file of a twin, unless it is longer than one that is read may be.
+fn unless_too_long(alloc: Global, twin: Result<Text, NoChanges>) -> Result<Text, NoChanges>
+    ensures ok { IfOk result (λ text. (said : Result (List ℕ) (ℕ × List ℕ)) → IfOk twin (λ twin. said ≡ Ok twin) → unless_long said ≡ Ok text) }
+    ensures err { IfErr result (λ why. (said : Result (List ℕ) (ℕ × List ℕ)) → IfOk twin (λ twin. said ≡ Ok twin) → IfErr twin (λ why. Refuses why said) → Refuses why (unless_long said)) }
+{
+    match twin {
+        Ok(text) if text.len() > MAX_FILE => Err(too_long(alloc)),
+        Ok(text) => Ok(text),
+        Err(why) => Err(why),
+    }
+}
+
 // What an engine tells at its end.
 fn told_of(alloc: Global, engine: Engine, telling: Telling, cell: &Text) -> Result<Text, NoChanges>
     ensures ok { IfOk result (λ text. told_text telling engine.core engine.policy engine.history cell.now ≡ Ok text) }
@@ -58,7 +78,7 @@ fn told_of(alloc: Global, engine: Engine, telling: Telling, cell: &Text) -> Resu
 {
     match telling {
         Telling::Changes => engine.changes_text(alloc, cell.as_slice()),
-        Telling::Twin => engine.twin_text(alloc, cell.as_slice()),
+        Telling::Twin => unless_too_long(alloc, engine.twin_text(alloc, cell.as_slice())),
         Telling::Compacted => match engine.compacted_text(alloc) {
             Ok(text) => Ok(text),
             Err(_) => Err(NoChanges::NoMemory),
@@ -81,16 +101,10 @@ pub fn tell<F: Folder, S: Store, O: Sink>(
     requires { message ≡ [] }
     ensures answers { TellEnds telling cube.now cell.now (seen F.state files.old files.new) (seen S.state store.old store.new) (seen O.state out.old out.new) result }
     ensures names { (store.new ≡ store.old) ⊎ AsksStore journal.now (seen S.state store.old store.new) result }
-    ensures unkept { result.status ≡ 9 → Rose (S.state store.old).faults (S.state store.new).faults }
+    ensures causes { HasCauses (of_command (seen F.state files.old files.new) (seen S.state store.old store.new) (seen O.state out.old out.new)) result }
     ensures calls { IsTrue (S.state store.old).told → (S.state store.new).calls ≤ (S.state store.old).calls + 12 }
     ensures others { OnlyJournal (S.state store.old) (S.state store.new) }
-    ensures unreadable { result.status ≡ 5 → Rose (F.state files.old).faults (F.state files.new).faults }
-    ensures output { result.status ≡ 6 → Rose (O.state out.old).faults (O.state out.new).faults }
-    ensures steady { result.status ≢ 5 → IsSteady (seen F.state files.old files.new) }
-    ensures output_steady { result.status ≢ 6 → (O.state out.new).faults ≡ (O.state out.old).faults }
     ensures complete { TellCompletes telling cube.now cell.now (seen F.state files.old files.new) (seen S.state store.old store.new) (seen O.state out.old out.new) result }
-    ensures words { result.status ≢ 2 }
-    ensures wire { result.status ≢ 8 }
     ensures outcomes { result.outcomes ≡ [] }
 {
     let opened = match open_guarded(alloc, message, cube, files) {

@@ -1,8 +1,7 @@
 // `draft`: the dimension file or the policy file for a fact file.
 ghost use Rattle.std.specs.Prelude.{◌≡◌, ◌≢◌, []};
-ghost use Rattle.cube_io.specs.Causes.{Rose};
 ghost use Rattle.cube_io.specs.Seen.{seen};
-ghost use Rattle.cube_opening.specs.Opening.{IsSteady};
+ghost use Rattle.cube_opening.specs.Causes.{HasCauses, of_listing};
 ghost use Rattle.cube_app.specs.Drafting.{DraftRun, Undrafted, text_in};
 
 use crate::run::print;
@@ -50,13 +49,7 @@ pub fn draft<F: Folder, O: Sink>(
 ) -> Report
     requires { message ≡ [] }
     ensures answers { DraftRun drafting.now (seen F.state files.old files.new) (seen O.state out.old out.new) result }
-    ensures unreadable { result.status ≡ 5 → Rose (F.state files.old).faults (F.state files.new).faults }
-    ensures output { result.status ≡ 6 → Rose (O.state out.old).faults (O.state out.new).faults }
-    ensures steady { result.status ≢ 5 → IsSteady (seen F.state files.old files.new) }
-    ensures output_steady { result.status ≢ 6 → (O.state out.new).faults ≡ (O.state out.old).faults }
-    ensures words { result.status ≢ 2 }
-    ensures wire { result.status ≢ 8 }
-    ensures store { result.status ≢ 9 }
+    ensures causes { HasCauses (of_listing (seen F.state files.old files.new) (seen O.state out.old out.new)) result }
     ensures outcomes { result.outcomes ≡ [] }
 {
     let opened = match read_bytes(alloc, message, b"facts", &drafting.facts, files) {

@@ -1,8 +1,8 @@
 // `demo`: what a made cube answers.
 ghost use Rattle.std.specs.Prelude.{◌≡◌, ◌≢◌, []};
-ghost use Rattle.cube_io.specs.Causes.{Rose};
 ghost use Rattle.cube_io.specs.Seen.{seen};
 ghost use Rattle.cube_words.specs.Words.{IsMade};
+ghost use Rattle.cube_opening.specs.Causes.{HasCauses, only_out};
 ghost use Rattle.cube_app.specs.Making.{DemoRun};
 
 use cube_demo::{DemoFault, demo};
@@ -16,12 +16,7 @@ pub fn show<O: Sink>(alloc: Global, message: Message, making: Making, out: &mut 
     requires message { message ≡ [] }
     requires fits { IsMade making }
     ensures run { DemoRun making (seen O.state out.old out.new) result }
-    ensures output { result.status ≡ 6 → Rose (O.state out.old).faults (O.state out.new).faults }
-    ensures output_steady { result.status ≢ 6 → (O.state out.new).faults ≡ (O.state out.old).faults }
-    ensures files { result.status ≢ 5 }
-    ensures wire { result.status ≢ 8 }
-    ensures store { result.status ≢ 9 }
-    ensures words { result.status ≢ 2 }
+    ensures causes { HasCauses (only_out (seen O.state out.old out.new)) result }
     ensures outcomes { result.outcomes ≡ [] }
 {
     match demo(alloc, making.number, making.size, out) {

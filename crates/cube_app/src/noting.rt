@@ -6,7 +6,7 @@ use cube_io::Folder;
 use cube_journal::Digest;
 use cube_model::{Dims, Text};
 use cube_notes::{note_on_facts, note_on_flat, note_on_policy, note_on_table};
-use cube_opening::{CubeFiles, Report};
+use cube_opening::{CubeFiles, Report, Rules};
 use cube_policy::read_policy;
 use cube_seal::digest_of_values;
 use cube_words::Orders;
@@ -32,10 +32,41 @@ fn table_note<F: Folder>(alloc: Global, name: &Text, files: &mut F) -> Option<Te
     note_on_table(alloc, name, bytes.as_slice()).ok()
 }
 
-fn facts_note<F: Folder>(alloc: Global, cube: &CubeFiles, files: &mut F) -> Option<Text> {
-    let dims = dims_in(alloc, &cube.dims, files)?;
-    let bytes = files.read_file(alloc, &cube.facts).ok()?;
-    note_on_facts(alloc, &cube.facts, &dims, bytes.as_slice()).ok()
+// The files of a cube, with its policy file where all users have one.
+#[derive(Clone, Copy)]
+struct CubeNames<'a> {
+    dims: &'a Text,
+    facts: &'a Text,
+    policy: Option<&'a Text>,
+}
+
+fn names_of(cube: &CubeFiles) -> CubeNames<'_> {
+    CubeNames {
+        dims: &cube.dims,
+        facts: &cube.facts,
+        policy: Some(&cube.policy),
+    }
+}
+
+// The files of the cube that these orders are for.
+fn names_in(orders: &Orders) -> Option<CubeNames<'_>> {
+    match orders {
+        Orders::Serve { files, .. } | Orders::Replay { files, .. } => Some(CubeNames {
+            dims: &files.dims,
+            facts: &files.facts,
+            policy: match &files.rules {
+                Rules::One(policy) => Some(policy),
+                Rules::Groups(_) => None,
+            },
+        }),
+        _ => Some(names_of(orders.cube()?)),
+    }
+}
+
+fn facts_note<F: Folder>(alloc: Global, cube: CubeNames, files: &mut F) -> Option<Text> {
+    let dims = dims_in(alloc, cube.dims, files)?;
+    let bytes = files.read_file(alloc, cube.facts).ok()?;
+    note_on_facts(alloc, cube.facts, &dims, bytes.as_slice()).ok()
 }
 
 fn flat_note<F: Folder>(alloc: Global, name: &Text, files: &mut F) -> Option<Text> {
@@ -53,14 +84,14 @@ fn policy_note<F: Folder>(alloc: Global, cube: &CubeFiles, files: &mut F) -> Opt
 // Of a file of a cube that the report refuses.
 fn refused_note<F: Folder>(
     alloc: Global,
-    cube: &CubeFiles,
+    cube: CubeNames,
     text: &[u8],
     files: &mut F,
 ) -> Option<Text> {
     if text.starts_with(b"dims: not toml") {
-        table_note(alloc, &cube.dims, files)
+        table_note(alloc, cube.dims, files)
     } else if text.starts_with(b"policy: not toml") {
-        table_note(alloc, &cube.policy, files)
+        table_note(alloc, cube.policy?, files)
     } else if text.starts_with(b"facts: ") {
         facts_note(alloc, cube, files)
     } else {
@@ -76,9 +107,9 @@ fn either_note<F: Folder>(
     text: &[u8],
     files: &mut F,
 ) -> Option<Text> {
-    match refused_note(alloc, cube, text, files) {
+    match refused_note(alloc, names_of(cube), text, files) {
         Some(note) if !note.is_empty() => Some(note),
-        _ => refused_note(alloc, older, text, files),
+        _ => refused_note(alloc, names_of(older), text, files),
     }
 }
 
@@ -101,7 +132,7 @@ pub fn note<F: Folder>(
             },
             3,
         ) => either_note(alloc, cube, older, text, files),
-        (_, 3) => refused_note(alloc, orders.cube()?, text, files),
+        (_, 3) => refused_note(alloc, names_in(orders)?, text, files),
         _ => None,
     }
 }

@@ -3,12 +3,12 @@ ghost use Rattle.std.specs.Prelude.{◌≡◌, ◌≢◌, ◌⊎◌, ◌≤◌, 
 ghost use Rattle.cube_model.specs.Cores as cores;
 ghost use Rattle.cube_model.specs.Cores.{shown};
 ghost use Rattle.cube_model.specs.Verdicts.{verdict as verdict_of};
-ghost use Rattle.cube_io.specs.Causes.{Rose};
 ghost use Rattle.cube_io.specs.Seen.{seen};
 ghost use Rattle.cube_query.specs.Canonical.{is_request};
 ghost use Rattle.cube_query.specs.Faults.{request_of};
 ghost use Rattle.cube_reason.specs.Showing.{IsWhy, Shows};
-ghost use Rattle.cube_opening.specs.Opening.{AskedFor, EndsAt, FileSays, IsSteady, Reads};
+ghost use Rattle.cube_opening.specs.Causes.{HasCauses, of_command, only_out};
+ghost use Rattle.cube_opening.specs.Opening.{AskedFor, EndsAt, FileSays, Reads};
 ghost use Rattle.cube_app.specs.Reasons.{Accepts, IsWhyOf, IsWhetherOf, IsUnread, IsUnsaid, SaysSo, WhyEnds, WhyCompletes, WhetherEnds, WhetherCompletes, ReasonRun, accepted_text, reason_said};
 ghost use Rattle.cube_serving.specs.Starting.{AsksStore, OnlyJournal};
 
@@ -159,8 +159,7 @@ fn put_said<O: Sink>(
     requires { message ≡ [] }
     ensures says { SaysSo said (seen O.state out.old out.new) result }
     ensures accepted { (core : cores.Core) (query : List ℕ) → IfErr said (IsUnsaid core query) → IsOk (request_of core.dims query) → result.status ≢ 3 }
-    ensures output { result.status ≡ 6 → Rose (O.state out.old).faults (O.state out.new).faults }
-    ensures output_steady { result.status ≢ 6 → (O.state out.new).faults ≡ (O.state out.old).faults }
+    ensures causes { HasCauses (only_out (seen O.state out.old out.new)) result }
     ensures status { (result.status ≡ 0) ⊎ (result.status ≡ 3) ⊎ (result.status ≡ 6) ⊎ (result.status ≡ 7) }
     ensures outcomes { result.outcomes ≡ [] }
 {
@@ -188,16 +187,10 @@ fn why<F: Folder, S: Store, O: Sink>(
     requires { message ≡ [] }
     ensures answers { WhyEnds cube.now query.now (seen F.state files.old files.new) (seen S.state store.old store.new) (seen O.state out.old out.new) result }
     ensures names { (store.new ≡ store.old) ⊎ AsksStore journal.now (seen S.state store.old store.new) result }
-    ensures unkept { result.status ≡ 9 → Rose (S.state store.old).faults (S.state store.new).faults }
+    ensures causes { HasCauses (of_command (seen F.state files.old files.new) (seen S.state store.old store.new) (seen O.state out.old out.new)) result }
     ensures calls { IsTrue (S.state store.old).told → (S.state store.new).calls ≤ (S.state store.old).calls + 12 }
     ensures others { OnlyJournal (S.state store.old) (S.state store.new) }
-    ensures unreadable { result.status ≡ 5 → Rose (F.state files.old).faults (F.state files.new).faults }
-    ensures output { result.status ≡ 6 → Rose (O.state out.old).faults (O.state out.new).faults }
-    ensures steady { result.status ≢ 5 → IsSteady (seen F.state files.old files.new) }
-    ensures output_steady { result.status ≢ 6 → (O.state out.new).faults ≡ (O.state out.old).faults }
     ensures complete { WhyCompletes cube.now query.now (seen F.state files.old files.new) (seen S.state store.old store.new) (seen O.state out.old out.new) result }
-    ensures words { result.status ≢ 2 }
-    ensures wire { result.status ≢ 8 }
     ensures outcomes { result.outcomes ≡ [] }
 {
     let opened = match open_guarded(alloc, message, cube, files) {
@@ -246,16 +239,10 @@ fn check_reason<F: Folder, S: Store, O: Sink>(
     requires { message ≡ [] }
     ensures answers { WhetherEnds cube.now query.now reason.now (seen F.state files.old files.new) (seen S.state store.old store.new) (seen O.state out.old out.new) result }
     ensures names { (store.new ≡ store.old) ⊎ AsksStore journal.now (seen S.state store.old store.new) result }
-    ensures unkept { result.status ≡ 9 → Rose (S.state store.old).faults (S.state store.new).faults }
+    ensures causes { HasCauses (of_command (seen F.state files.old files.new) (seen S.state store.old store.new) (seen O.state out.old out.new)) result }
     ensures calls { IsTrue (S.state store.old).told → (S.state store.new).calls ≤ (S.state store.old).calls + 12 }
     ensures others { OnlyJournal (S.state store.old) (S.state store.new) }
-    ensures unreadable { result.status ≡ 5 → Rose (F.state files.old).faults (F.state files.new).faults }
-    ensures output { result.status ≡ 6 → Rose (O.state out.old).faults (O.state out.new).faults }
-    ensures steady { result.status ≢ 5 → IsSteady (seen F.state files.old files.new) }
-    ensures output_steady { result.status ≢ 6 → (O.state out.new).faults ≡ (O.state out.old).faults }
     ensures complete { WhetherCompletes cube.now query.now reason.now (seen F.state files.old files.new) (seen S.state store.old store.new) (seen O.state out.old out.new) result }
-    ensures words { result.status ≢ 2 }
-    ensures wire { result.status ≢ 8 }
     ensures outcomes { result.outcomes ≡ [] }
 {
     let opened = match open_guarded(alloc, message, cube, files) {
@@ -290,14 +277,8 @@ pub fn say_why<F: Folder, S: Store, O: Sink>(
 ) -> Report
     requires { message ≡ [] }
     ensures run { ReasonRun cube.now journal.now query.now reason.now (seen F.state files.old files.new) (seen S.state store.old store.new) (seen O.state out.old out.new) result }
-    ensures unkept { result.status ≡ 9 → Rose (S.state store.old).faults (S.state store.new).faults }
+    ensures causes { HasCauses (of_command (seen F.state files.old files.new) (seen S.state store.old store.new) (seen O.state out.old out.new)) result }
     ensures others { OnlyJournal (S.state store.old) (S.state store.new) }
-    ensures unreadable { result.status ≡ 5 → Rose (F.state files.old).faults (F.state files.new).faults }
-    ensures output { result.status ≡ 6 → Rose (O.state out.old).faults (O.state out.new).faults }
-    ensures steady { result.status ≢ 5 → IsSteady (seen F.state files.old files.new) }
-    ensures output_steady { result.status ≢ 6 → (O.state out.new).faults ≡ (O.state out.old).faults }
-    ensures words { result.status ≢ 2 }
-    ensures wire { result.status ≢ 8 }
     ensures outcomes { result.outcomes ≡ [] }
 {
     match reason {

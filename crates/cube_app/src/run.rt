@@ -4,8 +4,9 @@ ghost use Rattle.cube_io.specs.Causes.{Rose};
 ghost use Rattle.cube_io.specs.Seen.{seen};
 ghost use Rattle.cube_words.specs.Help.{help_said};
 ghost use Rattle.cube_words.specs.Words.{orders_of as orders_in, Fits};
+ghost use Rattle.cube_opening.specs.Causes.{HasCauses, of_listing, of_talk, only_out};
 ghost use Rattle.cube_opening.specs.Reports.{IsReport, NoMessage, Prints};
-ghost use Rattle.cube_opening.specs.Opening.{HasAll, IsSteady};
+ghost use Rattle.cube_opening.specs.Opening.{HasAll};
 ghost use Rattle.cube_serving.specs.Starting.{AsksStore, OnlyJournal};
 ghost use Rattle.cube_app.specs.Runs.{Obeyed, Runs};
 ghost use Rattle.cube_app.specs.Summary.{CheckEnds};
@@ -28,7 +29,7 @@ use cube_opening::{
     CubeFiles, Message, Report, no_message, open_flat, open_guarded, spent_message, statuses,
     with_text,
 };
-use cube_serving::{open_engine, replay_cube, replay_grouped, serve_cube, serve_grouped};
+use cube_serving::{open_engine, replay_cube, serve_cube};
 use cube_talk::{Carry, Ending, TalkEnd, converse_by_asks, converse_by_sums};
 use cube_words::{Command, Orders, Usage, help, orders_of};
 use std::alloc::Global;
@@ -70,13 +71,8 @@ fn refuse_words(alloc: Global, words: &[Text], usage: Usage) -> Report
 pub fn print<O: Sink>(alloc: Global, message: Message, text: &[u8], out: &mut O) -> Report
     requires { message ≡ [] }
     ensures prints { Prints text.now (seen O.state out.old out.new) result }
-    ensures output { result.status ≡ 6 → Rose (O.state out.old).faults (O.state out.new).faults }
-    ensures steady { result.status ≢ 6 → (O.state out.new).faults ≡ (O.state out.old).faults }
+    ensures causes { HasCauses (only_out (seen O.state out.old out.new)) result }
     ensures status { (result.status ≡ 0) ⊎ (result.status ≡ 6) }
-    ensures words { result.status ≢ 2 }
-    ensures files { result.status ≢ 5 }
-    ensures wire { result.status ≢ 8 }
-    ensures store { result.status ≢ 9 }
     ensures outcomes { result.outcomes ≡ [] }
 {
     match out.put(text) {
@@ -91,12 +87,7 @@ pub fn print<O: Sink>(alloc: Global, message: Message, text: &[u8], out: &mut O)
 fn print_help<O: Sink>(alloc: Global, message: Message, on: Option<Command>, out: &mut O) -> Report
     requires { message ≡ [] }
     ensures prints { Prints (help_said on) (seen O.state out.old out.new) result }
-    ensures output { result.status ≡ 6 → Rose (O.state out.old).faults (O.state out.new).faults }
-    ensures steady { result.status ≢ 6 → (O.state out.new).faults ≡ (O.state out.old).faults }
-    ensures words { result.status ≢ 2 }
-    ensures files { result.status ≢ 5 }
-    ensures wire { result.status ≢ 8 }
-    ensures store { result.status ≢ 9 }
+    ensures causes { HasCauses (only_out (seen O.state out.old out.new)) result }
     ensures outcomes { result.outcomes ≡ [] }
 {
     match help(alloc, on) {
@@ -150,14 +141,8 @@ fn sum<F: Folder, S: Store, I: Source, O: Sink>(
     requires { message ≡ [] }
     ensures answers { SumEnds name.now (seen F.state files.old files.new) (seen I.state input.old input.new) (seen O.state out.old out.new) result }
     ensures ended { result.status ≡ 0 → (I.state input.new).ended ≡ true }
-    ensures unreadable { result.status ≡ 5 → (Rose (F.state files.old).faults (F.state files.new).faults × ((I.state input.new).faults ≡ (I.state input.old).faults)) ⊎ (Rose (I.state input.old).faults (I.state input.new).faults × IsSteady (seen F.state files.old files.new)) }
-    ensures output { result.status ≡ 6 → Rose (O.state out.old).faults (O.state out.new).faults }
-    ensures steady { result.status ≢ 5 → ((F.state files.new).faults ≡ (F.state files.old).faults) × ((I.state input.new).faults ≡ (I.state input.old).faults) }
-    ensures output_steady { result.status ≢ 6 → (O.state out.new).faults ≡ (O.state out.old).faults }
+    ensures causes { HasCauses (of_talk (seen F.state files.old files.new) (seen S.state store.old store.new) (seen I.state input.old input.new) (seen O.state out.old out.new)) result }
     ensures complete { SumCompletes name.now (seen F.state files.old files.new) (seen I.state input.old input.new) (seen O.state out.old out.new) result }
-    ensures words { result.status ≢ 2 }
-    ensures wire { result.status ≢ 8 }
-    ensures kept { result.status ≢ 9 }
     ensures outcomes { result.outcomes ≡ [] }
     ensures store { store.new ≡ store.old }
 {
@@ -185,14 +170,8 @@ fn check<F: Folder, O: Sink>(
 ) -> Report
     requires { message ≡ [] }
     ensures checks { CheckEnds cube.now (seen F.state files.old files.new) (seen O.state out.old out.new) result }
-    ensures unreadable { result.status ≡ 5 → Rose (F.state files.old).faults (F.state files.new).faults }
-    ensures output { result.status ≡ 6 → Rose (O.state out.old).faults (O.state out.new).faults }
-    ensures steady { result.status ≢ 5 → IsSteady (seen F.state files.old files.new) }
-    ensures output_steady { result.status ≢ 6 → (O.state out.new).faults ≡ (O.state out.old).faults }
+    ensures causes { HasCauses (of_listing (seen F.state files.old files.new) (seen O.state out.old out.new)) result }
     ensures complete { HasAll cube.now (F.state files.old) → ¬ Rose (F.state files.old).faults (F.state files.new).faults → ¬ Rose (O.state out.old).faults (O.state out.new).faults → (result.status ≡ 0) ⊎ (result.status ≡ 7) }
-    ensures words { result.status ≢ 2 }
-    ensures wire { result.status ≢ 8 }
-    ensures store { result.status ≢ 9 }
     ensures outcomes { result.outcomes ≡ [] }
 {
     let opened = match open_guarded(alloc, message, cube, files) {
@@ -234,18 +213,12 @@ fn ask<F: Folder, S: Store, I: Source, O: Sink>(
     requires stated { 1 ≤ stated }
     ensures answers { AskEnds cube.now stated (seen F.state files.old files.new) (seen S.state store.old store.new) (seen I.state input.old input.new) (seen O.state out.old out.new) result }
     ensures names { (store.new ≡ store.old) ⊎ AsksStore journal.now (seen S.state store.old store.new) result }
-    ensures unkept { result.status ≡ 9 → Rose (S.state store.old).faults (S.state store.new).faults × (result.outcomes ≡ []) }
+    ensures causes { HasCauses (of_talk (seen F.state files.old files.new) (seen S.state store.old store.new) (seen I.state input.old input.new) (seen O.state out.old out.new)) result }
     ensures calls { result.status ≡ 9 → IsTrue (S.state store.old).told → (S.state store.new).calls ≤ (S.state store.old).calls + 12 }
     ensures others { OnlyJournal (S.state store.old) (S.state store.new) }
     ensures ended { result.status ≡ 0 → (I.state input.new).ended ≡ true }
-    ensures unreadable { result.status ≡ 5 → (Rose (F.state files.old).faults (F.state files.new).faults × ((I.state input.new).faults ≡ (I.state input.old).faults)) ⊎ (Rose (I.state input.old).faults (I.state input.new).faults × IsSteady (seen F.state files.old files.new)) }
-    ensures output { result.status ≡ 6 → Rose (O.state out.old).faults (O.state out.new).faults }
     ensures memory { result.status ≡ 7 → (input.new ≡ input.old) × (out.new ≡ out.old) × (result.outcomes ≡ []) }
-    ensures steady { result.status ≢ 5 → ((F.state files.new).faults ≡ (F.state files.old).faults) × ((I.state input.new).faults ≡ (I.state input.old).faults) }
-    ensures output_steady { result.status ≢ 6 → (O.state out.new).faults ≡ (O.state out.old).faults }
     ensures complete { AskCompletes cube.now (seen F.state files.old files.new) (seen S.state store.old store.new) (seen I.state input.old input.new) (seen O.state out.old out.new) result }
-    ensures words { result.status ≢ 2 }
-    ensures wire { result.status ≢ 8 }
 {
     let opened = match open_guarded(alloc, message, cube, files) {
         Ok(opened) => opened,
@@ -383,29 +356,12 @@ fn obey<F: Folder, S: Store, I: Source, O: Sink, W: Wire>(
         } => serve_cube(
             alloc, message, &cube, &journal, &address, stated, idle, files, store, wire,
         ),
-        Orders::ServeGroups {
-            files: cube,
-            journal,
-            address,
-            stated,
-            idle,
-        } => serve_grouped(
-            alloc, message, &cube, &journal, &address, stated, idle, files, store, wire,
-        ),
         Orders::Replay {
             files: cube,
             journal,
             script,
             stated,
         } => replay_cube(
-            alloc, message, &cube, &journal, &script, stated, files, store, out,
-        ),
-        Orders::ReplayGroups {
-            files: cube,
-            journal,
-            script,
-            stated,
-        } => replay_grouped(
             alloc, message, &cube, &journal, &script, stated, files, store, out,
         ),
         Orders::Demo { making } => show(alloc, message, making, out),

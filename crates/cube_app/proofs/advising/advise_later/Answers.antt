@@ -1,36 +1,23 @@
-use Rattle.std.proofs.Common.{inl, inr, refl, subst, arith}
+use Rattle.std.proofs.Common.{inl, inr, refl, subst}
 use Rattle.cube_io.specs.Seen.{seen}
 use Rattle.cube_advise.specs.Telling.{later_text}
 use Rattle.cube_engine.specs.Engines.{Engine}
 use Rattle.cube_serving.proofs.Started.{opened}
 use Rattle.cube_app.specs.Advising.{Puts}
 use Rattle.cube_app.proofs.Advised.{is_advice}
-use Rattle.cube_app.proofs.Unread.{at_file, unreadable, no_other, all_read}
+use Rattle.cube_app.proofs.Unread.{all_read, at_advised}
+use Rattle.cube_opening.proofs.Causes.{same, alone, never, wider, at_file}
+use Rattle.cube_serving.proofs.Causes.{at_journal}
 use Rattle.cube_app.proofs.advising.advise_later.Goals as goal
 
 pub returns-in-Err-clause-answers : goal.returns-in-Err-clause-answers
 returns-in-Err-clause-answers g c = inl (c.in-Err.ensures.err, refl, refl)
 
-pub returns-in-Err-clause-unkept : goal.returns-in-Err-clause-unkept
-returns-in-Err-clause-unkept g c = λ nine. let folder = seen g.F.Folder.state c.args.files.now c.open_advisable.new.files in absurd (no_other folder c.in-Err.report 9 (λ k. omega (arith, k)) (λ k. omega (arith, k)) (λ k. omega (arith, k)) (at_file c.args.cube.now c.args.workload.now folder c.in-Err.report c.in-Err.ensures.err) nine)
-
-pub returns-in-Err-clause-unreadable : goal.returns-in-Err-clause-unreadable
-returns-in-Err-clause-unreadable g c = let folder = seen g.F.Folder.state c.args.files.now c.open_advisable.new.files in unreadable folder c.in-Err.report (at_file c.args.cube.now c.args.workload.now folder c.in-Err.report c.in-Err.ensures.err)
-
-pub returns-in-Err-clause-output : goal.returns-in-Err-clause-output
-returns-in-Err-clause-output g c = λ six. let folder = seen g.F.Folder.state c.args.files.now c.open_advisable.new.files in absurd (no_other folder c.in-Err.report 6 (λ k. omega (arith, k)) (λ k. omega (arith, k)) (λ k. omega (arith, k)) (at_file c.args.cube.now c.args.workload.now folder c.in-Err.report c.in-Err.ensures.err) six)
-
 pub returns-in-Err-clause-complete : goal.returns-in-Err-clause-complete
 returns-in-Err-clause-complete g c = λ all has kept files store out. inr (all_read c.args.cube.now c.args.workload.now (seen g.F.Folder.state c.args.files.now c.open_advisable.new.files) c.in-Err.report c.in-Err.ensures.err all has files)
 
-pub returns-in-Err-clause-words : goal.returns-in-Err-clause-words
-returns-in-Err-clause-words g c = λ two. let folder = seen g.F.Folder.state c.args.files.now c.open_advisable.new.files in no_other folder c.in-Err.report 2 (λ k. omega (arith, k)) (λ k. omega (arith, k)) (λ k. omega (arith, k)) (at_file c.args.cube.now c.args.workload.now folder c.in-Err.report c.in-Err.ensures.err) two
-
-pub returns-in-Err-clause-wire : goal.returns-in-Err-clause-wire
-returns-in-Err-clause-wire g c = λ eight. let folder = seen g.F.Folder.state c.args.files.now c.open_advisable.new.files in no_other folder c.in-Err.report 8 (λ k. omega (arith, k)) (λ k. omega (arith, k)) (λ k. omega (arith, k)) (at_file c.args.cube.now c.args.workload.now folder c.in-Err.report c.in-Err.ensures.err) eight
-
 pub returns-in-Err-clause-outcomes : goal.returns-in-Err-clause-outcomes
-returns-in-Err-clause-outcomes g c = (at_file c.args.cube.now c.args.workload.now (seen g.F.Folder.state c.args.files.now c.open_advisable.new.files) c.in-Err.report c.in-Err.ensures.err).outcomes
+returns-in-Err-clause-outcomes g c = (at_advised c.args.cube.now c.args.workload.now (seen g.F.Folder.state c.args.files.now c.open_advisable.new.files) c.in-Err.report c.in-Err.ensures.err).outcomes
 
 pub returns-in-Err-open_engine-clause-answers : goal.returns-in-Err-open_engine-clause-answers
 returns-in-Err-open_engine-clause-answers g c =
@@ -75,3 +62,12 @@ returns-clause-answers g c =
       },
       c.in-Ok.ensures.behind,
     ))
+
+pub returns-in-Err-clause-causes : goal.returns-in-Err-clause-causes
+returns-in-Err-clause-causes g c = wider same (never _) same (alone refl) same (at_file (at_advised c.args.cube.now c.args.workload.now (seen g.F.Folder.state c.args.files.now c.open_advisable.new.files) c.in-Err.report c.in-Err.ensures.err) c.in-Err.ensures.steady_err)
+
+pub returns-in-Err-open_engine-clause-causes : goal.returns-in-Err-open_engine-clause-causes
+returns-in-Err-open_engine-clause-causes g c = wider (alone c.in-Ok.ensures.steady) (λ e. e) same (alone refl) same (at_journal c.in-Ok.opened.value.guarded.core c.in-Ok.opened.value.guarded.policy (seen g.S.Store.state c.args.store.now c.open_engine.new.store) c.in-Err-open_engine.report c.in-Err-open_engine.ensures.err)
+
+pub returns-clause-causes : goal.returns-clause-causes
+returns-clause-causes g c = wider (alone c.in-Ok.ensures.steady) (never _) same same same c.put_advice.ensures.causes

@@ -7,6 +7,7 @@ use Rattle.cube_opening.proofs.Accepted.{all_accepted, last_accepted}
 use Rattle.cube_opening.proofs.Behind.{asked_then, ends_behind}
 use Rattle.cube_opening.proofs.Ended.{one_unasked, unasked}
 use Rattle.cube_app.specs.Auditing.{transcript_said}
+use Rattle.cube_opening.proofs.Causes.{same, alone, later, wider, no_memory, at_file, at_files, at_one}
 use Rattle.cube_app.proofs.auditing.audit.Goals as goal
 
 pub returns-in-Err-clause-answers : goal.returns-in-Err-clause-answers
@@ -76,3 +77,15 @@ returns-clause-answers g c =
       },
       record { asked = asked_then (names_of c.args.cube.now) (c.args.transcript.now ∷ []) g.F.Folder.state c.args.files.now c.open_guarded.new.files c.open_transcript.new.files x.behind.asked z.asks; steady = z.reads.steady ∙ x.behind.steady },
     ))
+
+pub returns-in-Err-clause-causes : goal.returns-in-Err-clause-causes
+returns-in-Err-clause-causes g c = wider same (λ e. e) same (alone refl) same (at_file (at_files c.args.cube.now (seen g.F.Folder.state c.args.files.now c.open_guarded.new.files) c.in-Err.report c.in-Err.ensures.err) c.in-Err.ensures.reads.steady_err)
+
+pub returns-in-Err-open_transcript-clause-causes : goal.returns-in-Err-open_transcript-clause-causes
+returns-in-Err-open_transcript-clause-causes g c = wider (later c.in-Ok.ensures.reads.steady refl) (λ e. e) same (alone refl) same (at_file (at_one transcript_said c.args.transcript.now (seen g.F.Folder.state c.open_guarded.new.files c.open_transcript.new.files) _ c.in-Err-open_transcript.ensures.err.unopened) c.in-Err-open_transcript.ensures.reads.steady_err)
+
+pub returns-in-Ok-line_of-clause-causes : goal.returns-in-Ok-line_of-clause-causes
+returns-in-Ok-line_of-clause-causes g c = wider (alone (c.in-Ok-open_transcript.ensures.reads.steady ∙ c.in-Ok.ensures.reads.steady)) (λ e. e) same same same c.print.ensures.causes
+
+pub returns-clause-causes : goal.returns-clause-causes
+returns-clause-causes g c = no_memory c.close.ensures.0 (record { files = c.in-Ok-open_transcript.ensures.reads.steady ∙ c.in-Ok.ensures.reads.steady; input = refl; out = refl; wire = refl })

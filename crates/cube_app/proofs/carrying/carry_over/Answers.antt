@@ -4,10 +4,12 @@ use Rattle.cube_io.specs.Seen.{seen}
 use Rattle.cube_opening.specs.Opening.{names_of}
 use Rattle.cube_opening.proofs.Accepted.{all_accepted}
 use Rattle.cube_opening.proofs.Behind.{asked_then}
-use Rattle.cube_opening.proofs.Ended.{not_nine, unasked}
+use Rattle.cube_opening.proofs.Ended.{unasked}
 use Rattle.cube_serving.proofs.Started.{opened}
 use Rattle.cube_app.specs.Carrying.{HandsOver, IsHanded, handing_of}
 use Rattle.cube_app.proofs.Handing.{hands_by, done_by, make_before, has_then, calm_then}
+use Rattle.cube_opening.proofs.Causes.{same, alone, later, never, wider, at_file, at_files}
+use Rattle.cube_serving.proofs.Causes.{at_journal}
 use Rattle.cube_app.proofs.carrying.carry_over.Goals as goal
 
 pub returns-clause-answers : goal.returns-clause-answers
@@ -43,9 +45,6 @@ returns-in-Err-clause-answers g c = inl (c.in-Err.ensures.err, refl, refl)
 pub returns-in-Err-clause-complete : goal.returns-in-Err-clause-complete
 returns-in-Err-clause-complete g c = λ all has kept can files store out. inr (all_accepted c.args.cube.now (seen g.F.Folder.state c.args.files.now c.open_guarded.new.files) c.in-Err.report c.in-Err.ensures.err all files)
 
-pub returns-in-Err-clause-unkept : goal.returns-in-Err-clause-unkept
-returns-in-Err-clause-unkept g c = λ nine. absurd (not_nine c.args.cube.now (seen g.F.Folder.state c.args.files.now c.open_guarded.new.files) c.in-Err.report c.in-Err.ensures.err nine)
-
 pub returns-in-Err-clause-outcomes : goal.returns-in-Err-clause-outcomes
 returns-in-Err-clause-outcomes g c = unasked c.args.cube.now (seen g.F.Folder.state c.args.files.now c.open_guarded.new.files) c.in-Err.report c.in-Err.ensures.err
 
@@ -69,9 +68,6 @@ returns-in-Err-open_guarded-clause-complete g c = λ all has kept can files stor
     let now = g.F.Folder.state c.args.files.now in
     let then = g.F.Folder.state c.open_guarded.new.files in
     inr (all_accepted c.args.older.now (seen g.F.Folder.state c.open_guarded.new.files c.open_guarded-2.new.files) c.in-Err-open_guarded.report c.in-Err-open_guarded.ensures.err (has_then c.args.older.now now then x.reads.files has) (calm_then now.faults then.faults (g.F.Folder.state c.open_guarded-2.new.files).faults x.behind.steady files))
-
-pub returns-in-Err-open_guarded-clause-unkept : goal.returns-in-Err-open_guarded-clause-unkept
-returns-in-Err-open_guarded-clause-unkept g c = λ nine. absurd (not_nine c.args.older.now (seen g.F.Folder.state c.open_guarded.new.files c.open_guarded-2.new.files) c.in-Err-open_guarded.report c.in-Err-open_guarded.ensures.err nine)
 
 pub returns-in-Err-open_guarded-clause-outcomes : goal.returns-in-Err-open_guarded-clause-outcomes
 returns-in-Err-open_guarded-clause-outcomes g c = unasked c.args.older.now (seen g.F.Folder.state c.open_guarded.new.files c.open_guarded-2.new.files) c.in-Err-open_guarded.report c.in-Err-open_guarded.ensures.err
@@ -118,4 +114,16 @@ returns-clause-complete g c = λ all has kept can files store out.
     let handed = can (record { older = guarded.core; older_policy = guarded.policy; history = engine.history; core = new.core; policy = new.policy }) x.ok.1 make (y.history kept.told) in
     let is_handed = subst (λ (e : Engine). IsHanded (handing_of e new.core new.policy)) (sym y.engine) handed in
     let w = c.put_carried.ensures in
-    done_by c.put_carried.result.status w.status (w.accepted (handing_of engine new.core new.policy) c.carried_over-said.ensures.err is_handed) (λ six. out (w.output six))
+    done_by c.put_carried.result.status w.status (w.accepted (handing_of engine new.core new.policy) c.carried_over-said.ensures.err is_handed) (λ six. out (w.causes.output six))
+
+pub returns-in-Err-clause-causes : goal.returns-in-Err-clause-causes
+returns-in-Err-clause-causes g c = wider same (never _) same (alone refl) same (at_file (at_files c.args.cube.now (seen g.F.Folder.state c.args.files.now c.open_guarded.new.files) c.in-Err.report c.in-Err.ensures.err) c.in-Err.ensures.reads.steady_err)
+
+pub returns-in-Err-open_guarded-clause-causes : goal.returns-in-Err-open_guarded-clause-causes
+returns-in-Err-open_guarded-clause-causes g c = wider (later c.in-Ok.ensures.reads.steady refl) (never _) same (alone refl) same (at_file (at_files c.args.older.now (seen g.F.Folder.state c.open_guarded.new.files c.open_guarded-2.new.files) c.in-Err-open_guarded.report c.in-Err-open_guarded.ensures.err) c.in-Err-open_guarded.ensures.reads.steady_err)
+
+pub returns-in-Err-open_engine-clause-causes : goal.returns-in-Err-open_engine-clause-causes
+returns-in-Err-open_engine-clause-causes g c = wider (alone (c.in-Ok-open_guarded.ensures.reads.steady ∙ c.in-Ok.ensures.reads.steady)) (λ e. e) same (alone refl) same (at_journal c.in-Ok-open_guarded.guarded.value.core c.in-Ok-open_guarded.guarded.value.policy (seen g.S.Store.state c.args.store.now c.open_engine.new.store) c.in-Err-open_engine.report c.in-Err-open_engine.ensures.err)
+
+pub returns-clause-causes : goal.returns-clause-causes
+returns-clause-causes g c = wider (alone (c.in-Ok-open_guarded.ensures.reads.steady ∙ c.in-Ok.ensures.reads.steady)) (never _) same same same c.put_carried.ensures.causes

@@ -5,10 +5,12 @@ use Rattle.cube_io.specs.Seen.{seen}
 use Rattle.cube_opening.specs.Opening.{FileSays, names_of}
 use Rattle.cube_opening.proofs.Accepted.{all_accepted}
 use Rattle.cube_opening.proofs.Behind.{asked_then, ends_behind}
-use Rattle.cube_opening.proofs.Ended.{not_nine, unasked}
+use Rattle.cube_opening.proofs.Ended.{unasked}
 use Rattle.cube_serving.proofs.Started.{opened}
 use Rattle.cube_app.specs.Reasons.{IsWhetherOf, SaysOne, reason_said}
 use Rattle.cube_app.proofs.Said.{says_by}
+use Rattle.cube_opening.proofs.Causes.{same, alone, later, never, wider, at_file, at_files, at_one}
+use Rattle.cube_serving.proofs.Causes.{at_journal}
 use Rattle.cube_app.proofs.reasons.check_reason.Goals as goal
 
 pub returns-in-Err-clause-answers : goal.returns-in-Err-clause-answers
@@ -16,9 +18,6 @@ returns-in-Err-clause-answers g c = inr (inl (inl (c.in-Err.ensures.err, refl), 
 
 pub returns-in-Err-clause-complete : goal.returns-in-Err-clause-complete
 returns-in-Err-clause-complete g c = λ all has kept asked files store out. inr (all_accepted c.args.cube.now (seen g.F.Folder.state c.args.files.now c.open_guarded.new.files) c.in-Err.report c.in-Err.ensures.err all files)
-
-pub returns-in-Err-clause-unkept : goal.returns-in-Err-clause-unkept
-returns-in-Err-clause-unkept g c = λ nine. absurd (not_nine c.args.cube.now (seen g.F.Folder.state c.args.files.now c.open_guarded.new.files) c.in-Err.report c.in-Err.ensures.err nine)
 
 pub returns-in-Err-clause-outcomes : goal.returns-in-Err-clause-outcomes
 returns-in-Err-clause-outcomes g c = unasked c.args.cube.now (seen g.F.Folder.state c.args.files.now c.open_guarded.new.files) c.in-Err.report c.in-Err.ensures.err
@@ -84,3 +83,15 @@ returns-clause-answers g c =
       },
       record { asked = asked_then (names_of c.args.cube.now) (c.args.reason.now ∷ []) g.F.Folder.state c.args.files.now c.open_guarded.new.files c.open_reason.new.files x.behind.asked z.asks; steady = z.reads.steady ∙ x.behind.steady },
     ))
+
+pub returns-in-Err-clause-causes : goal.returns-in-Err-clause-causes
+returns-in-Err-clause-causes g c = wider same (never _) same (alone refl) same (at_file (at_files c.args.cube.now (seen g.F.Folder.state c.args.files.now c.open_guarded.new.files) c.in-Err.report c.in-Err.ensures.err) c.in-Err.ensures.reads.steady_err)
+
+pub returns-in-Err-open_reason-clause-causes : goal.returns-in-Err-open_reason-clause-causes
+returns-in-Err-open_reason-clause-causes g c = wider (later c.in-Ok.ensures.reads.steady refl) (never _) same (alone refl) same (at_file (at_one reason_said c.args.reason.now (seen g.F.Folder.state c.open_guarded.new.files c.open_reason.new.files) _ c.in-Err-open_reason.ensures.err.unopened) c.in-Err-open_reason.ensures.reads.steady_err)
+
+pub returns-in-Err-open_engine-clause-causes : goal.returns-in-Err-open_engine-clause-causes
+returns-in-Err-open_engine-clause-causes g c = wider (alone (c.in-Ok-open_reason.ensures.reads.steady ∙ c.in-Ok.ensures.reads.steady)) (λ e. e) same (alone refl) same (at_journal c.in-Ok.opened.value.core c.in-Ok.opened.value.policy (seen g.S.Store.state c.args.store.now c.open_engine.new.store) c.in-Err-open_engine.report c.in-Err-open_engine.ensures.err)
+
+pub returns-clause-causes : goal.returns-clause-causes
+returns-clause-causes g c = wider (alone (c.in-Ok-open_reason.ensures.reads.steady ∙ c.in-Ok.ensures.reads.steady)) (never _) same same same c.put_said.ensures.causes

@@ -14,3 +14,9 @@ returns-in-Some-clause-run g c =
     let x = c.check_reason.ensures in
     subst (λ (named : Option (List ℕ)). ReasonRun c.args.cube.now c.args.journal.now c.args.query.now named (seen g.F.Folder.state c.args.files.now c.check_reason.new.files) (seen g.S.Store.state c.args.store.now c.check_reason.new.store) (seen g.O.Sink.state c.args.out.now c.check_reason.new.out) c.check_reason.result)
     (sym c.in-Some.is) (record { answers = x.answers; named = x.names; few_calls = x.calls; complete = x.complete })
+
+pub returns-in-None-clause-causes : goal.returns-in-None-clause-causes
+returns-in-None-clause-causes g c = c.why.ensures.causes
+
+pub returns-in-Some-clause-causes : goal.returns-in-Some-clause-causes
+returns-in-Some-clause-causes g c = c.check_reason.ensures.causes

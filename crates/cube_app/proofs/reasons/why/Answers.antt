@@ -2,10 +2,12 @@ use Rattle.std.proofs.Common.{inl, inr, refl, subst}
 use Rattle.cube_engine.specs.Engines.{Engine}
 use Rattle.cube_io.specs.Seen.{seen}
 use Rattle.cube_opening.proofs.Accepted.{all_accepted}
-use Rattle.cube_opening.proofs.Ended.{not_nine, unasked}
+use Rattle.cube_opening.proofs.Ended.{unasked}
 use Rattle.cube_serving.proofs.Started.{opened}
 use Rattle.cube_app.specs.Reasons.{IsWhyOf, SaysOne}
 use Rattle.cube_app.proofs.Said.{says_by}
+use Rattle.cube_opening.proofs.Causes.{same, alone, never, wider, at_file, at_files}
+use Rattle.cube_serving.proofs.Causes.{at_journal}
 use Rattle.cube_app.proofs.reasons.why.Goals as goal
 
 pub returns-clause-answers : goal.returns-clause-answers
@@ -33,9 +35,6 @@ returns-clause-answers g c =
 pub returns-in-Err-clause-complete : goal.returns-in-Err-clause-complete
 returns-in-Err-clause-complete g c = λ all kept asked files store out. inr (all_accepted c.args.cube.now (seen g.F.Folder.state c.args.files.now c.open_guarded.new.files) c.in-Err.report c.in-Err.ensures.err all files)
 
-pub returns-in-Err-clause-unkept : goal.returns-in-Err-clause-unkept
-returns-in-Err-clause-unkept g c = λ nine. absurd (not_nine c.args.cube.now (seen g.F.Folder.state c.args.files.now c.open_guarded.new.files) c.in-Err.report c.in-Err.ensures.err nine)
-
 pub returns-in-Err-clause-answers : goal.returns-in-Err-clause-answers
 returns-in-Err-clause-answers g c = inl (inl (c.in-Err.ensures.err, refl), refl)
 
@@ -60,3 +59,12 @@ returns-in-Err-open_engine-clause-answers g c =
 
 pub returns-in-Err-clause-outcomes : goal.returns-in-Err-clause-outcomes
 returns-in-Err-clause-outcomes g c = unasked c.args.cube.now (seen g.F.Folder.state c.args.files.now c.open_guarded.new.files) c.in-Err.report c.in-Err.ensures.err
+
+pub returns-in-Err-clause-causes : goal.returns-in-Err-clause-causes
+returns-in-Err-clause-causes g c = wider same (never _) same (alone refl) same (at_file (at_files c.args.cube.now (seen g.F.Folder.state c.args.files.now c.open_guarded.new.files) c.in-Err.report c.in-Err.ensures.err) c.in-Err.ensures.reads.steady_err)
+
+pub returns-in-Err-open_engine-clause-causes : goal.returns-in-Err-open_engine-clause-causes
+returns-in-Err-open_engine-clause-causes g c = wider (alone c.in-Ok.ensures.reads.steady) (λ e. e) same (alone refl) same (at_journal c.in-Ok.opened.value.core c.in-Ok.opened.value.policy (seen g.S.Store.state c.args.store.now c.open_engine.new.store) c.in-Err-open_engine.report c.in-Err-open_engine.ensures.err)
+
+pub returns-clause-causes : goal.returns-clause-causes
+returns-clause-causes g c = wider (alone c.in-Ok.ensures.reads.steady) (never _) same same same c.put_said.ensures.causes

@@ -10,9 +10,11 @@ use Rattle.cube_talk.specs.Crashes.{TalkedOver}
 use Rattle.cube_serving.proofs.Started.{opened, still_open}
 use Rattle.cube_serving.proofs.SealsHeld.{seal_is_other}
 use Rattle.cube_opening.proofs.Accepted.{all_accepted}
-use Rattle.cube_opening.proofs.Ended.{not_nine}
 use Rattle.cube_app.proofs.Lives.{moment_of, survived, held_lines}
 use Rattle.cube_app.proofs.Worlds.{hides}
+use Rattle.cube_opening.proofs.Causes.{same, alone, never, wider, no_memory, at_file, at_files}
+use Rattle.cube_serving.proofs.Causes.{at_journal}
+use Rattle.cube_app.proofs.Causes.{at_talk}
 use Rattle.cube_app.proofs.run.ask.Goals as goal
 
 pub returns-clause-answers : goal.returns-clause-answers
@@ -69,9 +71,6 @@ returns-clause-others g c = λ told log zero seal.
     let survives = c.converse_by_asks-engine.ensures.talked.survives in
     survives.others (subst IsTrue (sym y.opens.told) told) log (λ rooms s x. zero (x.0 ∙ y.log)) ∙ y.opens.others told log zero seal
 
-pub returns-in-Err-clause-unkept : goal.returns-in-Err-clause-unkept
-returns-in-Err-clause-unkept g c = λ nine. absurd (not_nine c.args.cube.now (seen g.F.Folder.state c.args.files.now c.open_guarded.new.files) c.in-Err.report c.in-Err.ensures.err nine)
-
 pub returns-in-Err-clause-answers : goal.returns-in-Err-clause-answers
 returns-in-Err-clause-answers g c = inl (inl (c.in-Err.ensures.err, refl), refl, refl)
 
@@ -116,3 +115,15 @@ returns-in_default-clause-answers g c =
       refl,
       refl,
     )
+
+pub returns-in-Err-clause-causes : goal.returns-in-Err-clause-causes
+returns-in-Err-clause-causes g c = wider same (never _) (alone refl) (alone refl) same (at_file (at_files c.args.cube.now (seen g.F.Folder.state c.args.files.now c.open_guarded.new.files) c.in-Err.report c.in-Err.ensures.err) c.in-Err.ensures.reads.steady_err)
+
+pub returns-in-Err-open_engine-clause-causes : goal.returns-in-Err-open_engine-clause-causes
+returns-in-Err-open_engine-clause-causes g c = wider (alone c.in-Ok.ensures.reads.steady) (λ e. e) (alone refl) (alone refl) same (at_journal c.in-Ok.opened.value.core c.in-Ok.opened.value.policy (seen g.S.Store.state c.args.store.now c.open_engine.new.store) c.in-Err-open_engine.report c.in-Err-open_engine.ensures.err)
+
+pub returns-in_default-clause-causes : goal.returns-in_default-clause-causes
+returns-in_default-clause-causes g c = no_memory c.close.ensures.0 (record { files = c.in-Ok.ensures.reads.steady; input = refl; out = refl; wire = refl })
+
+pub returns-clause-causes : goal.returns-clause-causes
+returns-clause-causes g c = at_talk (c.converse_by_asks-engine.result.0).ending c.report_asks.ensures.status c.converse_by_asks-engine.ensures.input c.converse_by_asks-engine.ensures.output c.in-Ok.ensures.reads.steady refl

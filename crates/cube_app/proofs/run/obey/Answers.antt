@@ -1,5 +1,6 @@
-use Rattle.std.proofs.Common.{refl, ap, inl, ℕ, List, subst}
+use Rattle.std.proofs.Common.{refl, ap, ℕ, List, subst}
 use Rattle.cube_io.specs.Seen.{seen}
+use Rattle.cube_opening.proofs.Causes.{same, alone, never, wider}
 use Rattle.cube_app.specs.Cells.{TellRun}
 use Rattle.cube_app.specs.declared.cells.Telling.TheVariants as telling
 use Rattle.cube_words.specs.declared.ordered.Orders.TheVariants as orders
@@ -12,16 +13,7 @@ returns-in-Help g c =
     obeyed_as c.args.orders (orders.Help c.in-Help.on) c.in-Help.is (record {
       does = x.prints;
       leaves = (refl, refl, refl, refl, x.outcomes);
-      causes = record {
-        unreadable = λ is. absurd (x.files is);
-        output = x.output;
-        unheard = λ is. absurd (x.wire is);
-        unkept = λ is. absurd (x.store is);
-        steady = λ no. (refl, refl);
-        output_steady = x.steady;
-        wire_steady = λ no. refl;
-      };
-      ordered = x.words;
+      causes = wider (alone refl) (never _) (alone refl) same (alone refl) x.causes;
       others = λ told k far seal. refl;
     })
 
@@ -31,16 +23,7 @@ returns-in-Version g c =
     obeyed_as c.args.orders orders.Version c.in-Version.is (record {
       does = x.prints;
       leaves = (refl, refl, refl, refl, x.outcomes);
-      causes = record {
-        unreadable = λ is. absurd (x.files is);
-        output = x.output;
-        unheard = λ is. absurd (x.wire is);
-        unkept = λ is. absurd (x.store is);
-        steady = λ no. (refl, refl);
-        output_steady = x.steady;
-        wire_steady = λ no. refl;
-      };
-      ordered = x.words;
+      causes = wider (alone refl) (never _) (alone refl) same (alone refl) x.causes;
       others = λ told k far seal. refl;
     })
 
@@ -50,16 +33,7 @@ returns-in-Draft g c =
     obeyed_as c.args.orders (orders.Draft c.in-Draft.drafting) c.in-Draft.is (record {
       does = x.answers;
       leaves = (refl, refl, refl, x.outcomes);
-      causes = record {
-        unreadable = λ is. inl (x.unreadable is, refl);
-        output = x.output;
-        unheard = λ is. absurd (x.wire is);
-        unkept = λ is. absurd (x.store is);
-        steady = λ no. (x.steady no, refl);
-        output_steady = x.output_steady;
-        wire_steady = λ no. refl;
-      };
-      ordered = x.words;
+      causes = wider same (never _) (alone refl) same (alone refl) x.causes;
       others = λ told k far seal. refl;
     })
 
@@ -69,16 +43,7 @@ returns-in-Sum g c =
     obeyed_as c.args.orders (orders.Sum c.in-Sum.facts) c.in-Sum.is (record {
       does = record { answers = x.answers; ended = x.ended; complete = x.complete };
       leaves = (x.store, refl, x.outcomes);
-      causes = record {
-        unreadable = x.unreadable;
-        output = x.output;
-        unheard = λ is. absurd (x.wire is);
-        unkept = λ is. absurd (x.kept is);
-        steady = x.steady;
-        output_steady = x.output_steady;
-        wire_steady = λ no. refl;
-      };
-      ordered = x.words;
+      causes = wider same (λ e. e) same same (alone refl) x.causes;
       others = λ told k far seal. ap (λ s. (g.S.Store.state s).logs k) x.store;
     })
 
@@ -88,16 +53,7 @@ returns-in-Check g c =
     obeyed_as c.args.orders (orders.Check c.in-Check.cube) c.in-Check.is (record {
       does = record { answers = x.checks; complete = x.complete };
       leaves = (refl, refl, refl, x.outcomes);
-      causes = record {
-        unreadable = λ is. inl (x.unreadable is, refl);
-        output = x.output;
-        unheard = λ is. absurd (x.wire is);
-        unkept = λ is. absurd (x.store is);
-        steady = λ no. (x.steady no, refl);
-        output_steady = x.output_steady;
-        wire_steady = λ no. refl;
-      };
-      ordered = x.words;
+      causes = wider same (never _) (alone refl) same (alone refl) x.causes;
       others = λ told k far seal. refl;
     })
 
@@ -107,16 +63,7 @@ returns-in-Ask g c =
     obeyed_as c.args.orders (orders.Ask c.in-Ask.cube c.in-Ask.journal c.in-Ask.stated) c.in-Ask.is (record {
       does = record { answers = x.answers; named = x.names; few_calls = x.calls; ended = x.ended; memory = x.memory; complete = x.complete };
       leaves = refl;
-      causes = record {
-        unreadable = x.unreadable;
-        output = x.output;
-        unheard = λ is. absurd (x.wire is);
-        unkept = x.unkept;
-        steady = x.steady;
-        output_steady = x.output_steady;
-        wire_steady = λ no. refl;
-      };
-      ordered = x.words;
+      causes = wider same (λ e. e) same same (alone refl) x.causes;
       others = only_first (g.S.Store.state c.args.store.now) (g.S.Store.state c.ask.new.store) x.others;
     })
 
@@ -126,16 +73,7 @@ returns-in-Witness g c =
     obeyed_as c.args.orders (orders.Witness c.in-Witness.cube c.in-Witness.journal c.in-Witness.cell) c.in-Witness.is (record {
       does = record { answers = x.answers; named = x.names; few_calls = x.calls; complete = x.complete };
       leaves = (refl, refl, x.outcomes);
-      causes = record {
-        unreadable = λ is. inl (x.unreadable is, refl);
-        output = x.output;
-        unheard = λ is. absurd (x.wire is);
-        unkept = λ is. (x.unkept is, x.outcomes);
-        steady = λ no. (x.steady no, refl);
-        output_steady = x.output_steady;
-        wire_steady = λ no. refl;
-      };
-      ordered = x.words;
+      causes = wider same (λ e. e) (alone refl) same (alone refl) x.causes;
       others = only_first (g.S.Store.state c.args.store.now) (g.S.Store.state c.tell.new.store) x.others;
     })
 
@@ -145,16 +83,7 @@ returns-in-Twin g c =
     obeyed_as c.args.orders (orders.Twin c.in-Twin.cube c.in-Twin.journal c.in-Twin.cell) c.in-Twin.is (record {
       does = record { answers = x.answers; named = x.names; few_calls = x.calls; complete = x.complete };
       leaves = (refl, refl, x.outcomes);
-      causes = record {
-        unreadable = λ is. inl (x.unreadable is, refl);
-        output = x.output;
-        unheard = λ is. absurd (x.wire is);
-        unkept = λ is. (x.unkept is, x.outcomes);
-        steady = λ no. (x.steady no, refl);
-        output_steady = x.output_steady;
-        wire_steady = λ no. refl;
-      };
-      ordered = x.words;
+      causes = wider same (λ e. e) (alone refl) same (alone refl) x.causes;
       others = only_first (g.S.Store.state c.args.store.now) (g.S.Store.state c.tell-in-Twin.new.store) x.others;
     })
 
@@ -165,16 +94,7 @@ returns-in-Compact g c =
       does = subst (λ (cell : List ℕ). TellRun telling.Compacted c.in-Compact.cube c.in-Compact.journal cell (seen g.F.Folder.state c.args.files.now c.tell-in-Compact.new.files) (seen g.S.Store.state c.args.store.now c.tell-in-Compact.new.store) (seen g.O.Sink.state c.args.out.now c.tell-in-Compact.new.out) c.tell-in-Compact.result)
           c.new-no_cell.ensures (record { answers = x.answers; named = x.names; few_calls = x.calls; complete = x.complete });
       leaves = (refl, refl, x.outcomes);
-      causes = record {
-        unreadable = λ is. inl (x.unreadable is, refl);
-        output = x.output;
-        unheard = λ is. absurd (x.wire is);
-        unkept = λ is. (x.unkept is, x.outcomes);
-        steady = λ no. (x.steady no, refl);
-        output_steady = x.output_steady;
-        wire_steady = λ no. refl;
-      };
-      ordered = x.words;
+      causes = wider same (λ e. e) (alone refl) same (alone refl) x.causes;
       others = only_first (g.S.Store.state c.args.store.now) (g.S.Store.state c.tell-in-Compact.new.store) x.others;
     })
 
@@ -184,16 +104,7 @@ returns-in-Carry g c =
     obeyed_as c.args.orders (orders.Carry c.in-Carry.cube c.in-Carry.older c.in-Carry.journal c.in-Carry._out) c.in-Carry.is (record {
       does = record { answers = x.answers; named_journal = x.names; few_calls = x.calls; complete = x.complete };
       leaves = (refl, refl, x.outcomes);
-      causes = record {
-        unreadable = λ is. inl (x.unreadable is, refl);
-        output = x.output;
-        unheard = λ is. absurd (x.wire is);
-        unkept = λ is. (x.unkept is, x.outcomes);
-        steady = λ no. (x.steady no, refl);
-        output_steady = x.output_steady;
-        wire_steady = λ no. refl;
-      };
-      ordered = x.words;
+      causes = wider same (λ e. e) (alone refl) same (alone refl) x.causes;
       others = only_first (g.S.Store.state c.args.store.now) (g.S.Store.state c.carry_over.new.store) x.others;
     })
 
@@ -203,16 +114,7 @@ returns-in-Why g c =
     obeyed_as c.args.orders (orders.Why c.in-Why.cube c.in-Why.journal c.in-Why.query c.in-Why.reason) c.in-Why.is (record {
       does = x.run;
       leaves = (refl, refl, x.outcomes);
-      causes = record {
-        unreadable = λ is. inl (x.unreadable is, refl);
-        output = x.output;
-        unheard = λ is. absurd (x.wire is);
-        unkept = λ is. (x.unkept is, x.outcomes);
-        steady = λ no. (x.steady no, refl);
-        output_steady = x.output_steady;
-        wire_steady = λ no. refl;
-      };
-      ordered = x.words;
+      causes = wider same (λ e. e) (alone refl) same (alone refl) x.causes;
       others = only_first (g.S.Store.state c.args.store.now) (g.S.Store.state c.say_why.new.store) x.others;
     })
 
@@ -222,16 +124,7 @@ returns-in-Audit g c =
     obeyed_as c.args.orders (orders.Audit c.in-Audit.cube c.in-Audit.transcript) c.in-Audit.is (record {
       does = record { answers = x.answers; complete = x.complete };
       leaves = (refl, refl, refl, x.outcomes);
-      causes = record {
-        unreadable = λ is. inl (x.unreadable is, refl);
-        output = x.output;
-        unheard = λ is. absurd (x.wire is);
-        unkept = λ is. absurd (x.store is);
-        steady = λ no. (x.steady no, refl);
-        output_steady = x.output_steady;
-        wire_steady = λ no. refl;
-      };
-      ordered = x.words;
+      causes = wider same (never _) (alone refl) same (alone refl) x.causes;
       others = λ told k far seal. refl;
     })
 
@@ -241,16 +134,7 @@ returns-in-Advise g c =
     obeyed_as c.args.orders (orders.Advise c.in-Advise.cube c.in-Advise.journal c.in-Advise.workload) c.in-Advise.is (record {
       does = record { answers = x.answers; named = x.names; few_calls = x.calls; complete = x.complete };
       leaves = (refl, refl, x.outcomes);
-      causes = record {
-        unreadable = λ is. inl (x.unreadable is, refl);
-        output = x.output;
-        unheard = λ is. absurd (x.wire is);
-        unkept = λ is. (x.unkept is, x.outcomes);
-        steady = λ no. (x.steady no, refl);
-        output_steady = x.output_steady;
-        wire_steady = λ no. refl;
-      };
-      ordered = x.words;
+      causes = wider same (λ e. e) (alone refl) same (alone refl) x.causes;
       others = only_first (g.S.Store.state c.args.store.now) (g.S.Store.state c.advise.new.store) x.others;
     })
 
@@ -260,35 +144,7 @@ returns-in-Serve g c =
     obeyed_as c.args.orders (orders.Serve c.in-Serve.cube c.in-Serve.journal c.in-Serve.address c.in-Serve.stated c.in-Serve.idle) c.in-Serve.is (record {
       does = record { answers = x.answers; named = x.names; few_calls = x.calls; listened = x.heard; memory = x.memory; complete = x.complete };
       leaves = (refl, refl);
-      causes = record {
-        unreadable = λ is. inl (x.unreadable is, refl);
-        output = λ is. absurd (x.output is);
-        unheard = x.unheard;
-        unkept = x.unkept;
-        steady = λ no. (x.steady no, refl);
-        output_steady = λ no. refl;
-        wire_steady = x.wire_steady;
-      };
-      ordered = x.words;
-      others = only_first (g.S.Store.state c.args.store.now) (g.S.Store.state c.serve_cube.new.store) x.others;
-    })
-
-pub returns-in-ServeGroups : goal.returns-in-ServeGroups
-returns-in-ServeGroups g c =
-    let x = c.serve_grouped.ensures in
-    obeyed_as c.args.orders (orders.ServeGroups c.in-ServeGroups.cube c.in-ServeGroups.journal c.in-ServeGroups.address c.in-ServeGroups.stated c.in-ServeGroups.idle) c.in-ServeGroups.is (record {
-      does = record { answers = x.answers; named = x.names; few_calls = x.calls; listened = x.heard; memory = x.memory; complete = x.complete };
-      leaves = (refl, refl);
-      causes = record {
-        unreadable = λ is. inl (x.unreadable is, refl);
-        output = λ is. absurd (x.output is);
-        unheard = x.unheard;
-        unkept = x.unkept;
-        steady = λ no. (x.steady no, refl);
-        output_steady = λ no. refl;
-        wire_steady = x.wire_steady;
-      };
-      ordered = x.words;
+      causes = wider same (λ e. e) (alone refl) (alone refl) same x.causes;
       others = x.others;
     })
 
@@ -298,35 +154,7 @@ returns-in-Replay g c =
     obeyed_as c.args.orders (orders.Replay c.in-Replay.cube c.in-Replay.journal c.in-Replay.script c.in-Replay.stated) c.in-Replay.is (record {
       does = record { answers = x.answers; named = x.names; few_calls = x.calls; memory = x.memory; complete = x.complete };
       leaves = (refl, refl);
-      causes = record {
-        unreadable = λ is. inl (x.unreadable is, refl);
-        output = x.output;
-        unheard = λ is. absurd (x.wire is);
-        unkept = x.unkept;
-        steady = λ no. (x.steady no, refl);
-        output_steady = x.output_steady;
-        wire_steady = λ no. refl;
-      };
-      ordered = x.words;
-      others = only_first (g.S.Store.state c.args.store.now) (g.S.Store.state c.replay_cube.new.store) x.others;
-    })
-
-pub returns-in-ReplayGroups : goal.returns-in-ReplayGroups
-returns-in-ReplayGroups g c =
-    let x = c.replay_grouped.ensures in
-    obeyed_as c.args.orders (orders.ReplayGroups c.in-ReplayGroups.cube c.in-ReplayGroups.journal c.in-ReplayGroups.script c.in-ReplayGroups.stated) c.in-ReplayGroups.is (record {
-      does = record { answers = x.answers; named = x.names; few_calls = x.calls; memory = x.memory; complete = x.complete };
-      leaves = (refl, refl);
-      causes = record {
-        unreadable = λ is. inl (x.unreadable is, refl);
-        output = x.output;
-        unheard = λ is. absurd (x.wire is);
-        unkept = x.unkept;
-        steady = λ no. (x.steady no, refl);
-        output_steady = x.output_steady;
-        wire_steady = λ no. refl;
-      };
-      ordered = x.words;
+      causes = wider same (λ e. e) (alone refl) same (alone refl) x.causes;
       others = x.others;
     })
 
@@ -336,15 +164,6 @@ returns-in-Demo g c =
     obeyed_as c.args.orders (orders.Demo c.in-Demo.making) c.in-Demo.is (record {
       does = x.run;
       leaves = (refl, refl, refl, refl, x.outcomes);
-      causes = record {
-        unreadable = λ is. absurd (x.files is);
-        output = x.output;
-        unheard = λ is. absurd (x.wire is);
-        unkept = λ is. absurd (x.store is);
-        steady = λ no. (refl, refl);
-        output_steady = x.output_steady;
-        wire_steady = λ no. refl;
-      };
-      ordered = x.words;
+      causes = wider (alone refl) (never _) (alone refl) same (alone refl) x.causes;
       others = λ told k far seal. refl;
     })

@@ -1,4 +1,8 @@
-use Rattle.std.proofs.Common.{inr}
+use Rattle.std.proofs.Common.{inr, refl}
+use Rattle.cube_io.specs.Seen.{seen}
+use Rattle.cube_opening.specs.Opening.{flat_said}
+use Rattle.cube_opening.proofs.Causes.{same, alone, never, wider, no_memory, at_file, at_one}
+use Rattle.cube_app.proofs.Causes.{at_talk}
 use Rattle.cube_app.proofs.run.sum.Goals as goal
 
 pub returns-clause-answers : goal.returns-clause-answers
@@ -13,3 +17,12 @@ returns-clause-answers g c = inr (
   },
   record { asked = c.in-Ok.ensures.asks; steady = c.in-Ok.ensures.reads.steady },
 )
+
+pub returns-in-Err-clause-causes : goal.returns-in-Err-clause-causes
+returns-in-Err-clause-causes g c = wider same (never _) (alone refl) (alone refl) same (at_file (at_one flat_said c.args.name.now (seen g.F.Folder.state c.args.files.now c.open_flat.new.files) _ c.in-Err.ensures.err.unopened) c.in-Err.ensures.reads.steady_err)
+
+pub returns-in_default-clause-causes : goal.returns-in_default-clause-causes
+returns-in_default-clause-causes g c = no_memory c.close.ensures.0 (record { files = c.in-Ok.ensures.reads.steady; input = refl; out = refl; wire = refl })
+
+pub returns-clause-causes : goal.returns-clause-causes
+returns-clause-causes g c = at_talk (c.converse_by_sums-lines.result.0).ending c.report_talk.ensures.0 c.converse_by_sums-lines.ensures.input c.converse_by_sums-lines.ensures.output c.in-Ok.ensures.reads.steady refl
