@@ -1,11 +1,14 @@
 // What is said of a fact file that is refused.
 ghost use Rattle.std.specs.Prelude.{◌≡◌, ◌++◌, OnOk};
-ghost use Rattle.cube_notes.specs.Shown.{place_text};
+ghost use Rattle.cube_notes.specs.Shown.{line_text, place_text, row_text};
 
+use crate::choices::Choices;
+use crate::lines::line_of_record;
+use crate::nearest::push_nearest;
 use crate::shown::push_shown;
 use csv::ByteRecord;
 use cube_facts::{FactsFault, open_records, read_facts, read_flat};
-use cube_model::{Dims, NoMemory, Text};
+use cube_model::{Dimension, Dims, NoMemory, Text};
 use cube_text::UnitFault;
 use std::alloc::Global;
 
@@ -17,19 +20,20 @@ struct Row {
 }
 
 impl Row {
-    // The line in which it begins, from 1.
-    fn line(&self) -> u64 {
-        match self.record.position() {
-            Some(position) => position.line(),
-            None => 1,
-        }
-    }
-
     // What it has in a column.
     fn value(&self, column: &[u8]) -> Option<&[u8]> {
         let place = self.header.iter().position(|name| name == column)?;
         self.record.get(place)
     }
+}
+
+// The line, from 1, in which a record of a file begins.
+fn line_of(bytes: &[u8], record: &ByteRecord) -> u64 {
+    let taken = match record.position() {
+        Some(position) => position.byte(),
+        None => 0,
+    };
+    line_of_record(bytes, taken as usize)
 }
 
 // The record of this number from 1 behind the header, or the header itself for 0.
@@ -48,14 +52,46 @@ fn find_row(alloc: Global, bytes: &[u8], number: u64) -> Option<Row> {
     Some(Row { header, record })
 }
 
+fn push_line(text: &mut Text, line: u64) -> Result<(), NoMemory>
+    ensures { OnOk result (text.new ≡ text.old ++ line_text line) }
+{
+    text.extend(b" line ")?;
+    text.push_number(line)?;
+    text.extend(b": ")
+}
+
 /// Puts the place of a note: the file and the line.
 pub(crate) fn push_place(text: &mut Text, name: &Text, line: u64) -> Result<(), NoMemory>
     ensures { OnOk result (text.new ≡ text.old ++ place_text name.now line) }
 {
     text.extend(name.as_slice())?;
-    text.extend(b" line ")?;
-    text.push_number(line)?;
-    text.extend(b": ")
+    push_line(text, line)
+}
+
+// Puts the place of a note on a record: the file, the number of the row behind the header, and the line in which it begins.
+fn push_row(text: &mut Text, name: &Text, row: u64, line: u64) -> Result<(), NoMemory>
+    ensures { OnOk result (text.new ≡ text.old ++ row_text name.now row line) }
+{
+    text.extend(name.as_slice())?;
+    text.extend(b" row ")?;
+    text.push_number(row)?;
+    text.extend(b" is")?;
+    push_line(text, line)
+}
+
+// Puts where a fault is: a row, or the header for 0.
+fn push_where(
+    text: &mut Text,
+    name: &Text,
+    bytes: &[u8],
+    row: &Row,
+    number: u64,
+) -> Result<(), NoMemory> {
+    if number == 0 {
+        push_place(text, name, line_of(bytes, &row.header))
+    } else {
+        push_row(text, name, number, line_of(bytes, &row.record))
+    }
 }
 
 // The columns that there are.
@@ -92,11 +128,11 @@ fn decimals_of(dims: Option<&Dims>, column: &Text) -> Option<u32> {
     None
 }
 
-// The name of the dimension in a column.
-fn dimension_of<'a>(dims: Option<&'a Dims>, column: &Text) -> Option<&'a [u8]> {
+// The dimension in a column.
+fn dimension_of<'a>(dims: Option<&'a Dims>, column: &Text) -> Option<&'a Dimension> {
     for dimension in dims?.dimensions() {
         if dimension.column() == column.as_slice() {
-            return Some(dimension.name());
+            return Some(dimension);
         }
     }
     None
@@ -120,13 +156,46 @@ fn push_cause(
     }
 }
 
-fn push_unknown(text: &mut Text, dims: Option<&Dims>, column: &Text) -> Result<(), NoMemory> {
+// Names a dimension, and of its leaves those that are nearest to a value.
+fn push_leaves(
+    alloc: Global,
+    text: &mut Text,
+    dimension: &Dimension,
+    value: &[u8],
+) -> Result<(), NoMemory> {
+    text.extend(b" of the dimension ")?;
+    text.extend(dimension.name())?;
+    let levels = dimension.levels();
+    prove!(!levels.is_empty());
+    let leaves = Choices::Members(dimension.members(0));
+    push_nearest(alloc, text, value, leaves)
+}
+
+fn push_unknown(
+    alloc: Global,
+    text: &mut Text,
+    dims: Option<&Dims>,
+    row: &Row,
+    column: &Text,
+) -> Result<(), NoMemory> {
+    push_value(text, row, column)?;
     text.extend(b" is no member")?;
-    if let Some(name) = dimension_of(dims, column) {
-        text.extend(b" of the dimension ")?;
-        text.extend(name)?;
+    if let Some(dimension) = dimension_of(dims, column) {
+        let value = row.value(column.as_slice()).unwrap_or(b"");
+        push_leaves(alloc, text, dimension, value)?;
     }
     Ok(())
+}
+
+fn push_missing(
+    alloc: Global,
+    text: &mut Text,
+    header: &ByteRecord,
+    column: &Text,
+) -> Result<(), NoMemory> {
+    text.extend(b"the columns are ")?;
+    push_columns(text, header)?;
+    push_nearest(alloc, text, column.as_slice(), Choices::Columns(header))
 }
 
 // The number of the record that a fault is in; 0 is the header.
@@ -141,6 +210,7 @@ fn number_of(fault: &FactsFault) -> Option<u64> {
 }
 
 fn push_fault(
+    alloc: Global,
     text: &mut Text,
     dims: Option<&Dims>,
     row: &Row,
@@ -148,18 +218,13 @@ fn push_fault(
 ) -> Result<(), NoMemory> {
     match fault {
         FactsFault::Fields { .. } => push_lengths(text, row),
-        FactsFault::UnknownMember { column, .. } => {
-            push_value(text, row, column)?;
-            push_unknown(text, dims, column)
-        }
+        FactsFault::UnknownMember { column, .. } => push_unknown(alloc, text, dims, row, column),
         FactsFault::BadValue { column, cause, .. } => {
             push_value(text, row, column)?;
             push_cause(text, dims, column, *cause)
         }
-        _ => {
-            text.extend(b"the columns are ")?;
-            push_columns(text, &row.header)
-        }
+        FactsFault::MissingColumn { name } => push_missing(alloc, text, &row.header, name),
+        _ => Ok(()),
     }
 }
 
@@ -177,8 +242,8 @@ fn note_on_fault(
     let Some(row) = find_row(alloc, bytes, number) else {
         return Ok(text);
     };
-    push_place(&mut text, name, if number == 0 { 1 } else { row.line() })?;
-    push_fault(&mut text, dims, &row, fault)?;
+    push_where(&mut text, name, bytes, &row, number)?;
+    push_fault(alloc, &mut text, dims, &row, fault)?;
     text.push(b'\n')?;
     Ok(text)
 }

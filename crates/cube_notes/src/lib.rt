@@ -2,14 +2,25 @@
 //! A note is a line, or some, for standard error. It is empty where there is nothing more to say.
 #![tactic(auto)]
 
+mod choices;
 mod facts;
 mod guarding;
+mod limits;
+mod lines;
+mod nearest;
+mod queries;
 mod ranges;
 mod shown;
 mod tables;
+mod unknown;
+mod worked;
 
 pub use facts::{note_on_facts, note_on_flat};
 pub use guarding::note_on_policy;
+pub use limits::note_on_limit;
+pub use queries::note_on_query;
 pub use ranges::note_on_ranges;
 pub use shown::push_shown;
 pub use tables::note_on_table;
+pub use unknown::note_on_unknown;
+pub use worked::worked_notes;

@@ -1,5 +1,5 @@
 // What is said of a request that picks several members of a level.
-use crate::push_shown;
+use crate::shown::push_shown;
 use cube_model::{Dimension, Dims, NoMemory, Pick, Request, Text};
 use std::alloc::Global;
 

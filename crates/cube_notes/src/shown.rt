@@ -18,7 +18,8 @@ fn plain(byte: u8) -> u8
     }
 }
 
-fn push_plain(text: &mut Text, bytes: &[u8]) -> Result<(), NoMemory>
+/// Puts bytes behind a text, a question mark for each control byte.
+pub(crate) fn push_plain(text: &mut Text, bytes: &[u8]) -> Result<(), NoMemory>
     ensures { OnOk result (text.new ≡ text.old ++ map plain_of bytes.now) }
 {
     for byte in bytes {
