@@ -5,7 +5,10 @@ use cube_facts::read_facts;
 use cube_io::Folder;
 use cube_journal::Digest;
 use cube_model::{Dims, Text};
-use cube_notes::{note_on_facts, note_on_flat, note_on_policy, note_on_table};
+use cube_notes::{
+    note_on_facts, note_on_flat, note_on_limit, note_on_policy, note_on_query, note_on_table,
+    note_on_unknown,
+};
 use cube_opening::{CubeFiles, Report, Rules};
 use cube_policy::read_policy;
 use cube_seal::digest_of_values;
@@ -81,6 +84,60 @@ fn policy_note<F: Folder>(alloc: Global, cube: &CubeFiles, files: &mut F) -> Opt
     note_on_policy(alloc, &dims, &policy).ok()
 }
 
+fn unknown_note<F: Folder>(alloc: Global, cube: CubeNames, files: &mut F) -> Option<Text> {
+    let policy = cube.policy?;
+    let dims = dims_in(alloc, cube.dims, files)?;
+    let bytes = files.read_file(alloc, policy).ok()?;
+    note_on_unknown(alloc, policy, &dims, bytes.as_slice()).ok()
+}
+
+// Of a query that the report refuses.
+fn query_note<F: Folder>(
+    alloc: Global,
+    cube: &CubeFiles,
+    query: &Text,
+    files: &mut F,
+) -> Option<Text> {
+    let dims = dims_in(alloc, &cube.dims, files)?;
+    note_on_query(alloc, &dims, query.as_slice()).ok()
+}
+
+// Of the query or the cell that these orders name, where the report refuses it.
+fn asked_note<F: Folder>(
+    alloc: Global,
+    orders: &Orders,
+    text: &[u8],
+    files: &mut F,
+) -> Option<Text> {
+    if !text.starts_with(b"query: ") && !text.starts_with(b"cell: ") {
+        return None;
+    }
+    match orders {
+        Orders::Why {
+            files: cube,
+            query,
+            ..
+        } => query_note(alloc, cube, query, files),
+        Orders::Witness {
+            files: cube,
+            cell,
+            ..
+        }
+        | Orders::Twin {
+            files: cube,
+            cell,
+            ..
+        } => query_note(alloc, cube, cell, files),
+        _ => None,
+    }
+}
+
+// Of a limit that the report names.
+fn limit_note(alloc: Global, text: &[u8]) -> Option<Text> {
+    let note = note_on_limit(alloc, text).ok()?;
+    if note.is_empty() { None } else { Some(note) }
+}
+
 // Of a file of a cube that the report refuses.
 fn refused_note<F: Folder>(
     alloc: Global,
@@ -92,6 +149,8 @@ fn refused_note<F: Folder>(
         table_note(alloc, cube.dims, files)
     } else if text.starts_with(b"policy: not toml") {
         table_note(alloc, cube.policy?, files)
+    } else if text.starts_with(b"policy: unknown ") {
+        unknown_note(alloc, cube, files)
     } else if text.starts_with(b"facts: ") {
         facts_note(alloc, cube, files)
     } else {
@@ -113,6 +172,40 @@ fn either_note<F: Folder>(
     }
 }
 
+// Of a file that the report refuses.
+fn file_note<F: Folder>(
+    alloc: Global,
+    orders: &Orders,
+    text: &[u8],
+    files: &mut F,
+) -> Option<Text> {
+    match orders {
+        Orders::Sum { facts } => flat_note(alloc, facts, files),
+        Orders::Carry {
+            files: cube,
+            older,
+            ..
+        } => either_note(alloc, cube, older, text, files),
+        _ => refused_note(alloc, names_in(orders)?, text, files),
+    }
+}
+
+// Of what the report refuses: a limit, what the orders ask, or a file.
+fn refusal_note<F: Folder>(
+    alloc: Global,
+    orders: &Orders,
+    text: &[u8],
+    files: &mut F,
+) -> Option<Text> {
+    if let Some(note) = limit_note(alloc, text) {
+        return Some(note);
+    }
+    match asked_note(alloc, orders, text, files) {
+        Some(note) => Some(note),
+        None => file_note(alloc, orders, text, files),
+    }
+}
+
 /// What a person may want to know beside the report of a run of these orders, where there is something.
 pub fn note<F: Folder>(
     alloc: Global,
@@ -123,16 +216,7 @@ pub fn note<F: Folder>(
     let text = report.text.as_slice();
     match (orders, report.status) {
         (Orders::Check { files: cube }, 0) => policy_note(alloc, cube, files),
-        (Orders::Sum { facts }, 3) => flat_note(alloc, facts, files),
-        (
-            Orders::Carry {
-                files: cube,
-                older,
-                ..
-            },
-            3,
-        ) => either_note(alloc, cube, older, text, files),
-        (_, 3) => refused_note(alloc, names_in(orders)?, text, files),
+        (_, 3) => refusal_note(alloc, orders, text, files),
         _ => None,
     }
 }
