@@ -6,6 +6,7 @@ import csv
 import io
 import json
 import os
+import re
 import subprocess
 import sys
 import tempfile
@@ -13,6 +14,8 @@ import tempfile
 HERE = os.path.dirname(os.path.abspath(__file__))
 PAY = os.path.join(HERE, "..", "pay")
 CUBE = os.environ.get("CUBE", os.path.join(HERE, "..", "..", "cube"))
+# a note on a limit
+NOTE = re.compile(rb"\Alimit [a-z]+: .+\n")
 
 
 def cube(*words, given=""):
@@ -20,10 +23,10 @@ def cube(*words, given=""):
 
 
 def draft(facts, *words):
-    """The drafted text, or what is said on standard error."""
+    """The drafted text, or what is said on standard error behind a note on a limit."""
     ran = cube("draft", "--facts", facts, *words)
     assert (ran.returncode == 0) == (ran.stderr == b""), ran
-    return ran.returncode, (ran.stdout if ran.returncode == 0 else ran.stderr).decode()
+    return ran.returncode, (ran.stdout if ran.returncode == 0 else NOTE.sub(b"", ran.stderr)).decode()
 
 
 def written(folder, name, text):

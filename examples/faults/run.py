@@ -1,7 +1,7 @@
 #!/usr/bin/env python3
 """Faults of files and of queries, names in texts, and made cubes: what the program says of each, word for word.
 
-The cases stand in dimensions.py, policies.py and queries.py, each with what is expected by docs/FORMATS.md; made.py makes the cubes of
+The cases stand in dimensions.py, policies.py, queries.py and notes.py, each with what is expected by docs/FORMATS.md; made.py makes the cubes of
 `demo` once more, so that its summary can be held to what `check` and `ask` say of them. Each case that comes out otherwise is
 named, and then the script ends with status 1. Needs Python 3 alone, and a few seconds; the program is the environment's CUBE.
 """
@@ -17,6 +17,7 @@ sys.path.insert(0, str(pathlib.Path(__file__).resolve().parent.parent))
 
 import dimensions  # noqa: E402
 import made  # noqa: E402
+import notes  # noqa: E402
 import policies  # noqa: E402
 import queries  # noqa: E402
 from servers import CUBE, build  # noqa: E402
@@ -25,8 +26,12 @@ from small import PAY  # noqa: E402
 PATIENCE = 60
 # the first line of a reply: its status and the length of its body
 REPLY = re.compile(rb"(\d{3}) (\d+)\n")
-# a line of notes on a file that is no document
-NOTE = re.compile(rb"\A(?:dims|policy) line \d+: .*\n(?=(?:dims|policy): not toml\n\Z)", re.DOTALL)
+# the notes on a file that is no document, on a limit, and on what is unknown in a policy file
+NOTE = re.compile(
+    rb"\A(?:(?:dims|policy) line \d+: .*\n(?=(?:dims|policy): not toml\n\Z)|limit [a-z]+: [^\n]+\n(?=(?:dims|policy): limit )"
+    rb"|policy .*: .* is none of .*\n(?=policy: unknown [^\n]*\n\Z))",
+    re.DOTALL,
+)
 
 
 def as_bytes(text):
@@ -50,18 +55,23 @@ class Cases:
 
     def run(self, command, files, given=b"", more=()):
         """A run over files, and over a new journal where it takes one: its status, what it wrote, and its text."""
+        status, out, said = self.noted(command, files, given, more)
+        return status, out, NOTE.sub(b"", said)
+
+    def noted(self, command, files, given=b"", more=()):
+        """The same, with the notes before its text."""
         words = [CUBE, command]
         for kind, file in files.items():
             if self.held.get(kind) != file:
                 (self.folder / kind).write_bytes(as_bytes(file))
                 self.held[kind] = file
             words += [f"--{kind}", kind]
-        if command == "ask":
+        if command in ("ask", "why"):
             for left in self.folder.glob("journal*"):
                 left.unlink()
             words += ["--journal", "journal"]
         ran = subprocess.run([*words, *more], cwd=self.folder, input=as_bytes(given), capture_output=True, timeout=PATIENCE, check=False)
-        return ran.returncode, ran.stdout, NOTE.sub(b"", ran.stderr)
+        return ran.returncode, ran.stdout, ran.stderr
 
     def ask(self, files, lines):
         """The status and the body of the reply to each line."""
@@ -149,6 +159,27 @@ def names(cases):
     cases.asked("other texts are no names", queries.NAMED, queries.NO_NAMES)
 
 
+# ---- notes
+
+def notes_on_files(cases):
+    for file, said in (*notes.LINES, *notes.FACTS):
+        cases.hold(f"notes on a fact file: {shown(file)}", (3, b"", as_bytes(said)), cases.noted("check", {**PAY, "facts": file}))
+    for policy, key, said in notes.POLICIES:
+        text = f"policy {key}: {said}\npolicy: unknown {key}\n"
+        cases.hold(f"notes on a policy file: {shown(policy)}", (3, b"", as_bytes(text)), cases.noted("check", {**PAY, "policy": policy}))
+    for files, said in notes.LIMITS:
+        cases.hold(f"notes on a limit: {shown(said)}", (3, b"", as_bytes(said)), cases.noted("check", files))
+
+
+def notes_on_queries(cases):
+    """The note before the text of a query that is refused, where the journal is new."""
+    for query, note in notes.QUERIES:
+        status, out, said = cases.noted("why", PAY, more=("--query", query))
+        front, _, text = said.partition(b"query: ")
+        cases.hold(f"notes on a query: {query}", (3, b"", as_bytes(note), True), (status, out, front[-len(note):] if note else b"", bool(text)))
+        cases.hold(f"no other note on a query: {query}", as_bytes(note), b"".join(line for line in front.splitlines(keepends=True) if not line.startswith(b"journal")))
+
+
 # ---- made cubes
 
 def made_texts(cases):
@@ -181,7 +212,7 @@ def demos(cases):
         cases.hold(case, (0, summary.encode(), b""), cases.run("demo", {}, more=("--number", str(number), "--size", str(size))))
 
 
-CHECKS = (dimension_files, policy_files, query_texts, names, made_texts, demos)
+CHECKS = (dimension_files, policy_files, query_texts, names, notes_on_files, notes_on_queries, made_texts, demos)
 
 
 def main():
@@ -193,7 +224,7 @@ def main():
     if cases.wrong:
         print(f"faults: {cases.wrong} of {cases.count} cases came out otherwise", file=sys.stderr)
         return 1
-    print(f"faults: {cases.count} cases of files, queries, names and made cubes")
+    print(f"faults: {cases.count} cases of files, queries, names, notes and made cubes")
     return 0
 
 

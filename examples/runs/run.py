@@ -232,9 +232,9 @@ def refused_policy_files_are_named():
 def notes_show_what_a_report_has_no_room_for():
     header = "city,month,pay,hours\n"
     for facts, note in (
-        (header + "Lyon,Jan,1,1\n\"Ly\non\",Jan,1,1\nRo\x1bme,Jan,1,1\n", 'f line 3: city "Ly?on" is no member of the dimension region'), (header + "Lyon,Mar,1,1\n", 'f line 2: month "Mar" is no member of the dimension time'),
-        (header + "Lyon,Jan,1.25,1\n", 'f line 2: pay "1.25" has more decimals than the 0 of its measure'), (header + "Lyon,Jan,x,1\n", 'f line 2: pay "x" is not a number'),
-        (header + f"Lyon,Jan,{'9' * 200},1\n", f'f line 2: pay "{"9" * 80}".. is too large'), (header + "Lyon,Jan,1\n", "f line 2: 3 fields, and the header has 4"), ("city;month;pay;hours\nLyon;Jan;1;1\n", 'f line 1: the columns are "city;month;pay;hours"'),
+        (header + "Lyon,Jan,1,1\n\"Ly\non\",Jan,1,1\nRo\x1bme,Jan,1,1\n", 'f row 2 is line 3: city "Ly?on" is no member of the dimension region, did you mean "Lyon"?'), (header + "Lyon,Mar,1,1\n", 'f row 1 is line 2: month "Mar" is no member of the dimension time'),
+        (header + "Lyon,Jan,1.25,1\n", 'f row 1 is line 2: pay "1.25" has more decimals than the 0 of its measure'), (header + "Lyon,Jan,x,1\n", 'f row 1 is line 2: pay "x" is not a number'),
+        (header + f"Lyon,Jan,{'9' * 200},1\n", f'f row 1 is line 2: pay "{"9" * 80}".. is too large'), (header + "Lyon,Jan,1\n", "f row 1 is line 2: 3 fields, and the header has 4"), ("city;month;pay;hours\nLyon;Jan;1;1\n", 'f line 1: the columns are "city;month;pay;hours"'),
     ):
         ran = Room({**PAY, "f": facts}).run(CHECK)
         assert ran.returncode == 3 and ran.stderr.decode().startswith(f"{note}\n"), (facts, ran)
