@@ -1,4 +1,6 @@
 // What is said of a policy file in which a key or a name is unknown.
+ghost use Rattle.std.specs.Prelude.{◌<◌, length};
+
 use crate::choices::{Choices, Unknown};
 use crate::shown::push_plain;
 use cube_dims::{find_dimension, find_level};
