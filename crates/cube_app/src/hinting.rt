@@ -1,10 +1,9 @@
-// For a person who types queries: which members a range picks, ahead of its reply.
+// For a person who types queries: which members a range picks, or what to write in the place of a query that is none, ahead of the reply.
 ghost use Rattle.std.specs.Prelude.{◌≡◌};
 
 use cube_io::{Failed, Source};
 use cube_model::Dims;
-use cube_notes::note_on_ranges;
-use cube_query::read_request;
+use cube_notes::note_on_query;
 use std::alloc::Global;
 use std::io::Write;
 
@@ -31,18 +30,12 @@ impl<I: Source + Drop, W: Write + Drop> HintingSource<I, W> {
     }
 }
 
-// Says which members a line that was typed picks, where it is a range.
+// Says of a line that was typed what a person may want to know ahead of its reply.
 fn hint<W: Write>(alloc: Global, dims: &Dims, piece: &[u8], notes: &mut W) {
-    if !piece.starts_with(b"range ") {
-        return;
-    }
     let Some(line) = piece.strip_suffix(b"\n") else {
         return;
     };
-    let Ok(request) = read_request(alloc, dims, line) else {
-        return;
-    };
-    if let Ok(note) = note_on_ranges(alloc, dims, &request) {
+    if let Ok(note) = note_on_query(alloc, dims, line) {
         let _ = notes.write_all(note.as_slice());
     }
 }
