@@ -23,7 +23,7 @@ import time
 
 HERE = os.path.dirname(os.path.abspath(__file__))
 EXAMPLES = os.path.join(HERE, "..", "examples")
-sys.path.insert(0, EXAMPLES)
+sys.path.insert(0, os.path.join(HERE, "..", "tests"))
 
 from servers import serving  # noqa: E402
 

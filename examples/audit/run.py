@@ -19,8 +19,8 @@ import tempfile
 import time
 from fractions import Fraction
 
-HERE = pathlib.Path(__file__).resolve().parent
-sys.path[:0] = [str(HERE.parent), str(HERE.parent / "fuzz")]
+TESTS = pathlib.Path(__file__).resolve().parents[2] / "tests"
+sys.path[:0] = [str(TESTS), str(TESTS / "fuzz")]
 
 import asks  # noqa: E402
 from checks import Play  # noqa: E402

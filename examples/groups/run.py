@@ -13,13 +13,12 @@ import sys
 import tempfile
 import urllib.parse
 
-HERE = pathlib.Path(__file__).resolve().parent
-sys.path.insert(0, str(HERE.parent))
+TOP = pathlib.Path(__file__).resolve().parents[2]
+sys.path.insert(0, str(TOP / "tests"))
 
 from servers import CUBE, Wrong, build, check, serving  # noqa: E402
 from small import PAY  # noqa: E402
 
-TOP = HERE.parent.parent
 PATIENCE = 120
 ASKS = 1000
 MONTHS = "slice pay by time.month"

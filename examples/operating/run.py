@@ -13,7 +13,7 @@ import sys
 import tempfile
 
 TOP = pathlib.Path(__file__).resolve().parent.parent.parent
-sys.path.insert(0, str(TOP / "examples"))
+sys.path.insert(0, str(TOP / "tests"))
 
 from servers import CUBE, Wrong, build, check  # noqa: E402
 

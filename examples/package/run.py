@@ -23,7 +23,7 @@ import urllib.parse
 import urllib.request
 
 sys.dont_write_bytecode = True
-sys.path.insert(0, str(pathlib.Path(__file__).resolve().parent.parent))
+sys.path.insert(0, str(pathlib.Path(__file__).resolve().parents[2] / "tests"))
 
 from servers import Wrong, address_of, check  # noqa: E402
 from calls import allow_only, allowed_by  # noqa: E402

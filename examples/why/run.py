@@ -10,7 +10,7 @@ import sys
 import tempfile
 
 HERE = pathlib.Path(__file__).resolve().parent
-sys.path.insert(0, str(HERE.parent))
+sys.path.insert(0, str(HERE.parents[1] / "tests"))
 
 from servers import CUBE, Wrong, build, check  # noqa: E402
 from small import GRID, PAY  # noqa: E402

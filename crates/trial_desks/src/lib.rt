@@ -1,7 +1,7 @@
 //! Trials of an engine over a store that fails, and over each image that a crash may leave of a log.
 //!
 //! There is nothing here but tests, each of something that no clause of the crates below says. What an engine and groups answer
-//! over a store that works is tried over the program as it is built: `examples/runs`, `examples/groups`.
+//! over a store that works is tried over the program as it is built: `tests/runs`, `examples/groups`.
 #![tactic(auto)]
 
 #[cfg(test)]

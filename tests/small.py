@@ -1,4 +1,4 @@
-"""Small cubes that scripts of examples/ ask, by name of their files: pay and hours of three cities in two months, and a grid of links."""
+"""Small cubes that scripts of tests/ and examples/ ask, by name of their files: pay and hours of three cities in two months, and a grid of links."""
 
 PAY = {
     "dims": """[[dimension]]

@@ -19,8 +19,9 @@ import tempfile
 import threading
 import time
 
-EXAMPLES = os.path.join(os.path.dirname(os.path.abspath(__file__)), "..")
-sys.path.insert(0, EXAMPLES)
+TESTS = os.path.dirname(os.path.dirname(os.path.abspath(__file__)))
+EXAMPLES = os.path.join(TESTS, "..", "examples")
+sys.path.insert(0, TESTS)
 
 from servers import CUBE, Wrong, address_of, build, check, start  # noqa: E402
 

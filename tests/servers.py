@@ -1,4 +1,4 @@
-"""The program as the scripts of examples/ start it: CUBE of the environment, or the one that stands above."""
+"""The program as the scripts of tests/ and examples/ start it: CUBE of the environment, or the one that stands above."""
 
 import contextlib
 import os

@@ -5,7 +5,7 @@
 # nothing more.
 set -eu
 here=$(cd "$(dirname "$0")" && pwd)
-pay=$here/../pay
+pay=$here/../../examples/pay
 cube=${CUBE:-$here/../../cube}
 work=$(mktemp -d)
 trap 'rm -rf "$work"' EXIT

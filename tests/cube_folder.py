@@ -1,4 +1,4 @@
-"""A cube of small files in a folder, with journals beside them, as scripts of examples/ ask it."""
+"""A cube of small files in a folder, with journals beside them, as scripts of tests/ and examples/ ask it."""
 
 import subprocess
 

@@ -23,7 +23,7 @@ sys.path.insert(0, str(HERE.parent))
 
 from servers import CUBE, Wrong, build, check, serving  # noqa: E402
 
-PAY = HERE.parent / "pay"
+PAY = HERE.parents[1] / "examples" / "pay"
 FILES = ["--dims", f"{PAY}/dims.toml", "--facts", f"{PAY}/facts.csv", "--policy", f"{PAY}/policy.toml"]
 PATIENCE = 60
 NOBODY = 65_534

@@ -17,8 +17,9 @@ import tempfile
 import time
 from concurrent.futures import ThreadPoolExecutor
 
-EXAMPLES = os.path.join(os.path.dirname(os.path.abspath(__file__)), "..")
-sys.path.insert(0, EXAMPLES)
+TESTS = os.path.dirname(os.path.dirname(os.path.abspath(__file__)))
+EXAMPLES = os.path.join(TESTS, "..", "examples")
+sys.path.insert(0, TESTS)
 
 from servers import Wrong, address_of, build, check, start  # noqa: E402
 
