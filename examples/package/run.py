@@ -235,7 +235,7 @@ def wait_for(terminal, text):
 def the_licences(package, _):
     text = package.path("usr/share/doc/cube/copyright").read_text()
     own = {path.name for path in (TOP / "crates").iterdir()}
-    needs = {word for line in (TOP / "crates.txt").read_text().splitlines() for word in line.split(":")[1].split()} - own
+    needs = {word for line in (TOP / "crates.txt").read_text().splitlines() for word in line.split("#")[0].partition(":")[2].split()} - own
     check(len(needs) > 9, f"crates.txt has only {needs} from elsewhere")
     named = {name.removesuffix("/*") for line in re.findall(r"^Files: (.*)$", text, re.MULTILINE) for name in line.split()}
     check(needs < named, f"no licence of {needs - named} is told")
