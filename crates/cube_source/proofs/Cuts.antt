@@ -51,7 +51,7 @@ keys_whole g c = ap (λ (is : List ℕ). in_order (map (key_at g c) is)) (filter
 
 -- ---- blocks and cells
 
-first_in : (is : List ℕ) (j : ℕ) → IsIn j is → IsIn (get_or is 0 0) is
+pub first_in : (is : List ℕ) (j : ℕ) → IsIn j is → IsIn (get_or is 0 0) is
 first_in [] j h = absurd h
 first_in (i ∷ is) j h = inl refl
 

@@ -14,4 +14,4 @@ pub mod Growing
 pub mod Tables
 pub mod Counted
 pub mod Contained
-pub mod AllCut
+pub mod Whole

@@ -14,16 +14,13 @@ ghost use Rattle.cube_source.specs.Objects.{IsPlaced, of_measure};
 
 use crate::blocks::{meets, mixed_places, rows_at};
 use crate::containing::is_contained;
-use crate::cutting::are_all_cut;
+use crate::parting::is_all_parted;
 use crate::places::{finest, in_slice, key_of, touches};
 use crate::protecting::is_guarded;
 use cube_core::Core;
 use cube_lattice::cuboids_below;
 use cube_model::{Cell, Key, Levels, Method, NoMemory, Object, Policy, Row};
 use std::alloc::Global;
-
-/// Where a policy has more objects than so many, it is looked first whether all cells are parted, cuboid by cuboid.
-const FEW_OBJECTS: usize = 4;
 
 /// The verdict on a source cuboid.
 #[derive(Drop)]
@@ -80,7 +77,7 @@ fn uncut_row(
 }
 
 /// Whether one of the places that are not flagged is in the slice of an object.
-fn any_unmixed(core: &Core, object: &Object, mixed: &[bool]) -> bool
+pub(crate) fn any_unmixed(core: &Core, object: &Object, mixed: &[bool]) -> bool
     requires mixed { length mixed.now ≡ length core.now.shape.points }
     requires slice { Each (IsWithin core.now.dims) object.now.slice }
     ensures { result ≡ list_any (λ place. not (slice_index_or mixed.now place false) && in_slice (bare core.now) object.now place) (places (bare core.now)) }
@@ -144,7 +141,7 @@ fn uncut_under(
 }
 
 /// The same, where each cell is parted that earlier objects of the measure protect: an object that one of these contains is
-/// passed over.
+/// passed over. So is one of which all cells are parted.
 fn uncut_new(
     alloc: Global,
     core: &Core,
@@ -162,6 +159,9 @@ fn uncut_new(
     if is_contained(core, earlier, object) {
         return Ok(None);
     }
+    if is_all_parted(alloc, core, blocks, object)? {
+        return Ok(None);
+    }
     uncut_under(alloc, core, blocks, object)
 }
 
@@ -177,9 +177,6 @@ fn uncut_lattice(
     requires objects { Each (IsPlaced core.now.dims) objects.now }
     ensures { IfOk result (λ found. found ≡ find (λ cell. not (is_parted (bare core.now) blocks.now cell)) (flat_map (under (bare core.now)) (of_measure measure objects.now))) }
 {
-    if objects.len() > FEW_OBJECTS && are_all_cut(alloc, core, blocks, objects, measure)? {
-        return Ok(None);
-    }
     'objects: for number in 0..objects.len() {
         let object = &objects[number];
         if object.measure == measure {
@@ -260,9 +257,8 @@ fn first_uncut(
 /// does not cut: in the order of the objects, then of the cuboids by number, then of the keys; of a
 /// measure under the parity rule in the order of the places.
 ///
-/// It groups all places once by the cuboid, and once more for each cuboid at or below an object at which a
-/// place of the object's slice has only places of its own cell beside it. It lists no protected cells, and
-/// passes over an object that an earlier one contains.
+/// It groups all places once by the cuboid, and looks at them once for each object that no earlier one contains: that tells
+/// whether a cell of it is not cut. The first such object alone is searched cuboid by cuboid. It lists no protected cells.
 pub fn judge(
     alloc: Global,
     core: &Core,

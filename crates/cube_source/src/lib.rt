@@ -7,11 +7,11 @@
 mod blocks;
 mod containing;
 mod counting;
-mod cutting;
 mod fresh;
 mod judging;
 mod listing;
 mod pair;
+mod parting;
 mod places;
 mod protecting;
 mod slices;
