@@ -245,18 +245,17 @@ def measure_refusal(bench):
     """One refused query of some 50 bytes.
 
     The objects but one are below the last dimension, each in a slice that no other contains, so none is passed over. The query
-    leaves this dimension out: each of its blocks has all its leaves, so each cell of these objects is cut, and that is found
-    cuboid by cuboid for each object. The last object alone has a cell that is not cut. The time grows by objects, cuboids and
-    points.
+    leaves this dimension out: each of its blocks has all its leaves, so each cell of these objects is cut, and that is found by
+    one look at all places for each object. The last object alone has a cell that is not cut, and it is searched cuboid by
+    cuboid. The time grows by objects and points, and for this one object by cuboids.
 
     It is worse where the last dimension has two leaves and three levels: blocks of two places cost most, since each place is
-    compared in all dimensions, and 192 of the 256 cuboids are below each object in the place of 128.
+    compared in all dimensions.
     """
     rows = []
     for shape in (FOUND, WORSE):
         folder = make_refusing(bench, shape)
         opened, ran = ask_refused(bench, folder, []), ask_refused(bench, folder, [slice_without(shape[1], ())])
-        check(ran.stopped or ran.seconds > 2 * opened.seconds, "the refused query costs no more than the opening")
         asked = f"{shape[0]}, {bench.sizes['objects']} objects, beyond the opening"
         rows.append(row("a refused query", asked, ran, "0.1", "5.2 to 6.0", opened))
     return rows
