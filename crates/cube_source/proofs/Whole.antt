@@ -1,4 +1,4 @@
--- Where each place of an object's slice stands in a block that has places apart at the object's cuboid, no cell of the object is whole.
+-- Where each place of an object's slice stands in a block that has places apart at its cuboid or one above, no cell of the object is whole.
 use Rattle.std.specs.List.{list_any}
 use Rattle.std.proofs.Common.{◌≡◌, ℕ, ◌<◌, Bool, true, false, not, ◌&&◌, List, [], length, map, filter, find, get_or, None, sym, ap, ◌∙◌, subst}
 use Rattle.std.proofs.lemmas.Bool.{false≢true, and_parts, and_from, not-true, not_from_false}
@@ -12,6 +12,7 @@ use Rattle.cube_model.specs.Cubes.{Public, Each, IsHierarchy, IsPoint, ancestors
 use Rattle.cube_model.specs.Dims.{NamedMeasure, plains}
 use Rattle.cube_model.specs.Protection.{listed, in_slice, touched, under}
 use Rattle.cube_model.proofs.Filled.{cores_are_worlds}
+use Rattle.cube_model.proofs.Finer.{is_finer_trans}
 use Rattle.cube_model.proofs.Members.{tested, filter_has, IsIn-flat_map, same_refl}
 use Rattle.cube_model.proofs.Objects.{below_finer, touched_is}
 use Rattle.cube_model.proofs.Orders.{coarser_together, place_of}
@@ -72,14 +73,14 @@ flagged : (g : Public) (o : Object) (flags : List Bool) (i : ℕ) → list_any (
 flagged g o flags i none l s = tested (get_or flags i false) (λ e. e)
     (λ e. absurd (false≢true (sym none ∙ any_has (λ i. not (get_or flags i false) && in_slice g o i) i (places g) (place_of g i l) (and_from (not (get_or flags i false)) (in_slice g o i) (not_from_false (get_or flags i false) e) s))))
 
--- where each place of the slice is flagged at the object's cuboid, no cell of the object is whole
-pub none_whole : (c : Core) (o : Object) (blocks : List Row) (flags : List Bool) → IsCore c → AreBlocks (length c.shape.points) blocks → AreFlags (length c.shape.points) (is_mixed (bare c) o.levels blocks) flags
+-- where each place of the slice is flagged at a cuboid that the object stands at or below, no cell of the object is whole
+pub none_whole : (c : Core) (o : Object) (a : List ℕ) (blocks : List Row) (flags : List Bool) → IsCore c → AreBlocks (length c.shape.points) blocks → is_finer o.levels a ≡ true → AreFlags (length c.shape.points) (is_mixed (bare c) a blocks) flags
     → list_any (λ i. not (get_or flags i false) && in_slice (bare c) o i) (places (bare c)) ≡ false → find (λ t. not (is_parted (bare c) blocks t)) (under (bare c) o) ≡ None
-none_whole c o blocks flags ok are f none =
+none_whole c o a blocks flags ok are under_a f none =
     let g = bare c in
     none_from (λ t. not (is_parted g blocks t)) (under g o) (λ t m.
     let k = IsIn-flat_map (touched g o) t (cuboids_below o.levels) m in
     let d = touched_is g o k.0 t k.2 in
     let finer = subst (λ (ls : List ℕ). is_finer ls o.levels ≡ true) d.0 (below_finer o.levels k.0 k.1) in
-    let mixed = mixed_below c o.levels t.levels blocks d.1.0 ok are finer (sym (f.at d.1.0 d.1.1) ∙ flagged g o flags d.1.0 none d.1.1 d.1.2) in
+    let mixed = mixed_below c a t.levels blocks d.1.0 ok are (is_finer_trans t.levels o.levels a finer under_a) (sym (f.at d.1.0 d.1.1) ∙ flagged g o flags d.1.0 none d.1.1 d.1.2) in
     ap not (parted_by g blocks t d.1.0 are d.1.1 d.1.3 mixed))

@@ -8,13 +8,13 @@ ghost use Rattle.cube_model.specs.Dims.{plains};
 ghost use Rattle.cube_model.specs.Policies.{IsPolicy, IsWithin};
 ghost use Rattle.cube_model.specs.Protection.{in_slice, touched, under, uncut, core_cell};
 ghost use Rattle.cube_model.specs.Protection as protection;
-ghost use Rattle.cube_source.specs.Blocks.{bare, is_parted, row_cell, AreBlocks};
+ghost use Rattle.cube_source.specs.Blocks.{bare, is_mixed, is_parted, row_cell, AreBlocks, AreFlags};
 ghost use Rattle.cube_source.specs.Judged.{judged_of};
 ghost use Rattle.cube_source.specs.Objects.{IsPlaced, of_measure};
 
 use crate::blocks::{meets, mixed_places, rows_at};
 use crate::containing::is_contained;
-use crate::parting::is_all_parted;
+use crate::parting::{Mixed, first_mixed, is_all_parted};
 use crate::places::{finest, in_slice, key_of, touches};
 use crate::protecting::is_guarded;
 use cube_core::Core;
@@ -146,10 +146,12 @@ fn uncut_new(
     alloc: Global,
     core: &Core,
     blocks: &[Row],
+    mixed: &Mixed,
     earlier: &[Object],
     object: &Object,
 ) -> Result<Option<Cell>, NoMemory>
     requires blocks { AreBlocks (length core.now.shape.points) blocks.now }
+    requires mixed { AreFlags (length core.now.shape.points) (is_mixed (bare core.now) mixed.now.levels blocks.now) mixed.now.flags.items }
     requires earlier { Each (IsPlaced core.now.dims) earlier.now }
     requires levels { are_levels (plains core.now.dims) object.now.levels ≡ true }
     requires slice { Each (IsWithin core.now.dims) object.now.slice }
@@ -159,7 +161,7 @@ fn uncut_new(
     if is_contained(core, earlier, object) {
         return Ok(None);
     }
-    if is_all_parted(alloc, core, blocks, object)? {
+    if is_all_parted(alloc, core, blocks, mixed, object)? {
         return Ok(None);
     }
     uncut_under(alloc, core, blocks, object)
@@ -177,10 +179,18 @@ fn uncut_lattice(
     requires objects { Each (IsPlaced core.now.dims) objects.now }
     ensures { IfOk result (λ found. found ≡ find (λ cell. not (is_parted (bare core.now) blocks.now cell)) (flat_map (under (bare core.now)) (of_measure measure objects.now))) }
 {
+    let mixed = first_mixed(alloc, core, blocks, objects)?;
     'objects: for number in 0..objects.len() {
         let object = &objects[number];
         if object.measure == measure {
-            if let Some(cell) = uncut_new(alloc, core, blocks, &objects[..number], object)? {
+            if let Some(cell) = uncut_new(
+                alloc,
+                core,
+                blocks,
+                &mixed,
+                &objects[..number],
+                object,
+            )? {
                 return Ok(Some(cell));
             }
         }
@@ -258,7 +268,7 @@ fn first_uncut(
 /// measure under the parity rule in the order of the places.
 ///
 /// It groups all places once by the cuboid, and looks at them once for each object that no earlier one contains: that tells
-/// whether a cell of it is not cut. The first such object alone is searched cuboid by cuboid. It lists no protected cells.
+/// whether a cell of it is not cut. The first of which one is not is searched cuboid by cuboid. It lists no protected cells.
 pub fn judge(
     alloc: Global,
     core: &Core,
