@@ -41,8 +41,8 @@ use Rattle.cube_journal.specs.declared.fault.OpenFault.TheVariants as opened
 use Rattle.cube_journal.proofs.KeptBytes.{kept_recovers}
 use Rattle.cube_journal.proofs.LineFacts.{lines_split}
 use Rattle.cube_journal.proofs.Longer.{logs_grow}
-use Rattle.cube_engine.specs.declared.fault.EngineFault.{EngineFault}
-use Rattle.cube_engine.specs.declared.fault.EngineFault.TheVariants.{Inadmissible, NoMemory}
+use Rattle.cube_engine.specs.declared.fault.StartFault.{StartFault}
+use Rattle.cube_engine.specs.declared.fault.StartFault.TheVariants.{Inadmissible, NoMemory}
 use Rattle.cube_rollup.specs.Rollups.{entry_of}
 use Rattle.cube_engine.specs.Books.{Holding}
 use Rattle.cube_engine.specs.Kept.{digest_for, written, first_entry, by_left, judged_in, history_of, GivesHistory, IsExact, RecoversWithin, IsWithin, MayEnter, IsTail, IsKept}
@@ -213,14 +213,14 @@ open_fault c p bytes (opened.Damaged line) is = (is.0, ap (judged_in c p) is.1)
 open_fault c p bytes (opened.OtherCube kept now) is = (is.0, ap (judged_in c p) is.1)
 open_fault c p bytes opened.NoMemory is = tt
 
-left_is : (x : Left) (said : Result (List Entry) EngineFault) (bytes : List ℕ) (e : EngineFault) → length bytes ≤ 2 ^ 28 → said ≡ by_left x → by_left x ≡ Err e → IsStartFault said bytes e
+left_is : (x : Left) (said : Result (List Entry) StartFault) (bytes : List ℕ) (e : StartFault) → length bytes ≤ 2 ^ 28 → said ≡ by_left x → by_left x ≡ Err e → IsStartFault said bytes e
 left_is (Leaves h) said bytes e short is err = absurd (cc)
 left_is (Stops n) said bytes e short is err = subst (IsStartFault said bytes) (same (Inadmissible n) e err) (short, is)
   where
-    same : (x y : EngineFault) → ◌≡◌ {A = Result (List Entry) EngineFault} (Err x) (Err y) → x ≡ y
+    same : (x y : StartFault) → ◌≡◌ {A = Result (List Entry) StartFault} (Err x) (Err y) → x ≡ y
     same x y e = cc
 
-pub judge_fault : (c : Core) (p : Policy) (bytes : List ℕ) (es : List Entry) (e : EngineFault) → length bytes ≤ 2 ^ 28 → written c p bytes ≡ Ok es → (e ≡ NoMemory) ⊎ (by_left (left (shown c p) [] first_entry es) ≡ Err e) → IsStartFault (history_of c p bytes) bytes e
+pub judge_fault : (c : Core) (p : Policy) (bytes : List ℕ) (es : List Entry) (e : StartFault) → length bytes ≤ 2 ^ 28 → written c p bytes ≡ Ok es → (e ≡ NoMemory) ⊎ (by_left (left (shown c p) [] first_entry es) ≡ Err e) → IsStartFault (history_of c p bytes) bytes e
 judge_fault c p bytes es e short is (inl none) = subst (IsStartFault (history_of c p bytes) bytes) (sym none) tt
 judge_fault c p bytes es e short is (inr err) = left_is (left (shown c p) [] first_entry es) (history_of c p bytes) bytes e short (ap (judged_in c p) is) err
 

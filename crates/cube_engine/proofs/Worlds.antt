@@ -27,20 +27,15 @@ use Rattle.cube_model.specs.Verdicts.{verdict, IsAdmissible}
 use Rattle.cube_model.proofs.Filled.{cores_are_worlds}
 use Rattle.cube_model.proofs.Growth.{extends_refl, grown_grows}
 use Rattle.cube_model.proofs.Worlds.{later_changes, admissible_next}
-use Rattle.cube_io.specs.Desks.{Answered}
-use Rattle.cube_engine.specs.Engines.{Engine, book_of, rooms_of}
+use Rattle.cube_io.specs.Seen.{StoreState}
 use Rattle.cube_query.specs.Faults.{request_of}
 use Rattle.cube_query.specs.declared.fault.RequestFault.{RequestFault}
 use Rattle.cube_query.proofs.Valid.{read_is_valid}
+use Rattle.cube_engine.specs.Books.{Book, AnswersOne}
+use Rattle.cube_engine.specs.Worlds.{IsRuled, HidesCells, twin_of}
 use Rattle.cube_engine.specs.Steps.{by_words, in_words, reply_where_read, history_where_read, given_reply, given_history, manner}
-use Rattle.cube_engine.specs.Worlds.{IsRuled, first_history, twin_of, Opens}
 use Rattle.cube_engine.proofs.Alone.{sides, own_reply, other_reply}
 use Rattle.cube_engine.proofs.Named.{valid_under}
-
--- the same of a core and a policy
-record IsTwin (c : Core) (p : Policy) (old new : Engine) (a : Ask) (reply : Reply) (m : ℕ) (t : Cell) : Type 0 where
-  same_reply : (o : Outcome) → new.outcomes ≡ old.outcomes ++ o ∷ [] → (manner c.dims).reply (alone (twin (world c p) m (changes (shown c p) new.history m t)) old.history) a o ≡ reply
-  other_sum : sum_of (twin (world c p) m (changes (shown c p) new.history m t)) m t ≡ sum_of (world c p) m t +ℤ pos 1
 
 -- every text of a request is one that is valid in the cube
 abbrev pub Reads : Dims → Public → Type 0
@@ -148,33 +143,20 @@ ask_stays s g h a o adm = go (same [] (aim a.group))
     go true = question_stays s g h a.question o adm
     go false = adm
 
--- ---- a turn of an engine
+-- ---- a question to a book
 
-last_same : {X : Type 0} (xs : List X) (x y : X) → xs ++ x ∷ [] ≡ xs ++ y ∷ [] → x ≡ y
-last_same [] x y e = cc
-last_same (z ∷ xs) x y e = last_same xs x y (ap (drop 1) e)
-
-at_turn : (c : Core) (p : Policy) (old new : Engine) (a : Ask) (reply : Reply) (faults faults' : ℕ) → old.core ≡ c → old.policy ≡ p → new.core ≡ c → new.policy ≡ p → IsWorld (world c p) → Reads c.dims (shown c p) → IsAdmissible (shown c p) new.history
-    → Answered (manner c.dims) a (alone (world c p) old.history) (alone (world c p) new.history) old.outcomes new.outcomes faults faults' reply → (m : ℕ) (t : Cell) → IsIn t (protected (shown c p) m) → IsTwin c p old new a reply m t
-at_turn c p old new a reply faults faults' oc op nc np ok reads adm answered m t within = record {
-  same_reply = λ o e.
-      let same : o ≡ answered.outcome = last_same old.outcomes o answered.outcome (sym e ∙ answered.added) in
-      let moved : behind_ask c.dims (shown c p) old.history a answered.outcome ≡ new.history = sym (ap first_history (next_alone c.dims (world c p) old.history a answered.outcome)) ∙ sym (ap first_history answered.moved) in
-      ap ((manner c.dims).reply (alone (twin (world c p) m (changes (shown c p) new.history m t)) old.history) a) same
-      ∙ room_open c.dims (world c p) old.history new.history a answered.outcome m t ok reads adm (subst (λ (h : List Entry). Extends h new.history) (sym moved) (extends_refl new.history)) within
-      ∙ sym answered.replied;
-  other_sum = other_sum (world c p) new.history m t ok adm within;
-}
-
-pub opened : (old new : Engine) (a : Ask) (reply : Reply) (faults faults' : ℕ) → IsRuled (book_of new) → new.core ≡ old.core → new.policy ≡ old.policy → Answered (manner old.core.dims) a (rooms_of old) (rooms_of new) old.outcomes new.outcomes faults faults' reply → Opens old new a reply
-opened old new a reply faults faults' rules core policy answered m t within =
-    let ok : IsWorld (world new.core new.policy) = cores_are_worlds new.core new.policy rules.core rules.policy.methods in
-    let c = new.core in
-    let p = new.policy in
-    let there : Answered (manner c.dims) a (alone (world c p) old.history) (alone (world c p) new.history) old.outcomes new.outcomes faults faults' reply =
-    subst (λ (q : Policy). Answered (manner c.dims) a (alone (world c q) old.history) (alone (world c p) new.history) old.outcomes new.outcomes faults faults' reply) (sym policy) (subst (λ (d : Core). Answered (manner d.dims) a (alone (world d old.policy) old.history) (alone (world c p) new.history) old.outcomes new.outcomes faults faults' reply) (sym core) answered) in
-    let twins = at_turn c p old new a reply faults faults' (sym core) (sym policy) refl refl ok (texts_read new.core new.policy rules.core rules.policy) rules.admissible there m t within in
+pub cells_hidden : (a d : Book) (q : Question) (reply : Reply) (o : Outcome) (st st' : StoreState) → AnswersOne a d q reply o st st' → IsRuled d → HidesCells a d q reply o
+cells_hidden a d q reply o st st' x rules m t within =
+    let c = d.core in
+    let p = d.policy in
+    let ok : IsWorld (world c p) = cores_are_worlds c p rules.core rules.policy.methods in
+    let replied : reply ≡ reply_by (by_words c.dims) o q (world c p) a.history =
+    subst (λ (k : Core). reply ≡ reply_by (by_words k.dims) o q (world k p) a.history) (sym x.core) (subst (λ (r : Policy). reply ≡ reply_by (by_words a.core.dims) o q (world a.core r) a.history) (sym x.policy) x.replied) in
+    let moved : d.history ≡ next_by (by_words c.dims) o q (shown c p) a.history =
+    subst (λ (k : Core). d.history ≡ next_by (by_words k.dims) o q (shown k p) a.history) (sym x.core) (subst (λ (r : Policy). d.history ≡ next_by (by_words a.core.dims) o q (shown a.core r) a.history) (sym x.policy) x.history) in
+    let ext : Extends (next_by (by_words c.dims) o q (shown c p) a.history) d.history = subst (λ (h : List Entry). Extends h d.history) moved (extends_refl d.history) in
+    let same = question_open c.dims (world c p) a.history d.history q o m t ok (texts_read c p rules.core rules.policy) rules.admissible ext within ∙ sym replied in
     record {
-      same_reply = λ o e. subst (λ (d : Core). (manner d.dims).reply (alone (twin_of new m t) old.history) a o ≡ reply) core (twins.same_reply o e);
-      other_sum = twins.other_sum;
+      same_reply = subst (λ (k : Core). reply_by (by_words k.dims) o q (twin_of d m t) a.history ≡ reply) x.core same;
+      other_sum = other_sum (world c p) d.history m t ok rules.admissible within;
     }

@@ -21,8 +21,8 @@ use Rattle.cube_journal.specs.Recovery.{recovered}
 use Rattle.cube_journal.specs.RequestLines.{request_line}
 use Rattle.cube_journal.specs.declared.fault.JournalFault.{JournalFault}
 use Rattle.cube_journal.specs.declared.fault.JournalFault.TheVariants as journal
-use Rattle.cube_engine.specs.declared.fault.EngineFault.{EngineFault}
-use Rattle.cube_engine.specs.declared.fault.EngineFault.TheVariants.{Damaged, OtherCube, Inadmissible, NoMemory}
+use Rattle.cube_engine.specs.declared.fault.StartFault.{StartFault}
+use Rattle.cube_engine.specs.declared.fault.StartFault.TheVariants.{Damaged, OtherCube, Inadmissible, NoMemory}
 
 -- ---- what bytes recover
 
@@ -38,19 +38,19 @@ written c p bytes = recovered (digest_for c p) c.dims p (length c.shape.points) 
 abbrev pub first_entry : ℕ
 first_entry = 2
 
-abbrev pub by_left : Left → Result (List Entry) EngineFault
+abbrev pub by_left : Left → Result (List Entry) StartFault
 by_left (Leaves h) = Ok h
 by_left (Stops n) = Err (Inadmissible n)
 
 -- the history that entries leave, judged one behind another
-abbrev pub judged_in : Core → Policy → Result (List Entry) JournalFault → Result (List Entry) EngineFault
+abbrev pub judged_in : Core → Policy → Result (List Entry) JournalFault → Result (List Entry) StartFault
 judged_in c p (Ok es) = by_left (left (shown c p) [] first_entry es)
 judged_in c p (Err (journal.Damaged line)) = Err (Damaged line)
 judged_in c p (Err (journal.OtherCube kept now)) = Err (OtherCube kept now)
 judged_in c p (Err journal.NoMemory) = Err NoMemory
 
 -- the history that the bytes of a log recover, or their first fault
-abbrev pub history_of : Core → Policy → List ℕ → Result (List Entry) EngineFault
+abbrev pub history_of : Core → Policy → List ℕ → Result (List Entry) StartFault
 history_of c p bytes = judged_in c p (written c p bytes)
 
 -- ---- what a crash may leave

@@ -2,7 +2,7 @@ pub mod Changes
 pub mod Compacting
 pub mod Books
 pub mod Constant
-pub mod Engines
+pub mod Turns
 pub mod Examples
 pub mod Steps
 pub mod Worlds

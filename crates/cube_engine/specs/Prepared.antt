@@ -1,7 +1,6 @@
--- What an ask comes to, before anything is kept.
+-- What a question comes to, before anything is kept.
 use Rattle.std.specs.Prelude.{◌≡◌, ◌≢◌, ◌≤◌, ℕ, true, Bool, List, [], ◌∷◌, ◌++◌, None, Some, if◌then◌else◌}
 use Rattle.std.specs.declared.option.Option.{Option}
-use Rattle.cube_model.specs.declared.ask.Ask.{Ask}
 use Rattle.cube_model.specs.declared.ask.Question.{Question}
 use Rattle.cube_model.specs.declared.entry.Entry.{Entry}
 use Rattle.cube_model.specs.declared.entry.Entry.TheVariants.{Asked}
@@ -11,14 +10,13 @@ use Rattle.cube_model.specs.declared.reply.Reply.{Reply}
 use Rattle.cube_model.specs.declared.request.Request.{Request}
 use Rattle.cube_model.specs.declared.verdict.Verdict.TheVariants.{Answer}
 use Rattle.cube_model.specs.Cubes.{World}
-use Rattle.cube_model.specs.Rooms.{alone, missed_by}
 use Rattle.cube_model.specs.Dims.{Dims}
 use Rattle.cube_model.specs.Runs.{told, entered, reply_by, next_by}
 use Rattle.cube_model.specs.Verdicts.{verdict}
 use Rattle.cube_query.specs.Canonical.{is_request}
 use Rattle.cube_journal.specs.RequestLines.{request_line}
 use Rattle.cube_io.specs.Causes.{Rose}
-use Rattle.cube_engine.specs.Steps.{by_words, in_words, manner}
+use Rattle.cube_engine.specs.Steps.{by_words, in_words}
 use Rattle.cube_engine.specs.declared.prepared.Prepared.{Prepared}
 use Rattle.cube_engine.specs.declared.prepared.Prepared.TheVariants.{Said, Waits}
 
@@ -42,16 +40,6 @@ pub record Holds (s : Dims) (w : World) (h : List Entry) (waits : Option Request
 abbrev pub QuestionComes : Dims → World → List Entry → Question → Option Request → Prepared → Type 0
 QuestionComes s w h a waits (Said reply o) = (o ≢ JournalFault) × (reply ≡ reply_by (by_words s) o a w h) × (next_by (by_words s) o a w.shown h ≡ h) × (waits ≡ None)
 QuestionComes s w h a waits (Waits reply line) = (r : Request) × Holds s w h waits line r × (reply ≡ reply_by (by_words s) Given a w h) × (next_by (by_words s) Given a w.shown h ≡ h ++ Asked r ∷ [])
-
--- What is asked of the one room with the empty name comes to.
-abbrev pub AskComes : Dims → World → List Entry → Ask → Option Request → Prepared → Type 0
-AskComes s w h a waits (Said reply o) = (o ≢ JournalFault) × (reply ≡ (manner s).reply (alone w h) a o) × ((manner s).next (alone w h) a o ≡ alone w h) × (waits ≡ None)
-AskComes s w h a waits (Waits reply line) = (r : Request) × Holds s w h waits line r × (reply ≡ (manner s).reply (alone w h) a Given) × ((manner s).next (alone w h) a Given ≡ alone w (h ++ Asked r ∷ []))
-
--- An ask that goes to no room comes to the reply to it.
-abbrev pub IsMissed : Dims → Option (List ℕ) → Prepared → Type 0
-IsMissed s group (Said reply o) = (o ≢ JournalFault) × (reply ≡ missed_by (by_words s) o group)
-IsMissed s group (Waits reply line) = ⊥
 
 -- The journal failed only where the ask was to be kept, and where the store's count of faults rose.
 pub record SettleCause (o : Outcome) (adds : Type 0) (before now : ℕ) : Type 0 where

@@ -1,13 +1,14 @@
 // The answer of a book to a question.
-ghost use Rattle.std.specs.Prelude.{◌≡◌, ◌≢◌, true, None, IsTrue, if◌then◌else◌};
+ghost use Rattle.std.specs.Prelude.{◌≡◌, ◌≢◌, ◌<◌, true, None, IsTrue, if◌then◌else◌};
 ghost use Rattle.cube_model.specs.declared.outcome.Outcome.TheVariants as outcome;
 ghost use Rattle.cube_model.specs.Cores.{shown, world};
 ghost use Rattle.cube_io.specs.States.{Gained};
 ghost use Rattle.cube_io.specs.Told.{Works, OthersStay};
-ghost use Rattle.cube_engine.specs.Books.{book_reply, book_history, StaysExact, KeepsInHand, IsRenewed};
+ghost use Rattle.cube_engine.specs.Books.{book_reply, book_history, AnswersOne, StaysExact, KeepsInHand, IsRenewed};
 ghost use Rattle.cube_engine.specs.Kept.{IsKept, IsWithin};
 ghost use Rattle.cube_engine.specs.Prepared.{QuestionComes, SettleCause};
 ghost use Rattle.cube_engine.specs.Reads.{AskReadsFew};
+ghost use Rattle.cube_engine.specs.Worlds.{HidesCells};
 
 use crate::Book;
 use crate::prepared::Prepared;
@@ -15,7 +16,8 @@ use cube_core::Steps;
 use cube_io::Store;
 use cube_model::{Fixed, Outcome, Question, Reply};
 use std::alloc::Global;
-use std::sync::ledger::Ledger;
+use std::marker::Brand;
+use std::sync::ledger::{Blank, Ledger};
 
 // Keeps what is to be kept of a question, behind which its reply stands.
 #[tactic(auto, using(crate::proofs::Alone::entered))]
@@ -57,9 +59,53 @@ fn conclude_question<S: Store>(
 }
 
 impl Book {
-    /// Answers a question, and counts what is read of the cube: the request is judged, all memory for the reply is taken, a
-    /// request that enters the history is kept in the journal, and only then it enters. What became of it is handed back.
-    pub fn answer<S: Store, L: Ledger>(
+    /// Answers a question: the request is judged, all memory for the reply is taken, a request that enters the history is kept in the
+    /// journal, and only then it enters. What became of it is handed back. The reply tells nothing of a protected cell: with the changes for
+    /// the cell by the history behind it, the same reply comes.
+    pub fn answer<S: Store>(
+        &mut self,
+        alloc: Global,
+        store: &mut S,
+        question: &Question,
+    ) -> (Reply, Outcome)
+        requires none { self.old.waiting ≡ None }
+        requires attached { IsTrue (S.state store.old).attached }
+        requires kept { IsTrue (S.state store.old).told → IsKept self.old.core self.old.policy self.old.history self.old.journal ((S.state store.old).logs self.old.journal.log).state }
+        ensures answers { AnswersOne self.old self.new question.now result.0 result.1 (S.state store.old) (S.state store.new) }
+        ensures two_worlds { HidesCells self.old self.new question.now result.0 result.1 }
+
+        // A question that adds nothing to the history leaves the store alone, and so does want of memory.
+        ensures untouched { book_history outcome.Given self.old question.now ≡ self.old.history → store.new ≡ store.old }
+        ensures memory { result.1 ≡ outcome.NoMemory → store.new ≡ store.old }
+    {
+        self.answer_over::<S, Brand>(alloc, store, question, Blank::new(1))
+    }
+
+    // Answers a question with a count that is dropped.
+    fn answer_over<S: Store, L: Ledger>(
+        &mut self,
+        alloc: Global,
+        store: &mut S,
+        question: &Question,
+        blank: Blank,
+    ) -> (Reply, Outcome)
+        requires name { blank.name ≡ L.name }
+        requires parts { blank.parts ≡ L.parts }
+        requires some { 0 < L.parts }
+        requires none { self.old.waiting ≡ None }
+        requires attached { IsTrue (S.state store.old).attached }
+        requires kept { IsTrue (S.state store.old).told → IsKept self.old.core self.old.policy self.old.history self.old.journal ((S.state store.old).logs self.old.journal.log).state }
+        ensures answers { AnswersOne self.old self.new question.now result.0 result.1 (S.state store.old) (S.state store.new) }
+        ensures two_worlds { HidesCells self.old self.new question.now result.0 result.1 }
+        ensures untouched { book_history outcome.Given self.old question.now ≡ self.old.history → store.new ≡ store.old }
+        ensures memory { result.1 ≡ outcome.NoMemory → store.new ≡ store.old }
+    {
+        let mut steps = Steps::<L>::new(blank);
+        self.answer_counted(alloc, store, question, &mut steps)
+    }
+
+    /// Answers a question, and counts what is read of the cube.
+    pub fn answer_counted<S: Store, L: Ledger>(
         &mut self,
         alloc: Global,
         store: &mut S,
@@ -69,39 +115,15 @@ impl Book {
         requires none { self.old.waiting ≡ None }
         requires attached { IsTrue (S.state store.old).attached }
         requires kept { IsTrue (S.state store.old).told → IsKept self.old.core self.old.policy self.old.history self.old.journal ((S.state store.old).logs self.old.journal.log).state }
-        ensures reply { result.0 ≡ book_reply result.1 self.old question.now }
-        ensures history { self.new.history ≡ book_history result.1 self.old question.now }
-        ensures core { self.new.core ≡ self.old.core }
-        ensures policy { self.new.policy ≡ self.old.policy }
-        ensures log { self.new.journal.log ≡ self.old.journal.log }
-        ensures none { self.new.waiting ≡ None }
-
-        // The journal failed only where the question was to be kept, and where the store's count of faults rose.
-        ensures cause { SettleCause result.1 (book_history outcome.Given self.old question.now ≢ self.old.history) (S.state store.old).faults (S.state store.new).faults }
-        ensures others { OthersStay self.old.journal.log (S.state store.old) (S.state store.new) }
-
-        // The store is called twice at most, and four times where the last keep failed.
-        ensures works { Works (S.state store.old) (S.state store.new) (if self.old.journal.failed then 4 else 2) }
-        ensures quiet { result.1 ≢ outcome.JournalFault → self.new.journal.failed ≡ true → self.old.journal.failed ≡ true }
-
-        // A request on a lattice measure that adds nothing to the history is answered from the source cuboid.
-        ensures few_reads { AskReadsFew self.old.core.dims (shown self.old.core self.old.policy) self.old.history question.now steps.old steps.new }
+        ensures answers { AnswersOne self.old self.new question.now result.0 result.1 (S.state store.old) (S.state store.new) }
+        ensures two_worlds { HidesCells self.old self.new question.now result.0 result.1 }
 
         // A question that adds nothing to the history leaves the store alone, and so does want of memory.
         ensures untouched { book_history outcome.Given self.old question.now ≡ self.old.history → store.new ≡ store.old }
         ensures memory { result.1 ≡ outcome.NoMemory → store.new ≡ store.old }
 
-        // The book belongs to the log as it stands. Where no keep failed, every crash leaves just the history behind it; at
-        // each moment of the call the history before it, alone or with one more request.
-        ensures kept { IsTrue (S.state store.old).told → IsKept self.old.core self.old.policy self.new.history self.new.journal ((S.state store.new).logs self.old.journal.log).state }
-        ensures exact { result.1 ≢ outcome.JournalFault → StaysExact self.old self.new.history (S.state store.old) (S.state store.new) }
-        ensures within { IsTrue (S.state store.old).told → IsWithin self.old.core self.old.policy self.new.history ((S.state store.new).logs self.old.journal.log).state }
-        ensures crash { IsTrue (S.state store.old).told → Gained (IsWithin self.old.core self.old.policy self.old.history) ((S.state store.old).logs self.old.journal.log) ((S.state store.new).logs self.old.journal.log) }
-
-        // Beyond what a crash could leave before, it leaves the history without the request in hand or with it. Where the journal did not
-        // fail the log stays, or every crash leaves just the history behind the question, also where an earlier keep failed.
-        ensures in_hand { IsTrue (S.state store.old).told → KeepsInHand self.old (book_history outcome.Given self.old question.now) ((S.state store.old).logs self.old.journal.log) ((S.state store.new).logs self.old.journal.log) }
-        ensures renewed { result.1 ≢ outcome.JournalFault → IsTrue (S.state store.old).told → IsRenewed self.old self.new.history ((S.state store.old).logs self.old.journal.log) ((S.state store.new).logs self.old.journal.log) }
+        // A request on a lattice measure that adds nothing to the history is answered from the source cuboid.
+        ensures few_reads { AskReadsFew self.old.core.dims (shown self.old.core self.old.policy) self.old.history question.now steps.old steps.new }
     {
         let prepared = self.prepare(alloc, question, steps);
         let told = conclude_question(self, store, question, prepared);

@@ -5,6 +5,7 @@ ghost use Rattle.cube_model.specs.Cores.{shown, world};
 ghost use Rattle.cube_model.specs.Policies.{IsPolicy};
 ghost use Rattle.cube_model.specs.Verdicts.{verdict as verdict_of};
 ghost use Rattle.cube_admit.specs.States.{waiting as waiting_in, IsStateOf};
+ghost use Rattle.cube_answers.specs.VerdictText.{IsVerdict};
 ghost use Rattle.cube_io.specs.Causes.{HasCause};
 ghost use Rattle.cube_io.specs.States.{Gained};
 ghost use Rattle.cube_io.specs.Told.{Works, OthersStay};
@@ -23,7 +24,7 @@ use crate::holding::Holding;
 use crate::opening::open_log;
 use crate::prepared::Prepared;
 use crate::witness::NoChanges;
-use crate::{EngineFault, SharedCore};
+use crate::{SharedCore, StartFault};
 use cube_admit::State;
 use cube_core::{Core, Steps};
 use cube_io::{Failed, Store};
@@ -61,7 +62,7 @@ impl Book {
         policy: Policy,
         store: &mut S,
         log: u32,
-    ) -> Result<Book, EngineFault>
+    ) -> Result<Book, StartFault>
         requires attached { IsTrue (S.state store.old).attached }
         requires policy { IsPolicy core.dims policy }
         ensures cause { StartCause (S.state store.old).faults (S.state store.new).faults result }
@@ -84,7 +85,7 @@ impl Book {
         };
         match Holding::start(alloc, core, policy, state) {
             Ok(holding) => Ok(Book { holding, journal }),
-            Err(_) => Err(EngineFault::NoMemory),
+            Err(_) => Err(StartFault::NoMemory),
         }
     }
 
@@ -105,10 +106,12 @@ impl Book {
     }
 
     /// The history and what is kept of it.
+    #[tactic(auto, using(crate::proofs::KeepsAll::pending_is))]
     pub fn state(&self) -> &State
         ensures history { result.now.history ≡ self.now.history }
         ensures stands { IsStateOf (shown self.now.core self.now.policy) result.now }
         ensures waits { waiting_in result.now ≡ self.now.waiting }
+        ensures none { self.now.waiting ≡ None → result.now.pending ≡ None }
     {
         self.holding.state()
     }
@@ -118,8 +121,10 @@ impl Book {
         requires none { self.old.waiting ≡ None }
         requires request { is_request self.old.core.dims request.now ≡ true }
         ensures verdict { IfOk result (λ verdict. verdict ≡ verdict_of (shown self.old.core self.old.policy) self.old.history request.now) }
+        ensures there { IfOk result (IsVerdict self.old.core) }
         ensures same { self.new ≡ self.old }
     {
+        let _rules = self.holding.core();
         self.holding.verdict(alloc, request)
     }
 

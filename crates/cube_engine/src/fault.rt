@@ -1,12 +1,12 @@
-// Why an engine did not start.
+// Why a book did not start.
 ghost use Rattle.std.specs.Prelude.{◌≡◌};
 ghost use Rattle.cube_engine.specs.Opening.{of_open};
 
 use cube_journal::{Digest, OpenFault};
 
-/// Why an engine did not start.
+/// Why a book did not start.
 #[derive(Clone, Copy, Debug, PartialEq, Eq)]
-pub enum EngineFault {
+pub enum StartFault {
     /// The store failed; this was counted.
     Failed,
     /// The log has more than 2^28 bytes.
@@ -22,14 +22,14 @@ pub enum EngineFault {
 }
 
 /// The fault of a log that was not opened.
-pub(crate) fn of_open(fault: OpenFault) -> EngineFault
+pub(crate) fn of_open(fault: OpenFault) -> StartFault
     ensures { result ≡ of_open fault }
 {
     match fault {
-        OpenFault::Failed => EngineFault::Failed,
-        OpenFault::TooLong => EngineFault::TooLong,
-        OpenFault::Damaged { line } => EngineFault::Damaged { line },
-        OpenFault::OtherCube { kept, now } => EngineFault::OtherCube { kept, now },
-        OpenFault::NoMemory => EngineFault::NoMemory,
+        OpenFault::Failed => StartFault::Failed,
+        OpenFault::TooLong => StartFault::TooLong,
+        OpenFault::Damaged { line } => StartFault::Damaged { line },
+        OpenFault::OtherCube { kept, now } => StartFault::OtherCube { kept, now },
+        OpenFault::NoMemory => StartFault::NoMemory,
     }
 }

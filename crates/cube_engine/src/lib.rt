@@ -1,11 +1,9 @@
-//! The engine: a cube with its policy, its history and its journal, and the desk over it.
+//! The book of a cube: the cube with its policy, its history, and the log that keeps it, which answers questions.
 #![tactic(auto)]
 
 mod answering;
 mod book;
 mod compacting;
-mod desk;
-mod engine;
 mod fault;
 mod holding;
 mod laws;
@@ -18,8 +16,7 @@ mod witness;
 mod worked;
 
 pub use book::Book;
-pub use engine::Engine;
-pub use fault::EngineFault;
+pub use fault::StartFault;
 pub use laws::{compaction_keeps_all, rooms_in_words};
 pub use shared::SharedCore;
 pub use turns::Turns;

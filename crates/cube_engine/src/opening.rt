@@ -10,11 +10,11 @@ ghost use Rattle.cube_io.specs.States.{Gained};
 ghost use Rattle.cube_io.specs.Told.{Works, OthersStay};
 ghost use Rattle.cube_journal.specs.Keeping.{IsInRecovery};
 ghost use Rattle.cube_journal.specs.Sound.{IsSound};
-ghost use Rattle.cube_engine.specs.declared.fault.EngineFault.TheVariants as fault;
+ghost use Rattle.cube_engine.specs.declared.fault.StartFault.TheVariants as fault;
 ghost use Rattle.cube_engine.specs.Kept.{digest_for, first_entry, by_left, history_of, IsKept, IsExact};
 ghost use Rattle.cube_engine.specs.Opening.{StartCause, IsStartFault};
 
-use crate::EngineFault;
+use crate::StartFault;
 use crate::fault::of_open;
 use cube_admit::State;
 use cube_core::Core;
@@ -23,11 +23,11 @@ use cube_journal::{Digest, Journal, digest_of, public_text};
 use cube_model::{Entry, NoMemory, Policy, Taken};
 use std::alloc::Global;
 
-impl From<NoMemory> for EngineFault {
+impl From<NoMemory> for StartFault {
     ghost from_gives = { λ _ e. e ≡ fault.NoMemory };
 
-    fn from(_error: NoMemory) -> EngineFault {
-        EngineFault::NoMemory
+    fn from(_error: NoMemory) -> StartFault {
+        StartFault::NoMemory
     }
 }
 
@@ -46,7 +46,7 @@ fn judge_all(
     core: &Core,
     policy: &Policy,
     entries: &[Entry],
-) -> Result<State, EngineFault>
+) -> Result<State, StartFault>
     requires policy { IsPolicy core.now.dims policy.now }
     requires sound { Each (IsSound core.now.dims policy.now (length core.now.shape.points)) entries.now }
     ensures left { IfOk result (λ state. left (shown core.now policy.now) [] first_entry entries.now ≡ Leaves state.history) }
@@ -58,7 +58,7 @@ fn judge_all(
     'entries: for (number, entry) in entries.iter().enumerate() {
         if state.take(alloc, core, policy, entry)? == Taken::Refused {
             let line = number as u64 + 2;
-            return Err(EngineFault::Inadmissible { line });
+            return Err(StartFault::Inadmissible { line });
         }
     }
     Ok(state)
@@ -71,7 +71,7 @@ pub(crate) fn open_log<S: Store>(
     policy: &Policy,
     store: &mut S,
     log: u32,
-) -> Result<(Journal, State), EngineFault>
+) -> Result<(Journal, State), StartFault>
     requires attached { IsTrue (S.state store.old).attached }
     requires policy { IsPolicy core.now.dims policy.now }
     ensures cause { StartCause (S.state store.old).faults (S.state store.new).faults result }

@@ -1,4 +1,4 @@
-// What an ask comes to, before anything is kept: the reply, and for a request that enters the history its line.
+// What a question comes to, before anything is kept: the reply, and for a request that enters the history its line.
 ghost use Rattle.std.specs.Prelude.{◌≡◌, true, None, is_some, IfOk, OnErr};
 ghost use Rattle.cube_model.specs.declared.ask.Question.TheVariants as question;
 ghost use Rattle.cube_model.specs.declared.policy.Policy.{Policy};
@@ -27,10 +27,10 @@ use cube_query::{RequestFault, read_request};
 use std::alloc::Global;
 use std::sync::ledger::Ledger;
 
-/// What an ask comes to.
+/// What a question comes to.
 #[derive(Drop)]
 pub(crate) enum Prepared {
-    /// The reply, where nothing is to be kept, and what became of the ask.
+    /// The reply, where nothing is to be kept, and what became of the question.
     Said(Reply, Outcome),
     /// The reply to a request that waits to enter the history, and the line that keeps it.
     Waits(Reply, Line),

@@ -15,7 +15,7 @@ pub struct Turns {
 impl Model for Turns {
     ghost use Rattle.std.specs.Prelude.{◌+◌, ◌≤◌, length};
     ghost use Rattle.std.specs.Vec.{vec_capacity};
-    ghost use Rattle.cube_engine.specs.Engines as said;
+    ghost use Rattle.cube_engine.specs.Turns as said;
 
     ghost Value = { said.Turns };
 

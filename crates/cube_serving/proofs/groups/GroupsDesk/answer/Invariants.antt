@@ -1,4 +1,0 @@
-use Rattle.cube_serving.proofs.groups.GroupsDesk.answer.Given as goal
-
-abbrev pub ghosts-answer_uncounted : goal.ghosts-answer_uncounted
-ghosts-answer_uncounted g a = record { name = a.blank.name; parts = a.blank.parts }
