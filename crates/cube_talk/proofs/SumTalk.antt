@@ -76,8 +76,8 @@ pub talked : {S I O : Type 0} (end : TalkEnd) (flat : Flat) (x y : Sums) (s t : 
     → Conversed (λ (x : Sums) (s : S) (ls : List (List ℕ)) (y : Sums) (t : S) (text : List ℕ). AnswersSums x y ls text × (t ≡ s)) x y s t (is_done y) end input out
     → Talked flat end y.lines input out
 talked end flat x y s t input out zero_lines is c = record {
-  text = c.text;
-  taken = c.taken;
-  counted = c.counted;
-  said = said_of end.ending flat x y c.text c.said c.first c.more out.before.written out.after.written zero_lines is c.split c.answered.0 c.puts c.goes;
+  text = c.took.text;
+  taken = c.took.taken;
+  counted = c.took.counted;
+  said = said_of end.ending flat x y c.took.text c.said c.took.first c.took.more out.before.written out.after.written zero_lines is c.took.split c.answered.0 c.puts c.goes;
 }

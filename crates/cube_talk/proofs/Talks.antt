@@ -113,15 +113,17 @@ piece_ends sp e done lacks a a' a'' b b' b'' input out mid x carry piece bytes n
     let first = map strip_carriage_return h.first in
     let last = last_lines (open_line (s.text ++ piece)) in
     record {
-      text = s.text ++ piece;
-      taken = consumes_then input.before.left mid input.after.left s.text piece s.taken read;
-      counted = rw (length-append s.text piece) (omega (arith, s.counted, long));
-      first = ended_lines s.text ++ first;
-      more = map strip_carriage_return h.more ++ last;
-      split = lines_are (s.text ++ piece)
-          ∙ ap (λ (l : List (List ℕ)). l ++ last)
-          (ended_append s.text piece ∙ ap (λ (l : List (List ℕ)). ended_lines s.text ++ map strip_carriage_return l) h.split ∙ ap (λ (l : List (List ℕ)). ended_lines s.text ++ l) (map-append strip_carriage_return h.first h.more))
-          ∙ simp append_assoc;
+      took = record {
+        text = s.text ++ piece;
+        taken = consumes_then input.before.left mid input.after.left s.text piece s.taken read;
+        counted = rw (length-append s.text piece) (omega (arith, s.counted, long));
+        first = ended_lines s.text ++ first;
+        more = map strip_carriage_return h.more ++ last;
+        split = lines_are (s.text ++ piece)
+            ∙ ap (λ (l : List (List ℕ)). l ++ last)
+            (ended_append s.text piece ∙ ap (λ (l : List (List ℕ)). ended_lines s.text ++ map strip_carriage_return l) h.split ∙ ap (λ (l : List (List ℕ)). ended_lines s.text ++ l) (map-append strip_carriage_return h.first h.more))
+            ∙ simp append_assoc;
+      };
       said = s.said ++ h.text;
       answered = sp.onward a a' a'' b b' b'' (ended_lines s.text) first s.said h.text s.answered h.answered;
       puts = puts_then e out.before.written x out.after.written s.said h.text s.put h.went;
@@ -136,12 +138,14 @@ pub input_failed : {A B I O : Type 0} (sp : Speech A B) (done : Bool) (a a' : A)
     → Stands sp.says a a' b b' input.before.left mid out.before.written out.after.written carry bytes
     → Consumes mid input.after.left [] → done ≡ false → bytes < max_input → Conversed sp.says a a' b b' done (record { ending = InputFailed; bytes = bytes }) input out
 input_failed sp done a a' b b' input out mid carry bytes s read going short = record {
-  text = s.text;
-  taken = taken_none input.before.left mid input.after.left s.text s.taken read;
-  counted = s.counted;
-  first = ended_lines s.text;
-  more = last_lines (open_line s.text);
-  split = lines_are s.text;
+  took = record {
+    text = s.text;
+    taken = taken_none input.before.left mid input.after.left s.text s.taken read;
+    counted = s.counted;
+    first = ended_lines s.text;
+    more = last_lines (open_line s.text);
+    split = lines_are s.text;
+  };
   said = s.said;
   answered = s.answered;
   puts = s.put;
@@ -152,12 +156,14 @@ pub input_spent : {A B I O : Type 0} (sp : Speech A B) (done : Bool) (a a' : A) 
     → Stands sp.says a a' b b' input.before.left input.after.left out.before.written out.after.written carry bytes
     → done ≡ false → bytes ≡ max_input → Conversed sp.says a a' b b' done (record { ending = Spent; bytes = bytes }) input out
 input_spent sp done a a' b b' input out carry bytes s going full = record {
-  text = s.text;
-  taken = s.taken;
-  counted = s.counted;
-  first = ended_lines s.text;
-  more = last_lines (open_line s.text);
-  split = lines_are s.text;
+  took = record {
+    text = s.text;
+    taken = s.taken;
+    counted = s.counted;
+    first = ended_lines s.text;
+    more = last_lines (open_line s.text);
+    split = lines_are s.text;
+  };
   said = s.said;
   answered = s.answered;
   puts = s.put;
@@ -185,12 +191,14 @@ last_answered sp e done a a' a'' b b' b'' input out mid x carry bytes s read som
     let line : last_lines (open_line s.text) ≡ open_line s.text ∷ [] = rw some_line refl in
     let one = answered_front sp a' a'' b' b'' (open_line s.text) h.text (subst (λ (k : List ℕ). sp.says a' b' (k ∷ []) a'' b'' h.text) s.kept.kept h.answered) in
     record {
-      text = s.text;
-      taken = taken_none input.before.left mid input.after.left s.text s.taken read;
-      counted = s.counted;
-      first = ended_lines s.text ++ open_line s.text ∷ [];
-      more = [];
-      split = lines_are s.text ∙ ap (λ (l : List (List ℕ)). ended_lines s.text ++ l) line ∙ sym (append-nil (ended_lines s.text ++ open_line s.text ∷ []));
+      took = record {
+        text = s.text;
+        taken = taken_none input.before.left mid input.after.left s.text s.taken read;
+        counted = s.counted;
+        first = ended_lines s.text ++ open_line s.text ∷ [];
+        more = [];
+        split = lines_are s.text ∙ ap (λ (l : List (List ℕ)). ended_lines s.text ++ l) line ∙ sym (append-nil (ended_lines s.text ++ open_line s.text ∷ []));
+      };
       said = s.said ++ h.text;
       answered = sp.onward a a' a'' b b' b'' (ended_lines s.text) (open_line s.text ∷ []) s.said h.text s.answered one;
       puts = puts_then e out.before.written x out.after.written s.said h.text s.put h.went;
@@ -209,12 +217,14 @@ finished sp e done a a' a'' b b' b'' input out mid x [] bytes s read short f =
     let none : (length (open_line s.text) == 0) ≡ true = sym (kept_empty [] (open_line s.text) s.kept.kept) in
     let line : last_lines (open_line s.text) ≡ [] = rw none refl in
     rw (ee, ea, eb) (record {
-      text = s.text;
-      taken = taken_none input.before.left mid input.after.left s.text s.taken read;
-      counted = s.counted;
-      first = ended_lines s.text;
-      more = [];
-      split = lines_are s.text ∙ ap (λ (l : List (List ℕ)). ended_lines s.text ++ l) line;
+      took = record {
+        text = s.text;
+        taken = taken_none input.before.left mid input.after.left s.text s.taken read;
+        counted = s.counted;
+        first = ended_lines s.text;
+        more = [];
+        split = lines_are s.text ∙ ap (λ (l : List (List ℕ)). ended_lines s.text ++ l) line;
+      };
       said = s.said;
       answered = s.answered;
       puts = subst (λ (y : Option (List ℕ)). Appends out.before.written y s.said) (sym ey) s.put;
@@ -229,12 +239,14 @@ finished sp Spent done a a' a'' b b' b'' input out mid x (c ∷ cs) bytes s read
 finished sp NoMemory done a a' a'' b b' b'' input out mid x (c ∷ cs) bytes s read short f =
     let (ea, eb, put) = f.memory refl in
     rw (ea, eb) (record {
-      text = s.text;
-      taken = taken_none input.before.left mid input.after.left s.text s.taken read;
-      counted = s.counted;
-      first = ended_lines s.text;
-      more = last_lines (open_line s.text);
-      split = lines_are s.text;
+      took = record {
+        text = s.text;
+        taken = taken_none input.before.left mid input.after.left s.text s.taken read;
+        counted = s.counted;
+        first = ended_lines s.text;
+        more = last_lines (open_line s.text);
+        split = lines_are s.text;
+      };
       said = s.said;
       answered = s.answered;
       puts = subst (λ (l : List ℕ). Appends out.before.written out.after.written l) (append-nil s.said) (appends_then out.before.written x out.after.written s.said [] s.put put);

@@ -5,7 +5,7 @@ use Rattle.std.specs.declared.option.Option.TheVariants.{None}
 use Rattle.std.specs.List.{starts_with}
 use Rattle.std.specs.Str.{bytes_eq}
 use Rattle.std.specs.Str.Lines.{lines}
-use Rattle.std.specs.Io.KnownBytes.{Appends, Consumes}
+use Rattle.std.specs.Io.KnownBytes.{Appends}
 use Rattle.cube_model.specs.declared.ask.Ask.{Ask}
 use Rattle.cube_model.specs.declared.ask.Question.{Question}
 use Rattle.cube_model.specs.declared.ask.Question.TheVariants.{Query, Shape, Witness}
@@ -21,7 +21,7 @@ use Rattle.cube_io.specs.Seen.{SourceState, SinkState, Seen}
 use Rattle.cube_talk.specs.Lines.{ended_lines}
 use Rattle.cube_talk.specs.Moments.{Moment}
 use Rattle.cube_talk.specs.Replies.{reply_text}
-use Rattle.cube_talk.specs.Talk.{max_line, max_input}
+use Rattle.cube_talk.specs.Talk.{max_line, max_input, Took}
 use Rattle.cube_talk.specs.declared.talk.Ending.{Ending}
 use Rattle.cube_talk.specs.declared.talk.Ending.TheVariants.{Ended, InputFailed, OutputFailed, NoMemory, Spent}
 
@@ -134,11 +134,6 @@ pub record Talk : Type 0 where
 -- Of the bytes that were taken of an input, the talk of a desk with these rooms was written. The first of the lines were answered, and
 -- each ask among them has an outcome.
 pub record Talked {I O : Type 0} (m : Manner) (rooms : List Room) (t : Talk) (input : Seen SourceState I) (out : Seen SinkState O) : Type 0 where
-  pub text : List ℕ
-  pub taken : Consumes input.before.left input.after.left text
-  pub counted : t.bytes ≡ length text
-  pub first : List (List ℕ)
-  pub more : List (List ℕ)
-  pub split : lines text ≡ first ++ more
-  pub matched : length t.outcomes ≡ asks_in first
-  pub says : Says t.ending m rooms t.stated t.outcomes text out.before.written out.after.written
+  pub took : Took t.bytes input
+  pub matched : length t.outcomes ≡ asks_in took.first
+  pub says : Says t.ending m rooms t.stated t.outcomes took.text out.before.written out.after.written

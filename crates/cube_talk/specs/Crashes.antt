@@ -63,8 +63,8 @@ AnswersDurably before after ls text = (a : AnswersAsks before after ls text) × 
 -- stayed where it failed in none; it failed only for asks that would have added to a history.
 pub record TalkedOver {I O : Type 0} (before after : Moment) (end : TalkEnd) (input : Seen SourceState I) (out : Seen SinkState O) : Type 0 where
   pub talked : Talked before.manner before.rooms (record { stated = before.capacity; ending = end.ending; outcomes = after.outcomes; bytes = end.bytes }) input out
-  pub rooms_are : after.rooms ≡ rooms_behind before.manner before.rooms talked.first after.outcomes
-  pub survives : Survives before after talked.first after.outcomes
+  pub rooms_are : after.rooms ≡ rooms_behind before.manner before.rooms talked.took.first after.outcomes
+  pub survives : Survives before after talked.took.first after.outcomes
   pub steady : faults_in after.outcomes ≡ 0 → after.store.faults ≡ before.store.faults
   pub risen : RoseBy (faults_in after.outcomes) before.store.faults after.store.faults
-  pub fresh : FailedFresh before.manner before.rooms talked.first after.outcomes
+  pub fresh : FailedFresh before.manner before.rooms talked.took.first after.outcomes

@@ -60,15 +60,19 @@ Goes OutputFailed text first more done = ⊤
 Goes NoMemory text first more done = ⊤
 Goes Spent text first more done = (done ≡ true) ⊎ ((first ≡ ended_lines text) × (done ≡ false) × (length text ≡ max_input))
 
--- Of the bytes that were taken of an input, the first lines were answered. Who answers, and a store, went from one state to another.
-pub record Conversed {A B I O : Type 0} (says : A → B → List (List ℕ) → A → B → List ℕ → Type 0) (a a' : A) (b b' : B) (done : Bool) (end : TalkEnd) (input : Seen SourceState I) (out : Seen SinkState O) : Type 0 where
+-- So many bytes were taken of an input, and these are the first of their lines.
+pub record Took {I : Type 0} (bytes : ℕ) (input : Seen SourceState I) : Type 0 where
   pub text : List ℕ
   pub taken : Consumes input.before.left input.after.left text
-  pub counted : end.bytes ≡ length text
+  pub counted : bytes ≡ length text
   pub first : List (List ℕ)
   pub more : List (List ℕ)
   pub split : lines text ≡ first ++ more
+
+-- Of the bytes that were taken of an input, the first lines were answered. Who answers, and a store, went from one state to another.
+pub record Conversed {A B I O : Type 0} (says : A → B → List (List ℕ) → A → B → List ℕ → Type 0) (a a' : A) (b b' : B) (done : Bool) (end : TalkEnd) (input : Seen SourceState I) (out : Seen SinkState O) : Type 0 where
+  pub took : Took end.bytes input
   pub said : List ℕ
-  pub answered : says a b first a' b' said
+  pub answered : says a b took.first a' b' said
   pub puts : Puts end.ending out.before.written out.after.written said
-  pub goes : Goes end.ending text first more done
+  pub goes : Goes end.ending took.text took.first took.more done

@@ -15,23 +15,18 @@ returns-clause-talked g c =
     let x = moment g.D.Desk.manner g.D.Desk.rooms g.D.Desk.outcomes g.D.Desk.capacity g.D.Desk.exact g.D.Desk.within c.args.desk (g.S.Store.state c.args.store.now) in
     let y = moment g.D.Desk.manner g.D.Desk.rooms g.D.Desk.outcomes g.D.Desk.capacity g.D.Desk.exact g.D.Desk.within c.converse-end.new.responder.desk (g.S.Store.state c.converse-end.new.store) in
     let a = v.answered.0 in
-    let same = added_are x y v.first v.said c.requires.fresh a in
+    let same = added_are x y v.took.first v.said c.requires.fresh a in
     record {
       talked = record {
-        text = v.text;
-        taken = v.taken;
-        counted = v.counted;
-        first = v.first;
-        more = v.more;
-        split = v.split;
+        took = v.took;
         matched = ap length same ∙ a.matched;
-        says = said_of c.converse-end.result.ending x y v.text v.said v.first v.more (g.O.Sink.state c.args.out.now).written (g.O.Sink.state c.converse-end.new.out).written (λ e. false≢true (c.converse-end.ensures.memory e)) c.requires.fresh v.split a v.puts v.goes;
+        says = said_of c.converse-end.result.ending x y v.took.text v.said v.took.first v.took.more (g.O.Sink.state c.args.out.now).written (g.O.Sink.state c.converse-end.new.out).written (λ e. false≢true (c.converse-end.ensures.memory e)) c.requires.fresh v.took.split a v.puts v.goes;
       };
-      rooms_are = a.rooms_are ∙ ap (λ (os : List Outcome). rooms_behind x.manner x.rooms v.first os) (sym same);
-      survives = subst (λ (os : List Outcome). Survives x y v.first os) (sym same) v.answered.1;
+      rooms_are = a.rooms_are ∙ ap (λ (os : List Outcome). rooms_behind x.manner x.rooms v.took.first os) (sym same);
+      survives = subst (λ (os : List Outcome). Survives x y v.took.first os) (sym same) v.answered.1;
       steady = subst (λ (os : List Outcome). faults_in os ≡ 0 → y.store.faults ≡ x.store.faults) (sym same) a.steady;
       risen = subst (λ (os : List Outcome). RoseBy (faults_in os) x.store.faults y.store.faults) (sym same) a.risen;
-      fresh = subst (λ (os : List Outcome). FailedFresh x.manner x.rooms v.first os) (sym same) a.fresh;
+      fresh = subst (λ (os : List Outcome). FailedFresh x.manner x.rooms v.took.first os) (sym same) a.fresh;
     }
 
 pub returns-clause-later : goal.returns-clause-later
