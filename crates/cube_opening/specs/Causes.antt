@@ -83,8 +83,8 @@ IsOwn n = (n ≡ 0) ⊎ (n ≡ 3) ⊎ (n ≡ 4) ⊎ (n ≡ 7) ⊎ (n ≡ 10)
 abbrev pub IsStatus : ℕ → Type 0
 IsStatus n = IsOwn n ⊎ (n ≡ 5) ⊎ (n ≡ 6) ⊎ (n ≡ 8) ⊎ (n ≡ 9)
 
--- A fault of an object outside is reported only where it was counted in this run, and at most one count rises. Where the store failed no
--- outcomes are reported.
+-- A fault of an object outside is reported only where it was counted in this run, and of the counts but the store's at most one rises. Where
+-- the store failed no outcomes are reported.
 pub record HasCauses (counts : Counts) (r : Report) : Type 0 where
   pub status : IsStatus r.status
   pub unreadable : r.status ≡ 5 → (Rises counts.files × IsStill counts.input) ⊎ (Rises counts.input × IsStill counts.files)

@@ -4,7 +4,6 @@ use Rattle.std.specs.Prelude.{Result, Ok, Err, OnOk, OnErr, is_err}
 use Rattle.cube_io.specs.Causes.{Rose}
 use Rattle.cube_io.specs.Seen.{SinkState, StoreState, WireState, Seen}
 use Rattle.cube_io.specs.declared.faults.Failed.{Failed}
-use Rattle.cube_model.specs.declared.policy.Policy.{Policy}
 use Rattle.cube_model.specs.Cores.{Core}
 use Rattle.cube_opening.specs.Causes.{HasCauses, only_out, only_store, only_wire}
 use Rattle.cube_opening.specs.declared.report.Report.{Report}
@@ -15,18 +14,9 @@ use Rattle.cube_server.specs.declared.serving.ServeFault.TheVariants.{WireFailed
 use Rattle.cube_serving.specs.Grouping.{UnstartedGroups}
 use Rattle.cube_serving.specs.Replaying.{played_status}
 use Rattle.cube_serving.specs.Serving.{served_status}
-use Rattle.cube_serving.specs.Starting.{Unstarted}
 use Rattle.cube_serving.proofs.Unstarted as groups
 
--- at the journal of a cube
-pub at_journal : {S : Type 0} (core : Core) (policy : Policy) (store : Seen StoreState S) (r : Report) → Unstarted core policy store r → HasCauses (only_store store) r
-at_journal core policy store r (inl e) = no_memory e.0.0 (record { files = refl; input = refl; out = refl; wire = refl })
-at_journal core policy store r (inr (inl e)) = no_memory e.0.0 (record { files = refl; input = refl; out = refl; wire = refl })
-at_journal core policy store r (inr (inr (inl e))) = at_store e.0.0 e.1 e.0.1 (record { files = refl; input = refl; out = refl; wire = refl })
-at_journal core policy store r (inr (inr (inr (inl (fault, e, calm))))) = own (inr (inr (inl e.1.0))) (record { files = refl; input = refl; out = refl; wire = refl })
-at_journal core policy store r (inr (inr (inr (inr (fault, e, calm))))) = own (inr (inr (inl e.1.0))) (record { files = refl; input = refl; out = refl; wire = refl })
-
--- at those of groups
+-- at their journals
 pub at_journals : {S : Type 0} (core : Core) (gs : List RuledGroup) (store : Seen StoreState S) (r : Report) → UnstartedGroups core gs store r → HasCauses (only_store store) r
 at_journals core gs store r e = go (groups.status core gs store r e)
   where

@@ -11,7 +11,8 @@ use Rattle.cube_opening.specs.Ruling.{HaveNames, MakeGroups, MakesGroups, one_gr
 use Rattle.cube_opening.specs.declared.cube_files.CubeFiles.{CubeFiles}
 use Rattle.cube_opening.specs.declared.ruling.RuledGroup.{RuledGroup}
 use Rattle.cube_serving.specs.Grouping.{GroupRun, ruled, ruled_by}
-use Rattle.cube_serving.specs.Laws.{under_one, everyone, IsTheCube, OneGroupIsTheCube, OneRunIsTheCube}
+use Rattle.cube_serving.specs.OneCube.{everyone, under}
+use Rattle.cube_serving.specs.Laws.{under_one, IsTheCube, OneGroupIsTheCube, OneRunIsTheCube}
 
 each_some : {X : Type 0} (o : Option X) (P Q : X → Type 0) → ((x : X) → P x → Q x) → IfSome o P → IfSome o Q
 each_some (Some x) P Q f h = f x h
@@ -68,9 +69,9 @@ one_run_is_the_cube core policy (g ∷ []) e = record {
   others = λ w. subst (λ (n : List ℕ). map (other_world n w) (room_by core g n g.policy) ≡ alone w g.first) (sym (unnamed e)) refl;
 }
   where
-    unnamed : ruled (g ∷ []) ≡ everyone policy ∷ [] → g.name ≡ []
+    unnamed : ruled (g ∷ []) ≡ under policy → g.name ≡ []
     unnamed k = ap (λ (x : RuledGroup). x.name) (first_is (ruled_by g) (everyone policy) k)
 
-    same : ruled (g ∷ []) ≡ everyone policy ∷ [] → g.policy ≡ policy
+    same : ruled (g ∷ []) ≡ under policy → g.policy ≡ policy
     same k = ap (λ (x : RuledGroup). x.policy) (first_is (ruled_by g) (everyone policy) k)
 one_run_is_the_cube core policy (g ∷ h ∷ gs) e = absurd (cc)

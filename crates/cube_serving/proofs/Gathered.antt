@@ -17,8 +17,8 @@ use Rattle.cube_journal.specs.Keeping.{IsInRecovery}
 use Rattle.cube_engine.specs.Kept.{history_of, IsExact, IsKept}
 use Rattle.cube_engine.specs.Opening.{StartCause, IsStartFault}
 use Rattle.cube_engine.specs.Worlds.{IsRuled}
-use Rattle.cube_engine.specs.declared.fault.EngineFault.{EngineFault}
-use Rattle.cube_engine.specs.declared.fault.EngineFault.TheVariants.{Failed, TooLong, Damaged, OtherCube, Inadmissible, NoMemory}
+use Rattle.cube_engine.specs.declared.fault.StartFault.{StartFault}
+use Rattle.cube_engine.specs.declared.fault.StartFault.TheVariants.{Failed, TooLong, Damaged, OtherCube, Inadmissible, NoMemory}
 use Rattle.cube_opening.specs.Reports.{IsReport, NoMessage}
 use Rattle.cube_seal.specs.Seals.{seal_log}
 use Rattle.cube_seal.specs.Values.{digest_of_values}
@@ -52,7 +52,7 @@ free_of name (b ∷ bs) e =
 -- ---- one group
 
 -- the report on a journal that was not opened says why
-pub refused_one : {S : Type 0} (core : Core) (k : ℕ) (g : RuledGroup) (store : Seen StoreState S) (fault : EngineFault) (words : List ℕ) (r : Report) → words ≡ called (codes "journal") g.name → StartCause {T = Unit {0}} store.before.faults store.after.faults (Err fault)
+pub refused_one : {S : Type 0} (core : Core) (k : ℕ) (g : RuledGroup) (store : Seen StoreState S) (fault : StartFault) (words : List ℕ) (r : Report) → words ≡ called (codes "journal") g.name → StartCause {T = Unit {0}} store.before.faults store.after.faults (Err fault)
     → (IsTrue store.before.told → IsStartFault (history_of core g.policy (store.before.logs k).state.now) (store.before.logs k).state.now fault) → IsReport (journal_status fault) (journal_text_as words fault) r ⊎ ((journal_status fault ≡ 4) × NoMessage r) → RestUnstarted core k (g ∷ []) store r
 refused_one core k g store Failed words r is cause why (inl e) = inr (inr (inl (e, cause.1)))
 refused_one core k g store NoMemory words r is cause why (inl e) = inr (inl (e, cause))

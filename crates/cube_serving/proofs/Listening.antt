@@ -26,30 +26,12 @@ served_not n zero eight ten (Ok u) e = zero (sym e)
 served_not n zero eight ten (Err WireFailed) e = eight (sym e)
 served_not n zero eight ten (Err (Spent requests events)) e = ten (sym e)
 
--- none of these is the status of one
-pub not_two : (end : Result (Unit {0}) ServeFault) → served_status end ≡ 2 → ⊥
-not_two end e = served_not 2 (λ k. omega (arith, k)) (λ k. omega (arith, k)) (λ k. omega (arith, k)) end e
-
-pub not_five : (end : Result (Unit {0}) ServeFault) → served_status end ≡ 5 → ⊥
-not_five end e = served_not 5 (λ k. omega (arith, k)) (λ k. omega (arith, k)) (λ k. omega (arith, k)) end e
-
-pub not_six : (end : Result (Unit {0}) ServeFault) → served_status end ≡ 6 → ⊥
-not_six end e = served_not 6 (λ k. omega (arith, k)) (λ k. omega (arith, k)) (λ k. omega (arith, k)) end e
-
+-- neither of these is the status of one
 pub not_seven : (end : Result (Unit {0}) ServeFault) → served_status end ≡ 7 → ⊥
 not_seven end e = served_not 7 (λ k. omega (arith, k)) (λ k. omega (arith, k)) (λ k. omega (arith, k)) end e
 
 pub not_nine : (end : Result (Unit {0}) ServeFault) → served_status end ≡ 9 → ⊥
 not_nine end e = served_not 9 (λ k. omega (arith, k)) (λ k. omega (arith, k)) (λ k. omega (arith, k)) end e
-
--- 8 is that of a wire that failed
-pub eight_failed : (end : Result (Unit {0}) ServeFault) → served_status end ≡ 8 → end ≡ Err WireFailed
-eight_failed (Ok u) e = absurd (omega (arith, e))
-eight_failed (Err WireFailed) e = refl
-eight_failed (Err (Spent requests events)) e = absurd (omega (arith, e))
-
-pub failed_eight : (end : Result (Unit {0}) ServeFault) → end ≡ Err WireFailed → served_status end ≡ 8
-failed_eight end e = rw e refl
 
 -- where the wire did not fail and not the most was taken, it is 0
 pub all_served : (end : Result (Unit {0}) ServeFault) → served_status end ≢ 10 → (end ≡ Err WireFailed → ⊥) → served_status end ≡ 0

@@ -23,7 +23,7 @@ use Rattle.cube_opening.specs.declared.cube_files.RuledFiles.{RuledFiles}
 use Rattle.cube_opening.specs.declared.ruling.RuledGroup.{RuledGroup}
 use Rattle.cube_seal.specs.Seals.{seal_log, IsSealed}
 use Rattle.cube_seal.specs.Values.{digest_of_values}
-use Rattle.cube_serving.specs.Grouping.{GroupRun, AllAgree, AllOf, AllRecover, AllSealed, AllSeals, AreOpen, AreStarted, OnlyFrom, OnlyFirst, journal_of, ruled, ruled_by}
+use Rattle.cube_serving.specs.Grouping.{GroupRun, AllOf, AllRecover, AllSealed, AllSeals, AreHeld, AreOpen, AreStarted, OnlyFrom, OnlyFirst, journal_of, ruled, ruled_by}
 use Rattle.cube_serving.specs.NamedBooks.{Groups}
 use Rattle.cube_serving.specs.Serving.{IsInTurn, HoldFrom, AreRunsOf, ServeWire, Served, Unserved, Wired}
 use Rattle.cube_serving.specs.Starting.{RecoversIn, SurvivedIn, HeldIn}
@@ -127,26 +127,33 @@ module _ {S : Type 0} (values : List ℕ) (tells : S → StoreState) (old mid ne
   seals_left k [] few a = a
   seals_left k (n ∷ ns) few a = (seals_still k values tells old mid new (λ told. left told k (omega (arith, few))) a.0, seals_left (suc k) ns (omega (arith, few)) a.1)
 
+pub held_left : {S : Type 0} (core : Core) (gs : List RuledGroup) (tells : S → StoreState) (old mid new : S) → length gs ≤ 16 → SealsLeft tells old mid new → AreHeld core gs (seen tells old mid) → AreHeld core gs (seen tells old new)
+held_left core gs tells old mid new few stays held =
+    let low : 0 + length (map journal_of gs) ≤ 16 = (let long = length-map gs journal_of in omega (arith, long, few)) in
+    let values = digest_of_values core in
+    record {
+      agreed = held.agreed;
+      sealed = λ told. sealed_left values tells old mid new stays told 0 (map journal_of gs) low (held.sealed told);
+      seals = seals_left values tells old mid new stays 0 (map journal_of gs) low held.seals;
+    }
+
 -- ---- open groups
 
 module _ {F S : Type 0} (cube : RuledFiles) (more : List (List ℕ)) (files : Seen FolderState F) (fs : List GroupFile) (core : Core) (gs : List RuledGroup) (tells : S → StoreState) (old mid : S) (bs : List NamedBook)
     (make : MakeGroups cube files.before core fs gs) (behind : GotBehind (ruled_names cube fs ++ more) files) (started : AreStarted core (seen tells old mid) 0 gs bs)
     (over : Each (λ b. b.book.core ≡ core) bs) (rules : Each (λ b. IsRuled b.book) bs)
-    (few : length gs ≤ 16) (agreed : IsTrue (tells old).told → AllAgree (digest_of_values core) (tells old) 0 (map journal_of gs)) (sealed : IsTrue (tells old).told → AllSealed (digest_of_values core) (tells mid) 0 (map journal_of gs)) (seals : AllSeals (digest_of_values core) (seen tells old mid) 0 (map journal_of gs)) where
+    (few : length gs ≤ 16) (held : AreHeld core gs (seen tells old mid)) where
   -- while the logs of the seals are left alone
   pub are_open : (new : S) (rs : List GroupRun) → AreRunsOf bs rs → SealsLeft tells old mid new → AreOpen cube more files (seen tells old new) core rs
   are_open new rs runs stays =
       let same = sym (runs_ruled core (seen tells old mid) 0 gs bs rs started runs) in
-      let low : 0 + length (map journal_of gs) ≤ 16 = (let long = length-map gs journal_of in omega (arith, long, few)) in
       record {
         listed = fs;
         files_make = subst (MakeGroups cube files.before core fs) same make;
         behind = behind;
         recovered = λ told. runs_recovered core (seen tells old mid) 0 gs bs rs started runs told;
         admissible = runs_admissible core bs rs runs over rules;
-        agreed = λ told. subst (λ (l : List RuledGroup). AllAgree (digest_of_values core) (tells old) 0 (map journal_of l)) same (agreed told);
-        sealed = λ told. subst (λ (l : List RuledGroup). AllSealed (digest_of_values core) (tells new) 0 (map journal_of l)) same (sealed_left (digest_of_values core) tells old mid new stays told 0 (map journal_of gs) low (sealed told));
-        seals = subst (λ (l : List RuledGroup). AllSeals (digest_of_values core) (seen tells old new) 0 (map journal_of l)) same (seals_left (digest_of_values core) tells old mid new stays 0 (map journal_of gs) low seals);
+        held = subst (λ (l : List RuledGroup). AreHeld core l (seen tells old new)) same (held_left core gs tells old mid new few stays held);
       }
 
   -- at each moment of the opening their logs recovered the same
@@ -174,15 +181,17 @@ module _ {F S : Type 0} (cube : RuledFiles) (more : List (List ℕ)) (files : Se
         core = core;
         opened = are_open new w.asking.groups runs stays;
         wired = both.0;
-        survived = λ are. all_three (λ k (g : GroupRun). IsExact core g.policy g.first ((tells mid).logs k).state) (λ k (g : GroupRun). RecoversIn k core g.policy (seen tells old mid)) (λ k (g : GroupRun). SurvivedIn k core g.policy g.first g.last w.asking.outcomes (seen tells old new)) 0 w.asking.groups
-            (w.survived (subst IsTrue (sym told_same) are) old (sym told_same))
-            (runs_exact core (seen tells old mid) 0 gs bs w.asking.groups started runs are)
-            (all_unmap (λ k (g : RuledGroup). RecoversIn k core g.policy (seen tells old mid)) ruled_by 0 w.asking.groups (run_recovers w.asking.groups runs passed));
-        held = λ are. all_three (λ k (g : GroupRun). IsExact core g.policy g.first ((tells mid).logs k).state) (λ k (g : GroupRun). RecoversIn k core g.policy (seen tells old mid)) (λ k (g : GroupRun). HeldIn k core g.policy (IsInTurn core w.asking.groups both.0.asked.calls k) (seen tells old new)) 0 w.asking.groups
-            (both.1 (subst IsTrue (sym told_same) are) old (sym told_same))
-            (runs_exact core (seen tells old mid) 0 gs bs w.asking.groups started runs are)
-            (all_unmap (λ k (g : RuledGroup). RecoversIn k core g.policy (seen tells old mid)) ruled_by 0 w.asking.groups (run_recovers w.asking.groups runs passed));
-        failed = subst (λ (n : ℕ). RoseBy (faults_in w.asking.outcomes) n (tells new).faults) steady (subst (λ (os : List Outcome). RoseBy (faults_in os) (tells mid).faults (tells new).faults) (sym w.outcomes) failed);
+        kept = record {
+          survived = λ are. all_three (λ k (g : GroupRun). IsExact core g.policy g.first ((tells mid).logs k).state) (λ k (g : GroupRun). RecoversIn k core g.policy (seen tells old mid)) (λ k (g : GroupRun). SurvivedIn k core g.policy g.first g.last w.asking.outcomes (seen tells old new)) 0 w.asking.groups
+              (w.survived (subst IsTrue (sym told_same) are) old (sym told_same))
+              (runs_exact core (seen tells old mid) 0 gs bs w.asking.groups started runs are)
+              (all_unmap (λ k (g : RuledGroup). RecoversIn k core g.policy (seen tells old mid)) ruled_by 0 w.asking.groups (run_recovers w.asking.groups runs passed));
+          held = λ are. all_three (λ k (g : GroupRun). IsExact core g.policy g.first ((tells mid).logs k).state) (λ k (g : GroupRun). RecoversIn k core g.policy (seen tells old mid)) (λ k (g : GroupRun). HeldIn k core g.policy (IsInTurn core w.asking.groups both.0.asked.calls k) (seen tells old new)) 0 w.asking.groups
+              (both.1 (subst IsTrue (sym told_same) are) old (sym told_same))
+              (runs_exact core (seen tells old mid) 0 gs bs w.asking.groups started runs are)
+              (all_unmap (λ k (g : RuledGroup). RecoversIn k core g.policy (seen tells old mid)) ruled_by 0 w.asking.groups (run_recovers w.asking.groups runs passed));
+          failed = subst (λ (n : ℕ). RoseBy (faults_in w.asking.outcomes) n (tells new).faults) steady (subst (λ (os : List Outcome). RoseBy (faults_in os) (tells mid).faults (tells new).faults) (sym w.outcomes) failed);
+        };
       }
 
 -- ---- what a serving leaves alone

@@ -191,14 +191,7 @@ pub overran : (w : Playing) (old new : DeskState) (events : ℕ) (capacity : Sen
 overran w old new events capacity playing is served some =
     let o : Overran capacity w.log = subst (λ (most : SendCapacity). Overran most w.log) is (playing.cause some) in
     let (more, shut, waits) = fails_last old.manner old.rooms (events_in w.log) (luck_of (stated_at old events) served.outcomes (sends_in w.log) served.starved) o.before o.behind o.conn [] o.size (sym served.told ∙ o.whole) in
-    record {
-      before = o.before;
-      conn = o.conn;
-      size = o.size;
-      whole = o.whole ∙ ap (λ (l : List LogEntry). o.before ++ Torn o.conn [] o.size ∷ l) (closed_last o.conn o.behind more shut waits o.unheard);
-      only = o.first;
-      passes = o.passes;
-    }
+    record { overran = o; last = closed_last o.conn o.behind more shut waits o.unheard }
 
 -- ---- what is written
 
@@ -212,22 +205,11 @@ on_ok (Ok u) p = p
 on_ok (Err e) p = tt
 
 -- the end of a play as a status
-
 pub finish : (torn : Bool) (end : Result (Unit {0}) ServeFault) (status : ℕ) → status ≡ played_status torn end → status ≢ 10 → (torn ≡ false → end ≡ Err WireFailed → ⊥) → (status ≡ 0) ⊎ (status ≡ 7)
 finish true end status is some none = absurd (some is)
 finish false (Ok u) status is some none = inl is
 finish false (Err WireFailed) status is some none = absurd (none refl refl)
 finish false (Err (Spent requests events)) status is some none = absurd (some is)
-
-not_eight : (torn : Bool) (end : Result (Unit {0}) ServeFault) → played_status torn end ≡ 8 → (torn ≡ false → end ≡ Err WireFailed → ⊥) → ⊥
-not_eight true end k none = omega (arith, k)
-not_eight false (Ok u) k none = omega (arith, k)
-not_eight false (Err WireFailed) k none = none refl refl
-not_eight false (Err (Spent requests events)) k none = omega (arith, k)
-
-pub no_wire_failed : (done : Result (Unit {0}) Fault) (torn : Bool) (end : Result (Unit {0}) ServeFault) (r : Report) (P Q : Type 0) → OnOk done ((r.status ≡ played_status torn end) × P) → (is_err done ≡ true → (r.status ≡ 6) × Q) → (torn ≡ false → end ≡ Err WireFailed → ⊥) → r.status ≡ 8 → ⊥
-no_wire_failed (Ok u) torn end r P Q put unput none is = not_eight torn end (sym put.0 ∙ is) none
-no_wire_failed (Err e) torn end r P Q put unput none is = let six = (unput refl).0 in omega (arith, six, is)
 
 pub finished : (done : Result (Unit {0}) Fault) (torn : Bool) (end : Result (Unit {0}) ServeFault) (r : Report) (P Q : Type 0) → OnOk done ((r.status ≡ played_status torn end) × P) → OnErr done Q → ¬ Q → r.status ≢ 10 → (torn ≡ false → end ≡ Err WireFailed → ⊥) → (r.status ≡ 0) ⊎ (r.status ≡ 7)
 finished (Ok u) torn end r P Q put err quiet some none = finish torn end r.status put.0 some none

@@ -17,18 +17,11 @@ use Rattle.cube_seal.specs.declared.fault.SealFault.TheVariants.{Failed, NoMemor
 use Rattle.cube_opening.specs.Reports.{IsReport, NoMessage}
 use Rattle.cube_opening.specs.declared.report.Report.{Report}
 use Rattle.cube_serving.specs.Grouping.{AllAgree, AllSealed, AllSeals, EndsAtSeals, IsUnsealedAt, OnlySeals}
-use Rattle.cube_serving.specs.Starting.{seal_text_as, seal_status, EndsAtSeal, Unstarted, OnlyJournal, Opens, Recovers, SealsIn}
+use Rattle.cube_serving.specs.Starting.{seal_text_as, seal_status, EndsAtSeal, SealsIn}
 
 -- the seal's log is not the journal's
 pub seal_is_other : seal_log 0 ≢ 0
 seal_is_other e = omega (arith, e)
-
-pub journal_is_other : 0 ≢ seal_log 0
-journal_is_other e = omega (arith, e)
-
--- what is known of the journal stays while its seal is held
-pub recovers_on : {S : Type 0} (core : Core) (policy : Policy) (tells : S → StoreState) (old mid new : S) → (tells mid).told ≡ (tells old).told → OthersStay (seal_log 0) (tells mid) (tells new) → Recovers core policy (seen tells old mid) → Recovers core policy (seen tells old new)
-recovers_on core policy tells old mid new same others recovers = λ told. subst (λ (l : Log). Gained (IsInRecovery (history_of core policy) ((tells old).logs 0).state) ((tells old).logs 0) l) (sym (others (subst IsTrue (sym same) told) 0 journal_is_other)) (recovers told)
 
 -- what is known of the seal beside a log at entry holds where it begins to be held
 pub seals_from : {S : Type 0} (log : ℕ) (values : List ℕ) (tells : S → StoreState) (old mid new : S) → (tells mid).told ≡ (tells old).told → (IsTrue (tells old).told → (tells mid).logs (seal_log log) ≡ (tells old).logs (seal_log log))
@@ -44,18 +37,6 @@ seals_still log values tells old mid new stays seals = λ told able. subst (λ (
 -- where it is not reached
 pub seals_unreached : {S : Type 0} (log : ℕ) (values : List ℕ) (tells : S → StoreState) (old new : S) → (IsTrue (tells old).told → (tells new).logs (seal_log log) ≡ (tells old).logs (seal_log log)) → SealsIn log values (seen tells old new)
 seals_unreached log values tells old new stays = λ told able. subst (λ (l : Log). Gained (IsSealable values) ((tells old).logs (seal_log log)) l) (sym (stays told)) (gained_none (IsSealable values) ((tells old).logs (seal_log log)) ((tells old).logs (seal_log log)) refl)
-
--- no log changed but these two
-pub only_journal : (old mid new : StoreState) → mid.told ≡ old.told → OthersStay 0 old mid → OthersStay (seal_log 0) mid new → OnlyJournal old new
-only_journal old mid new same first second = λ told k zero seal. second (subst IsTrue (sym same) told) k seal ∙ first told k zero
-
-pub opens : {S : Type 0} (tells : S → StoreState) (old mid new : S) → (tells mid).told ≡ (tells old).told → OthersStay 0 (tells old) (tells mid) → (IsTrue (tells old).told → (tells mid).calls ≤ (tells old).calls + 8)
-    → OthersStay (seal_log 0) (tells mid) (tells new) → Works (tells mid) (tells new) 4 → Opens (seen tells old new)
-opens tells old mid new same first few second works = record {
-  told = works.told ∙ same;
-  others = only_journal (tells old) (tells mid) (tells new) same first second;
-  calls = λ told. (let a = few told in let b = works.calls (subst IsTrue (sym same) told) in omega (arith, a, b));
-}
 
 -- the report on a seal says why
 pub at_seal : {S : Type 0} (log : ℕ) (called values : List ℕ) (store : Seen StoreState S) (fault : SealFault) (r : Report) → SealCause {T = Unit {0}} store.before.faults store.after.faults (Err fault)
@@ -77,13 +58,6 @@ unsealed_from log called values tells old mid new r same stays calm (inr (inl e)
 unsealed_from log called values tells old mid new r same stays calm (inr (inr (inl e))) = inr (inr (inl (e.0, subst (λ (n : ℕ). Rose n (tells new).faults) calm e.1)))
 unsealed_from log called values tells old mid new r same stays calm (inr (inr (inr (fault, e, steady)))) =
     inr (inr (inr (fault, (e.0, e.1, λ told. subst (λ (l : Log). IsSealFault values l.state.now fault) (stays told) (e.2 (subst IsTrue (sym same) told))), steady ∙ calm)))
-
--- so a run over one journal ends
-pub unsealed : {S : Type 0} (core : Core) (policy : Policy) (store : Seen StoreState S) (r : Report) → EndsAtSeal 0 (codes "journal") (digest_of_values core) store r → Unstarted core policy store r
-unsealed core policy store r (inl e) = inl e
-unsealed core policy store r (inr (inl e)) = inr (inl e)
-unsealed core policy store r (inr (inr (inl e))) = inr (inr (inl e))
-unsealed core policy store r (inr (inr (inr e))) = inr (inr (inr (inr e)))
 
 -- ---- the seals of journals, one behind another
 

@@ -1,57 +1,63 @@
--- What an engine as a desk says of its log, and the cube that is open behind it.
-use Rattle.std.proofs.Common.{◌≡◌, ℕ, List, [], Ok, IsTrue, sym, subst}
+-- The one group of all users, whose book was started.
+use Rattle.std.proofs.Common.{◌≡◌, ◌∙◌, ℕ, List, [], ◌∷◌, Option, None, ap, subst, arith}
 use Rattle.cube_model.specs.declared.entry.Entry.{Entry}
+use Rattle.cube_model.specs.declared.outcome.Outcome.{Outcome}
 use Rattle.cube_model.specs.declared.policy.Policy.{Policy}
+use Rattle.cube_model.specs.declared.request.Request.{Request}
 use Rattle.cube_model.specs.Cores.{Core, shown}
-use Rattle.cube_model.specs.Rooms.{Room}
 use Rattle.cube_model.specs.Verdicts.{IsAdmissible}
-use Rattle.cube_io.specs.Seen.{FolderState, StoreState, seen}
-use Rattle.cube_io.specs.States.{State, Log, Gained}
+use Rattle.cube_io.specs.Seen.{FolderState, StoreState, Seen, seen}
+use Rattle.cube_engine.specs.Books.{Book}
 use Rattle.cube_journal.specs.Keeping.{Journal}
-use Rattle.cube_engine.specs.Engines.{Engine, book_of}
-use Rattle.cube_engine.specs.Kept.{history_of, IsExact, IsWithin}
-use Rattle.cube_engine.specs.Worlds.{first_history, IsRuled}
 use Rattle.cube_opening.specs.Opening.{Make}
 use Rattle.cube_opening.specs.declared.cube_files.CubeFiles.{CubeFiles}
-use Rattle.cube_seal.specs.Seals.{seal_log, Agrees, IsSealed, IsSealable}
-use Rattle.cube_seal.specs.Values.{digest_of_values}
-use Rattle.cube_serving.specs.Starting.{IsOpen, Seals}
+use Rattle.cube_serving.specs.Grouping.{AreHeld}
+use Rattle.cube_serving.specs.NamedBooks.{Groups}
+use Rattle.cube_serving.specs.OneCube.{under, unnamed, IsBegun, IsBegunAlone, IsOpen}
+use Rattle.cube_serving.specs.declared.named.NamedBook.{NamedBook}
+use Rattle.cube_serving.proofs.OpenGroups.{SealsLeft, held_left}
 
--- every crash leaves what recovers the history of its room
-abbrev pub exact_of : Engine → List Room → ℕ → State → Type 0
-exact_of e rooms log s = (log ≡ e.journal.log) × IsExact e.core e.policy (first_history rooms) s
+abbrev made : List NamedBook → List Outcome → ℕ → Groups
+made bs os n = record { books = bs; outcomes = os; left = n }
 
--- or that one with one more request
-abbrev pub within_of : Engine → List Room → ℕ → State → Type 0
-within_of e rooms log s = (log ≡ e.journal.log) × IsWithin e.core e.policy (first_history rooms) s
-
--- an engine that was asked nothing
-abbrev pub begun : Core → Policy → List Entry → Journal → ℕ → Engine
-begun core policy h j stated = record { core = core; policy = policy; history = h; journal = j; outcomes = []; left = stated }
+abbrev book_of : Core → Policy → List Entry → Option Request → Journal → Book
+book_of c p h w j = record { core = c; policy = p; history = h; waiting = w; journal = j }
 
 -- ---- an open cube
 
 -- behind the opening of its journal
-pub opened : {S : Type 0} (cube : CubeFiles) (files : FolderState) (tells : S → StoreState) (old mid : S) (core : Core) (policy : Policy) (e : Engine) (stated : ℕ) → Make cube files core policy
-    → e ≡ begun core policy e.history e.journal stated → IsRuled (book_of e) → (IsTrue (tells old).told → history_of core policy ((tells old).logs 0).state.now ≡ Ok e.history) → (IsTrue (tells old).told → Agrees (digest_of_values core) ((tells old).logs (seal_log 0)).state.now)
-    → (IsTrue (tells old).told → IsSealed (digest_of_values core) ((tells mid).logs (seal_log 0)).state) → Seals (digest_of_values core) (seen tells old mid) → IsOpen cube files (seen tells old mid) core policy e.history
-opened cube files tells old mid core policy e stated make is rules recovered agreed sealed seals = record {
+pub opened : {S : Type 0} (cube : CubeFiles) (files : FolderState) (core : Core) (policy : Policy) (store : Seen StoreState S) (b : Book) → Make cube files core policy → IsBegun core policy store b → AreHeld core (under policy) store → IsOpen cube files store core policy b.history
+opened cube files core policy store b make begun held = record {
   files_make = make;
-  recovered = recovered;
-  admissible = subst (λ (x : Engine). IsAdmissible (shown x.core x.policy) e.history) is rules.admissible;
-  agreed = agreed;
-  sealed = sealed;
-  seals = seals;
+  recovered = begun.started.history;
+  admissible = subst (λ (c : Core). IsAdmissible (shown c policy) b.history) begun.started.core_is (subst (λ (p : Policy). IsAdmissible (shown b.core p) b.history) begun.started.policy begun.started.rules.admissible);
+  held = held;
 }
 
--- and while the log of its seal is left alone
-pub still_open : {S : Type 0} (cube : CubeFiles) (files : FolderState) (tells : S → StoreState) (old mid new : S) (core : Core) (policy : Policy) (history : List Entry) → (IsTrue (tells old).told → (tells new).logs (seal_log 0) ≡ (tells mid).logs (seal_log 0))
+-- and while the logs of its seal are left alone
+pub still_open : {S : Type 0} (cube : CubeFiles) (files : FolderState) (tells : S → StoreState) (old mid new : S) (core : Core) (policy : Policy) (history : List Entry) → SealsLeft tells old mid new
     → IsOpen cube files (seen tells old mid) core policy history → IsOpen cube files (seen tells old new) core policy history
-still_open cube files tells old mid new core policy history same o = record {
+still_open cube files tells old mid new core policy history left o = record {
   files_make = o.files_make;
   recovered = o.recovered;
   admissible = o.admissible;
-  agreed = o.agreed;
-  sealed = λ told. subst (λ (l : Log). IsSealed (digest_of_values core) l.state) (sym (same told)) (o.sealed told);
-  seals = λ told able. subst (λ (l : Log). Gained (IsSealable (digest_of_values core)) ((tells old).logs (seal_log 0)) l) (sym (same told)) (o.seals told able);
+  held = held_left core (under policy) tells old mid new (omega arith) left o.held;
 }
+
+-- what holds of a book over its core, its policy and its history holds over those of the cube
+pub over : {S : Type 0} (says : Core → Policy → List Entry → Type 0) (core : Core) (policy : Policy) (store : Seen StoreState S) (b : Book) → IsBegun core policy store b → says b.core b.policy b.history → says core policy b.history
+over says core policy store b begun x = subst (λ (c : Core). says c policy b.history) begun.started.core_is (subst (λ (p : Policy). says b.core p b.history) begun.started.policy x)
+
+-- the groups of all users, whose book was begun so, are these
+pub groups_are : {S : Type 0} (core : Core) (policy : Policy) (stated : ℕ) (store : Seen StoreState S) (e : Groups) (a : IsBegunAlone core policy stated store e)
+    → e ≡ record { books = unnamed (record { core = core; policy = policy; history = a.book.history; waiting = None; journal = a.book.journal }) ∷ []; outcomes = []; left = stated }
+groups_are core policy stated store e a =
+    let b = a.book in
+    let one = unnamed (book_of core policy b.history None b.journal) ∷ [] in
+    ap (λ (bs : List NamedBook). made bs e.outcomes e.left) (a.books_are ∙ ap (λ (c : Book). unnamed c ∷ []) (
+    ap (λ (c : Core). book_of c b.policy b.history b.waiting b.journal) a.begun.started.core_is
+    ∙ ap (λ (p : Policy). book_of core p b.history b.waiting b.journal) a.begun.started.policy
+    ∙ ap (λ (w : Option Request). book_of core policy b.history w b.journal) a.begun.idle
+    ))
+    ∙ ap (λ (os : List Outcome). made one os e.left) a.outcomes
+    ∙ ap (λ (n : ℕ). made one [] n) a.left

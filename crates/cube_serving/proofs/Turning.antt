@@ -24,7 +24,7 @@ use Rattle.cube_io.specs.Desks.{GivesRooms, LeavesAll, IsOneOf}
 use Rattle.cube_io.proofs.Leaving.{leaves_all_map, leaves_all_none}
 use Rattle.cube_io.proofs.Outcomes.{works_more}
 use Rattle.cube_io.proofs.Trails.{gained_none, gained_map}
-use Rattle.cube_engine.specs.Books.{Book, book_reply, book_history, StaysExact, KeepsInHand, IsRenewed}
+use Rattle.cube_engine.specs.Books.{Book, book_reply, book_history, AnswersOne, StaysExact, KeepsInHand, IsRenewed}
 use Rattle.cube_engine.specs.Kept.{IsKept, GivesHistory, IsExact, IsWithin}
 use Rattle.cube_engine.specs.Prepared.{SettleCause}
 use Rattle.cube_engine.specs.Steps.{by_words, call, manner}
@@ -107,25 +107,6 @@ module _ (g : NamedBook) (back : List NamedBook) where
 
 -- ---- one book answers
 
--- what a book says of its answer
-pub record IsAnswer (b c : Book) (q : Question) (reply : Reply) (o : Outcome) (st st' : StoreState) : Type 0 where
-  pub replied : reply ≡ book_reply o b q
-  pub history : c.history ≡ book_history o b q
-  pub core : c.core ≡ b.core
-  pub policy : c.policy ≡ b.policy
-  pub log : c.journal.log ≡ b.journal.log
-  pub none : c.waiting ≡ None
-  pub cause : SettleCause o (book_history Given b q ≢ b.history) st.faults st'.faults
-  pub works : Works st st' (cond b.journal.failed 4 2)
-  pub quiet : o ≢ JournalFault → c.journal.failed ≡ true → b.journal.failed ≡ true
-  pub others : OthersStay b.journal.log st st'
-  pub kept : IsTrue st.told → IsKept b.core b.policy c.history c.journal (st'.logs b.journal.log).state
-  pub exact : o ≢ JournalFault → StaysExact b c.history st st'
-  pub within : IsTrue st.told → IsWithin b.core b.policy c.history (st'.logs b.journal.log).state
-  pub crash : IsTrue st.told → Gained (IsWithin b.core b.policy b.history) (st.logs b.journal.log) (st'.logs b.journal.log)
-  pub in_hand : IsTrue st.told → KeepsInHand b (book_history Given b q) (st.logs b.journal.log) (st'.logs b.journal.log)
-  pub renewed : o ≢ JournalFault → IsTrue st.told → IsRenewed b c.history (st.logs b.journal.log) (st'.logs b.journal.log)
-
 -- at this state a crash leaves nothing
 abbrev nowhere : State
 nowhere = record { now = []; safe = []; tails = [] }
@@ -135,7 +116,7 @@ decide m n equal other = tested (eqb m n) (λ t. equal (eqb-true m n t)) (λ f. 
 
 module _ (front back : List NamedBook) (g h : NamedBook) (a : Ask) (reply : Reply) (o : Outcome) (st st' : StoreState)
     (order : AreInOrder (front ++ g ∷ back)) (before : Each (λ x. same x.name (aim a.group) ≡ false) front) (here : same g.name (aim a.group) ≡ true)
-    (name : h.name ≡ g.name) (f : IsAnswer g.book h.book a.question reply o st st') where
+    (name : h.name ≡ g.name) (f : AnswersOne g.book h.book a.question reply o st st') where
   abbrev old : List NamedBook
   old = front ++ g ∷ back
 
@@ -265,7 +246,7 @@ module _ (front back : List NamedBook) (g h : NamedBook) (a : Ask) (reply : Repl
 -- the same of a list with the book at a place
 module _ (gs : List NamedBook) (g h : NamedBook) (k : ℕ) (a : Ask) (reply : Reply) (o : Outcome) (st st' : StoreState)
     (order : AreInOrder gs) (place_is : position (is_named (aim a.group)) gs ≡ Some k) (at : g ≡ get_or gs k g)
-    (name : h.name ≡ g.name) (f : IsAnswer g.book h.book a.question reply o st st') where
+    (name : h.name ≡ g.name) (f : AnswersOne g.book h.book a.question reply o st st') where
   parts : Split (aim a.group) gs g k
   parts = split (aim a.group) gs g k place_is at
 

@@ -34,15 +34,6 @@ status cube folder r (inl (inl e)) = one_status dims_said cube.dims folder r e.u
 status cube folder r (inl (inr e)) = one_status (facts_said e.0) cube.facts folder r e.2.unopened
 status cube folder r (inr e) = at_rules e.0.dims (cube.dims ∷ cube.facts ∷ []) cube.rules folder r e.2
 
-pub not_two : {F : Type 0} (cube : RuledFiles) (folder : Seen FolderState F) (r : Report) → EndsUnruled cube folder r → r.status ≡ 2 → ⊥
-not_two cube folder r e = other r.status 2 (λ k. omega (arith, k)) (λ k. omega (arith, k)) (λ k. omega (arith, k)) (status cube folder r e)
-
-pub not_six : {F : Type 0} (cube : RuledFiles) (folder : Seen FolderState F) (r : Report) → EndsUnruled cube folder r → r.status ≡ 6 → ⊥
-not_six cube folder r e = other r.status 6 (λ k. omega (arith, k)) (λ k. omega (arith, k)) (λ k. omega (arith, k)) (status cube folder r e)
-
-pub not_eight : {F : Type 0} (cube : RuledFiles) (folder : Seen FolderState F) (r : Report) → EndsUnruled cube folder r → r.status ≡ 8 → ⊥
-not_eight cube folder r e = other r.status 8 (λ k. omega (arith, k)) (λ k. omega (arith, k)) (λ k. omega (arith, k)) (status cube folder r e)
-
 pub not_nine : {F : Type 0} (cube : RuledFiles) (folder : Seen FolderState F) (r : Report) → EndsUnruled cube folder r → r.status ≡ 9 → ⊥
 not_nine cube folder r e = other r.status 9 (λ k. omega (arith, k)) (λ k. omega (arith, k)) (λ k. omega (arith, k)) (status cube folder r e)
 
@@ -62,29 +53,6 @@ pub unasked : {F : Type 0} (cube : RuledFiles) (folder : Seen FolderState F) (r 
 unasked cube folder r (inl (inl e)) = one_unasked dims_said cube.dims folder r e.unopened
 unasked cube folder r (inl (inr e)) = one_unasked (facts_said e.0) cube.facts folder r e.2.unopened
 unasked cube folder r (inr e) = rules_unasked e.0.dims (cube.dims ∷ cube.facts ∷ []) cube.rules folder r e.2
-
--- ---- with status 5 the folder counted a fault
-
-pub one_unreadable : {X F : Type 0} (said : List ℕ → Result X (List ℕ)) (name : List ℕ) (folder : Seen FolderState F) (r : Report) → Unopened said name folder r → r.status ≡ 5 → Rose folder.before.faults folder.after.faults
-one_unreadable said name folder r (inl e) five = absurd (omega (arith, e.0, five))
-one_unreadable said name folder r (inr (inl e)) five = absurd (omega (arith, e.0, five))
-one_unreadable said name folder r (inr (inr (inl e))) five = e.1
-one_unreadable said name folder r (inr (inr (inr e))) five = absurd (omega (arith, e.0.0, five))
-
-one_of_unreadable : {F : Type 0} (s : Dims) (earlier : List (List ℕ)) (fs : List GroupFile) (folder : Seen FolderState F) (r : Report) → EndsAtOne s earlier fs folder r → r.status ≡ 5 → Rose folder.before.faults folder.after.faults
-one_of_unreadable s earlier [] folder r e five = absurd (omega (arith, e.0.0, five))
-one_of_unreadable s earlier (f ∷ fs) folder r (inl e) five = one_unreadable (group_policy_said s f.name) f.policy folder r e.unopened five
-one_of_unreadable s earlier (f ∷ fs) folder r (inr e) five = one_of_unreadable s (earlier ++ f.policy ∷ []) fs folder r e.1 five
-
-rules_unreadable : {F : Type 0} (s : Dims) (earlier : List (List ℕ)) (rules : Rules) (folder : Seen FolderState F) (r : Report) → EndsAtRules s earlier rules folder r → r.status ≡ 5 → Rose folder.before.faults folder.after.faults
-rules_unreadable s earlier (One policy) folder r e five = one_of_unreadable s earlier (one_group policy) folder r e five
-rules_unreadable s earlier (Groups name) folder r (inl e) five = one_unreadable groups_said name folder r e.unopened five
-rules_unreadable s earlier (Groups name) folder r (inr (fs, says, e)) five = one_of_unreadable s (earlier ++ name ∷ []) fs folder r e five
-
-pub unreadable : {F : Type 0} (cube : RuledFiles) (folder : Seen FolderState F) (r : Report) → EndsUnruled cube folder r → r.status ≡ 5 → Rose folder.before.faults folder.after.faults
-unreadable cube folder r (inl (inl e)) five = one_unreadable dims_said cube.dims folder r e.unopened five
-unreadable cube folder r (inl (inr e)) five = one_unreadable (facts_said e.0) cube.facts folder r e.2.unopened five
-unreadable cube folder r (inr e) five = rules_unreadable e.0.dims (cube.dims ∷ cube.facts ∷ []) cube.rules folder r e.2 five
 
 -- ---- where its files are accepted it is for want of memory
 

@@ -9,8 +9,8 @@ use Rattle.cube_io.specs.Causes.{Rose}
 use Rattle.cube_io.specs.Seen.{StoreState, Seen}
 use Rattle.cube_engine.specs.Kept.{history_of}
 use Rattle.cube_engine.specs.Opening.{IsStartFault}
-use Rattle.cube_engine.specs.declared.fault.EngineFault.{EngineFault}
-use Rattle.cube_engine.specs.declared.fault.EngineFault.TheVariants.{Failed, TooLong, Damaged, OtherCube, Inadmissible, NoMemory}
+use Rattle.cube_engine.specs.declared.fault.StartFault.{StartFault}
+use Rattle.cube_engine.specs.declared.fault.StartFault.TheVariants.{Failed, TooLong, Damaged, OtherCube, Inadmissible, NoMemory}
 use Rattle.cube_opening.specs.declared.report.Report.{Report}
 use Rattle.cube_opening.specs.declared.ruling.RuledGroup.{RuledGroup}
 use Rattle.cube_seal.specs.Seals.{seal_log, Agrees, IsSealFault}
@@ -18,7 +18,7 @@ use Rattle.cube_seal.specs.Values.{digest_of_values}
 use Rattle.cube_seal.specs.declared.reading.Said.TheVariants as said
 use Rattle.cube_seal.specs.declared.fault.SealFault.{SealFault}
 use Rattle.cube_seal.specs.declared.fault.SealFault.TheVariants as seal
-use Rattle.cube_serving.specs.Grouping.{AllAgree, AllOf, IsAccepted, IsRefusedAt, IsUnsealedAt, UnstartedGroups, journal_of}
+use Rattle.cube_serving.specs.Grouping.{AllAgree, AllOf, AreAccepted, IsAccepted, IsRefusedAt, IsUnsealedAt, UnstartedGroups, journal_of}
 use Rattle.cube_serving.specs.Starting.{journal_status, seal_status}
 
 -- ---- its status: 4, 7 or 9
@@ -60,27 +60,10 @@ module _ {S : Type 0} (core : Core) (gs : List RuledGroup) (store : Seen StoreSt
   failed (inr (inr (inr (inl e)))) nine = absurd (omega (arith, (refused core 0 gs store.before r e.0).0, nine))
   failed (inr (inr (inr (inr e)))) nine = absurd (omega (arith, (unsealed (digest_of_values core) 0 (map journal_of gs) store.before r e.0).0, nine))
 
-  other : (k : ℕ) → (k ≡ 4 → ⊥) → (k ≡ 7 → ⊥) → (k ≡ 9 → ⊥) → IsOfJournals r.status → r.status ≡ k → ⊥
-  other k four seven nine (inl e) is = four (sym is ∙ e)
-  other k four seven nine (inr (inl e)) is = seven (sym is ∙ e)
-  other k four seven nine (inr (inr e)) is = nine (sym is ∙ e)
-
-  pub not_two : UnstartedGroups core gs store r → r.status ≡ 2 → ⊥
-  not_two e = other 2 (λ k. omega (arith, k)) (λ k. omega (arith, k)) (λ k. omega (arith, k)) (status e)
-
-  pub not_five : UnstartedGroups core gs store r → r.status ≡ 5 → ⊥
-  not_five e = other 5 (λ k. omega (arith, k)) (λ k. omega (arith, k)) (λ k. omega (arith, k)) (status e)
-
-  pub not_six : UnstartedGroups core gs store r → r.status ≡ 6 → ⊥
-  not_six e = other 6 (λ k. omega (arith, k)) (λ k. omega (arith, k)) (λ k. omega (arith, k)) (status e)
-
-  pub not_eight : UnstartedGroups core gs store r → r.status ≡ 8 → ⊥
-  not_eight e = other 8 (λ k. omega (arith, k)) (λ k. omega (arith, k)) (λ k. omega (arith, k)) (status e)
-
 -- ---- where the journals and the seal are accepted it is for want of memory
 
 -- no fault of these bytes
-sound : (said : Result (List Entry) EngineFault) (bytes : List ℕ) (fault : EngineFault) → length bytes ≤ 2 ^ 28 → IsOk said → journal_status fault ≡ 4 → IsStartFault said bytes fault → ⊥
+sound : (said : Result (List Entry) StartFault) (bytes : List ℕ) (fault : StartFault) → length bytes ≤ 2 ^ 28 → IsOk said → journal_status fault ≡ 4 → IsStartFault said bytes fault → ⊥
 sound said bytes Failed short ok four is = omega (arith, four)
 sound said bytes NoMemory short ok four is = omega (arith, four)
 sound said bytes TooLong short ok four is = omega (arith, short, is)
@@ -112,10 +95,10 @@ none_unsealed values k [] store r told a e = e
 none_unsealed values k (n ∷ ns) store r told a (inl (fault, e)) = unlike values (store.logs (seal_log k)).state.now fault a.0 e.0 (e.2 told)
 none_unsealed values k (n ∷ ns) store r told a (inr e) = none_unsealed values (suc k) ns store r told a.1 e.1
 
-pub accepted : {S : Type 0} (core : Core) (gs : List RuledGroup) (store : Seen StoreState S) (r : Report) → IsTrue store.before.told → AllOf (IsAccepted core store.before) 0 gs → AllAgree (digest_of_values core) store.before 0 (map journal_of gs)
+pub accepted : {S : Type 0} (core : Core) (gs : List RuledGroup) (store : Seen StoreState S) (r : Report) → IsTrue store.before.told → AreAccepted core gs store.before
     → ¬ Rose store.before.faults store.after.faults → UnstartedGroups core gs store r → r.status ≡ 7
-accepted core gs store r told a agrees calm (inl e) = e.0.0
-accepted core gs store r told a agrees calm (inr (inl e)) = e.0.0
-accepted core gs store r told a agrees calm (inr (inr (inl e))) = absurd (calm e.1)
-accepted core gs store r told a agrees calm (inr (inr (inr (inl e)))) = absurd (none_refused core 0 gs store.before r told a e.0)
-accepted core gs store r told a agrees calm (inr (inr (inr (inr e)))) = absurd (none_unsealed (digest_of_values core) 0 (map journal_of gs) store.before r told agrees e.0)
+accepted core gs store r told a calm (inl e) = e.0.0
+accepted core gs store r told a calm (inr (inl e)) = e.0.0
+accepted core gs store r told a calm (inr (inr (inl e))) = absurd (calm e.1)
+accepted core gs store r told a calm (inr (inr (inr (inl e)))) = absurd (none_refused core 0 gs store.before r told a.0 e.0)
+accepted core gs store r told a calm (inr (inr (inr (inr e)))) = absurd (none_unsealed (digest_of_values core) 0 (map journal_of gs) store.before r told a.1 e.0)

@@ -12,7 +12,7 @@ use Rattle.cube_io.specs.Seen.{FolderState, StoreState, Seen, Unused}
 use Rattle.cube_io.specs.Told.{SameLogs}
 use Rattle.cube_engine.specs.Kept.{history_of, IsExact}
 use Rattle.cube_engine.specs.Worlds.{IsRuled}
-use Rattle.cube_engine.specs.declared.fault.EngineFault.{EngineFault}
+use Rattle.cube_engine.specs.declared.fault.StartFault.{StartFault}
 use Rattle.cube_opening.specs.Opening.{GotBehind}
 use Rattle.cube_opening.specs.Reports.{IsReport, NoMessage}
 use Rattle.cube_opening.specs.Ruling.{called, ruled_names, EndsUnruled, MakeGroups}
@@ -65,7 +65,7 @@ last_rooms core gs = map (last_room core) gs
 abbrev pub IsRefusedAt : Core → ℕ → List RuledGroup → StoreState → Report → Type 0
 IsRefusedAt core k [] store r = ⊥
 IsRefusedAt core k (g ∷ gs) store r =
-    ((fault : EngineFault) × IsRefusedIn k (called (codes "journal") g.name) core g.policy store fault r)
+    ((fault : StartFault) × IsRefusedIn k (called (codes "journal") g.name) core g.policy store fault r)
     ⊎ ((IsTrue store.told → IsOk (history_of core g.policy (store.logs k).state.now)) × IsRefusedAt core (suc k) gs store r)
 
 -- what the journal of a group is called
@@ -129,6 +129,13 @@ OnlySeals from many old new = IsTrue old.told → (k : ℕ) → IsNoSeal from ma
 abbrev pub OnlyFirst : ℕ → StoreState → StoreState → Type 0
 OnlyFirst many old new = IsTrue old.told → (k : ℕ) → many ≤ k → IsNoSeal 0 many k → new.logs k ≡ old.logs k
 
+-- What the opening of so many journals leaves as it was: the store tells what it told before, no log changed but theirs and those of their
+-- seals, and it took few calls.
+pub record OpensFew {S : Type 0} (many : ℕ) (store : Seen StoreState S) : Type 0 where
+  pub told : store.after.told ≡ store.before.told
+  pub others : OnlyFirst many store.before store.after
+  pub calls : IsTrue store.before.told → store.after.calls ≤ store.before.calls + (1 + 11 * many)
+
 -- Each seal says nothing yet, or the digest of the values of the core; or no log was changed.
 abbrev pub AreComparedFirst : {S : Type 0} → Core → List RuledGroup → Seen StoreState S → Type 0
 AreComparedFirst core gs store = (IsTrue store.before.told → AllAgree (digest_of_values core) store.before 0 (map journal_of gs)) ⊎ SameLogs store.before store.after
@@ -170,6 +177,14 @@ pub record Gathers {S : Type 0} (many : ℕ) (store : Seen StoreState S) : Type 
 
 -- ---- how a run ends before its groups are open
 
+-- A run over this core and these groups ended at their journals: for this reason; and at each moment the logs and the seals are as at
+-- entry, or every crash leaves what recovers the same, and no seal of other values.
+pub record EndsAtJournals {S : Type 0} (core : Core) (gs : List RuledGroup) (store : Seen StoreState S) (r : Report) : Type 0 where
+  pub unstarted : UnstartedGroups core gs store r
+  pub passed : AllRecover core 0 gs store
+  pub seals : AllSeals (digest_of_values core) store 0 (map journal_of gs)
+  pub compared : AreComparedFirst core gs store
+
 -- A run ended at the journals, over the core and the groups that the files make, behind the files of these further names.
 pub record EndsUnstartedGroups {F S : Type 0} (cube : RuledFiles) (more : List (List ℕ)) (files : Seen FolderState F) (store : Seen StoreState S) (r : Report) : Type 0 where
   pub core : Core
@@ -177,10 +192,7 @@ pub record EndsUnstartedGroups {F S : Type 0} (cube : RuledFiles) (more : List (
   pub groups : List RuledGroup
   pub files_make : MakeGroups cube files.before core listed groups
   pub behind : GotBehind (ruled_names cube listed ++ more) files
-  pub unstarted : UnstartedGroups core groups store r
-  pub passed : AllRecover core 0 groups store
-  pub seals : AllSeals (digest_of_values core) store 0 (map journal_of groups)
-  pub compared : AreComparedFirst core groups store
+  pub ended : EndsAtJournals core groups store r
 
 -- A run ended before its cube was open: at a file, or at a journal behind the files.
 abbrev pub EndsClosedGroups : {F S : Type 0} → RuledFiles → List (List ℕ) → Seen FolderState F → Seen StoreState S → Report → Type 0
@@ -190,22 +202,30 @@ EndsClosedGroups cube more files store r = (EndsUnruled cube files r × Unused s
 abbrev pub IsAccepted : Core → StoreState → ℕ → RuledGroup → Type 0
 IsAccepted core store log g = (length (store.logs log).state.now ≤ 2 ^ 28) × IsOk (history_of core g.policy (store.logs log).state.now)
 
--- the journals and their seals are accepted
+-- the journals of these groups and their seals are accepted
+abbrev pub AreAccepted : Core → List RuledGroup → StoreState → Type 0
+AreAccepted core gs store = AllOf (IsAccepted core store) 0 gs × AllAgree (digest_of_values core) store 0 (map journal_of gs)
+
+-- those of the groups that the files make
 pub record HaveJournals (cube : RuledFiles) (files : FolderState) (store : StoreState) : Type 0 where
   pub told : IsTrue store.told
-  pub recover : (core : Core) (fs : List GroupFile) (gs : List RuledGroup) → MakeGroups cube files core fs gs → AllOf (IsAccepted core store) 0 gs
-  pub agrees : (core : Core) (fs : List GroupFile) (gs : List RuledGroup) → MakeGroups cube files core fs gs → AllAgree (digest_of_values core) store 0 (map journal_of gs)
+  pub accepted : (core : Core) (fs : List GroupFile) (gs : List RuledGroup) → MakeGroups cube files core fs gs → AreAccepted core gs store
 
 -- ---- open groups
 
--- The groups were opened, behind their files and the files of these further names: the core and the policies that the files make, and the histories that the
--- journals recover. Each seal said nothing yet, or the digest of the values of the core; and whatever a crash leaves now says it.
+-- The journals of these groups are held by their seals: each said nothing yet, or the digest of the values of the core; and whatever a
+-- crash leaves now says it.
+pub record AreHeld {S : Type 0} (core : Core) (gs : List RuledGroup) (store : Seen StoreState S) : Type 0 where
+  pub agreed : IsTrue store.before.told → AllAgree (digest_of_values core) store.before 0 (map journal_of gs)
+  pub sealed : IsTrue store.before.told → AllSealed (digest_of_values core) store.after 0 (map journal_of gs)
+  pub seals : AllSeals (digest_of_values core) store 0 (map journal_of gs)
+
+-- The groups were opened, behind their files and the files of these further names: the core and the policies that the files make, and the
+-- histories that the journals recover, which their seals hold.
 pub record AreOpen {F S : Type 0} (cube : RuledFiles) (more : List (List ℕ)) (files : Seen FolderState F) (store : Seen StoreState S) (core : Core) (gs : List GroupRun) : Type 0 where
   pub listed : List GroupFile
   pub files_make : MakeGroups cube files.before core listed (ruled gs)
   pub behind : GotBehind (ruled_names cube listed ++ more) files
   pub recovered : IsTrue store.before.told → AllOf (λ log (g : GroupRun). history_of core g.policy (store.before.logs log).state.now ≡ Ok g.first) 0 gs
   pub admissible : Each (λ g. IsAdmissible (shown core g.policy) g.first) gs
-  pub agreed : IsTrue store.before.told → AllAgree (digest_of_values core) store.before 0 (map journal_of (ruled gs))
-  pub sealed : IsTrue store.before.told → AllSealed (digest_of_values core) store.after 0 (map journal_of (ruled gs))
-  pub seals : AllSeals (digest_of_values core) store 0 (map journal_of (ruled gs))
+  pub held : AreHeld core (ruled gs) store

@@ -13,19 +13,16 @@ use Rattle.cube_opening.specs.declared.cube_files.Rules.TheVariants.{One}
 use Rattle.cube_opening.specs.declared.cube_files.RuledFiles.{RuledFiles}
 use Rattle.cube_opening.specs.declared.ruling.RuledGroup.{RuledGroup}
 use Rattle.cube_serving.specs.Grouping.{GroupRun, first_rooms, last_rooms, journal_of, ruled}
+use Rattle.cube_serving.specs.OneCube.{everyone, under}
 
 -- the files of a cube, whose policy rules all users
 abbrev pub under_one : CubeFiles → RuledFiles
 under_one cube = record { dims = cube.dims; facts = cube.facts; rules = One cube.policy }
 
--- the group of all users
-abbrev pub everyone : Policy → RuledGroup
-everyone policy = record { name = []; policy = policy }
-
 -- What files make of groups is then what they make of a cube, and the groups are the one of all users, whose journal is called just that.
 pub record IsTheCube (cube : CubeFiles) (folder : FolderState) (core : Core) (fs : List GroupFile) (gs : List RuledGroup) : Type 0 where
   pub policy : Policy
-  pub groups_are : gs ≡ everyone policy ∷ []
+  pub groups_are : gs ≡ under policy
   pub files_make : Make cube folder core policy
   pub names_are : ruled_names (under_one cube) fs ≡ names_of cube
   pub journal : journal_of (everyone policy) ≡ codes "journal"
@@ -43,4 +40,4 @@ pub record IsAlone (core : Core) (policy : Policy) (gs : List GroupRun) : Type 0
   pub others : (w : World) → with_world run.name w (first_rooms core gs) ≡ alone w run.first
 
 abbrev pub OneRunIsTheCube : Type 0
-OneRunIsTheCube = (core : Core) (policy : Policy) (gs : List GroupRun) → ruled gs ≡ everyone policy ∷ [] → IsAlone core policy gs
+OneRunIsTheCube = (core : Core) (policy : Policy) (gs : List GroupRun) → ruled gs ≡ under policy → IsAlone core policy gs

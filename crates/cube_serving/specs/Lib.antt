@@ -1,6 +1,7 @@
 pub mod Starting
 pub mod NamedBooks
 pub mod Grouping
+pub mod OneCube
 pub mod Serving
 pub mod Replaying
 pub mod Laws

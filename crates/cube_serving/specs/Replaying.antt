@@ -11,21 +11,21 @@ use Rattle.cube_io.specs.Content.{AppendsPrefix}
 use Rattle.cube_io.specs.Seen.{FolderState, SinkState, StoreState, Seen, Unused}
 use Rattle.cube_io.specs.Wires.{Arrival, LogEntry, events_in, render}
 use Rattle.cube_io.specs.Wires.Arrival.{End}
-use Rattle.cube_io.specs.Wires.LogEntry.{Torn, Shut}
+use Rattle.cube_io.specs.Wires.LogEntry.{Shut}
 use Rattle.cube_opening.specs.Opening.{fault_text, faulted, unless_long, FileSays, EndsAt, HasFile}
 use Rattle.cube_opening.specs.Reports.{IsReport, IsDone}
 use Rattle.cube_opening.specs.Ruling.{HasGroups, MakeGroups, ruled_names}
 use Rattle.cube_opening.specs.declared.cube_files.RuledFiles.{RuledFiles}
 use Rattle.cube_opening.specs.declared.report.Report.{Report}
 use Rattle.cube_opening.specs.declared.ruling.RuledGroup.{RuledGroup}
-use Rattle.cube_script.specs.Playing.{Playing, IsPlaying, starting, has_torn, passes_capacity_by}
+use Rattle.cube_script.specs.Playing.{Playing, IsPlaying, Overran, starting, has_torn}
 use Rattle.cube_script.specs.Scripts.{script_of}
 use Rattle.cube_script.specs.declared.script_wire.SendCapacity.{SendCapacity}
 use Rattle.cube_script.specs.declared.script_wire.TheConstants.{MAX_SENDS, MAX_SENT_BYTES}
 use Rattle.cube_server.specs.declared.serving.ServeFault.{ServeFault}
 use Rattle.cube_server.specs.declared.serving.ServeFault.TheVariants.{WireFailed}
 use Rattle.cube_serving.specs.Grouping.{EndsClosedGroups, HaveJournals}
-use Rattle.cube_serving.specs.Serving.{Asking, Served, Unserved, served_status, served_text}
+use Rattle.cube_serving.specs.Serving.{ServedUpTo, Unserved, served_status, served_text}
 
 -- ---- the script
 
@@ -43,15 +43,11 @@ wire_of script = starting script room_for_sends
 
 -- ---- how a play ended
 
--- The log ends with a send of so many bytes that would have passed the space for sends, behind all that was sent before it: nothing of it
--- went out, and its connection was closed. It is the only one that failed.
+-- The log ends with a send that would have passed the space for sends, behind all that was sent before it: nothing of it went out, and its
+-- connection was closed. It is the only one that failed.
 pub record EndsOverrun (most : SendCapacity) (log : List LogEntry) : Type 0 where
-  pub before : List LogEntry
-  pub conn : ℕ
-  pub size : ℕ
-  pub whole : log ≡ before ++ Torn conn [] size ∷ Shut conn ∷ []
-  pub only : has_torn before ≡ false
-  pub passes : passes_capacity_by most before size ≡ true
+  pub overran : Overran most log
+  pub last : overran.behind ≡ Shut overran.conn ∷ []
 
 -- a send that would have passed the space for sends ends a play before all else
 abbrev pub played_status : Bool → Result (Unit {0}) ServeFault → ℕ
@@ -84,18 +80,14 @@ pub record Unscripted {F : Type 0} (cube : RuledFiles) (script_name : List ℕ) 
 pub record Replayed {F S O : Type 0} (cube : RuledFiles) (script_name : List ℕ) (stated : ℕ) (files : Seen FolderState F) (store : Seen StoreState S) (out : Seen SinkState O) (r : Report) : Type 0 where
   pub script : List Arrival
   pub wire : Playing
-  pub asking : Asking
-  pub stated_is : asking.stated ≡ stated
-  pub outcomes_are : r.outcomes ≡ asking.outcomes
-  pub end : Result (Unit {0}) ServeFault
+  pub upto : ServedUpTo cube (script_name ∷ []) stated files store true wire.log r
   pub said : IfSome files.before.files (λ known. FileSays script_said script_name known (Ok script))
   pub plays : (wire.script ≡ (wire_of script).script) × (wire.most ≡ room_for_sends)
   pub playing : IsPlaying wire
-  pub served : Served cube (script_name ∷ []) files store asking end true wire.log
-  pub whole : (u : Unit {0}) → end ≡ Ok u → events_in wire.log ≡ script ++ End ∷ []
+  pub whole : (u : Unit {0}) → upto.end ≡ Ok u → events_in wire.log ≡ script ++ End ∷ []
   pub cause : has_torn wire.log ≡ true → EndsOverrun room_for_sends wire.log
-  pub unfailed : has_torn wire.log ≡ false → end ≢ Err WireFailed
-  pub writes : Writes end wire.log out r
+  pub unfailed : has_torn wire.log ≡ false → upto.end ≢ Err WireFailed
+  pub writes : Writes upto.end wire.log out r
 
 -- a run of `replay` ends at the script, or before its groups are open, or for want of memory behind that; or it plays the script and
 -- writes the log

@@ -138,15 +138,19 @@ pub record ServeWire {S : Type 0} (tells : S → StoreState) (core : Core) (old 
 
 -- ---- the whole
 
--- A wire was served by open groups, and their journals kept what was answered, each by itself: beyond that a crash leaves in a journal the
--- request of the ask in hand, and no other. For each ask in which a journal failed the store's count of faults rose.
+-- The journals of groups kept what was answered, each by itself: beyond that a crash leaves in a journal the request in hand, and no other.
+-- For each ask in which a journal failed the store's count of faults rose.
+pub record AreKept {S : Type 0} (core : Core) (gs : List GroupRun) (os : List Outcome) (in_hand : ℕ → List Entry → Type 0) (store : Seen StoreState S) : Type 0 where
+  pub survived : IsTrue store.before.told → AllOf (λ k (g : GroupRun). SurvivedIn k core g.policy g.first g.last os store) 0 gs
+  pub held : IsTrue store.before.told → AllOf (λ k (g : GroupRun). HeldIn k core g.policy (in_hand k) store) 0 gs
+  pub failed : RoseBy (faults_in os) store.before.faults store.after.faults
+
+-- A wire was served by open groups, and their journals kept what was answered.
 pub record Served {F S : Type 0} (cube : RuledFiles) (more : List (List ℕ)) (files : Seen FolderState F) (store : Seen StoreState S) (a : Asking) (end : Result (Unit {0}) ServeFault) (told : Bool) (log : List LogEntry) : Type 0 where
   pub core : Core
   pub opened : AreOpen cube more files store core a.groups
   pub wired : Wired core a end told log
-  pub survived : IsTrue store.before.told → AllOf (λ k (g : GroupRun). SurvivedIn k core g.policy g.first g.last a.outcomes store) 0 a.groups
-  pub held : IsTrue store.before.told → AllOf (λ k (g : GroupRun). HeldIn k core g.policy (IsInTurn core a.groups wired.asked.calls k) store) 0 a.groups
-  pub failed : RoseBy (faults_in a.outcomes) store.before.faults store.after.faults
+  pub kept : AreKept core a.groups a.outcomes (IsInTurn core a.groups wired.asked.calls) store
 
 -- Groups were opened, and nothing was served: of each journal every crash leaves what recovers its history.
 pub record Unserved {F S : Type 0} (cube : RuledFiles) (more : List (List ℕ)) (files : Seen FolderState F) (store : Seen StoreState S) : Type 0 where
@@ -156,15 +160,19 @@ pub record Unserved {F S : Type 0} (cube : RuledFiles) (more : List (List ℕ)) 
   pub passed : AllRecover core 0 (ruled groups) store
   pub exact : IsTrue store.before.told → AllOf (λ k (g : GroupRun). IsExact core g.policy g.first (store.after.logs k).state) 0 groups
 
--- the connections of a wire were served, by at most so many asks
-pub record ServedConnections {F S W : Type 0} (cube : RuledFiles) (stated : ℕ) (files : Seen FolderState F) (store : Seen StoreState S) (wire : Seen WireState W) (r : Report) : Type 0 where
+-- A wire was served by at most so many asks, and what became of them is reported.
+pub record ServedUpTo {F S : Type 0} (cube : RuledFiles) (more : List (List ℕ)) (stated : ℕ) (files : Seen FolderState F) (store : Seen StoreState S) (told : Bool) (log : List LogEntry) (r : Report) : Type 0 where
   pub asking : Asking
   pub stated_is : asking.stated ≡ stated
   pub outcomes_are : r.outcomes ≡ asking.outcomes
   pub end : Result (Unit {0}) ServeFault
-  pub served : Served cube [] files store asking end wire.before.told wire.after.log
-  pub status : r.status ≡ served_status end
-  pub text : r.text ≡ served_text end
+  pub served : Served cube more files store asking end told log
+
+-- the connections of a wire were served so, and the report says how that ended
+pub record ServedConnections {F S W : Type 0} (cube : RuledFiles) (stated : ℕ) (files : Seen FolderState F) (store : Seen StoreState S) (wire : Seen WireState W) (r : Report) : Type 0 where
+  pub upto : ServedUpTo cube [] stated files store wire.before.told wire.after.log r
+  pub status : r.status ≡ served_status upto.end
+  pub text : r.text ≡ served_text upto.end
 
 -- the address was asked for, and where the wire failed it may lack
 abbrev pub Hears : {W : Type 0} → List ℕ → Seen WireState W → Report → Type 0

@@ -9,7 +9,7 @@ ghost use Rattle.cube_io.specs.Told.{SameLogs};
 ghost use Rattle.cube_opening.specs.Ruling.{AreGroups};
 ghost use Rattle.cube_opening.specs.declared.ruling.RuledGroup.{RuledGroup};
 ghost use Rattle.cube_seal.specs.Values.{digest_of_values as digest_in};
-ghost use Rattle.cube_serving.specs.Grouping.{journal_of, AllAgree, AllRecover, AllSealed, AllSeals, AreComparedFirst, AreStarted, EndsAtSeals, Gathers, OnlyFrom, OnlyFirst, RestUnstarted, UnstartedGroups};
+ghost use Rattle.cube_serving.specs.Grouping.{journal_of, AllAgree, AllRecover, AreComparedFirst, AreHeld, AreStarted, EndsAtJournals, EndsAtSeals, Gathers, OnlyFrom, OpensFew, RestUnstarted, UnstartedGroups};
 ghost use Rattle.cube_serving.specs.NamedBooks.{IsKeptIn};
 ghost use Rattle.cube_serving.specs.Starting.{AsksStore, IsCalm};
 ghost use Rattle.cube_serving.specs.declared.named.NamedBook.{NamedBook};
@@ -275,18 +275,13 @@ pub fn open_groups<S: Store>(
     ensures outcomes { IfOk result (λ opened. (opened.value.outcomes ≡ []) × (opened.value.left ≡ stated)) }
     ensures attached { OnOk result (IsTrue (S.state store.new).attached) }
     ensures kept { IsTrue (S.state store.old).told → IfOk result (λ opened. Each (IsKeptIn (S.state store.new).logs) opened.value.books) }
-    ensures agreed { IsTrue (S.state store.old).told → OnOk result (AllAgree (digest_in ruled.core) (S.state store.old) 0 (map journal_of ruled.groups)) }
-    ensures sealed { IsTrue (S.state store.old).told → OnOk result (AllSealed (digest_in ruled.core) (S.state store.new) 0 (map journal_of ruled.groups)) }
-    ensures err { IfErr result (UnstartedGroups ruled.core ruled.groups (seen S.state store.old store.new)) }
+    ensures held { OnOk result (AreHeld ruled.core ruled.groups (seen S.state store.old store.new)) }
+    ensures err { IfErr result (EndsAtJournals ruled.core ruled.groups (seen S.state store.old store.new)) }
     ensures steady { OnOk result (IsCalm (seen S.state store.old store.new)) }
     ensures passed { AllRecover ruled.core 0 ruled.groups (seen S.state store.old store.new) }
-    ensures seals { AllSeals (digest_in ruled.core) (seen S.state store.old store.new) 0 (map journal_of ruled.groups) }
-    ensures compared { AreComparedFirst ruled.core ruled.groups (seen S.state store.old store.new) }
     ensures names { OnOk result (IsTrue (S.state store.old).told → (S.state store.new).names ≡ (S.state store.old).names ++ name.now ∷ []) }
     ensures names_err { IfErr result (AsksStore name.now (seen S.state store.old store.new)) }
-    ensures told { (S.state store.new).told ≡ (S.state store.old).told }
-    ensures others { OnlyFirst (length ruled.groups) (S.state store.old) (S.state store.new) }
-    ensures calls { IsTrue (S.state store.old).told → (S.state store.new).calls ≤ (S.state store.old).calls + 1 + 11 * length ruled.groups }
+    ensures opens { OpensFew (length ruled.groups) (seen S.state store.old store.new) }
 {
     let values = digest_of_values(&ruled.core);
     let (message, started) = match start_groups(

@@ -16,15 +16,14 @@ ghost use Rattle.cube_engine.specs.Kept.{history_of, IsExact, IsWithin};
 ghost use Rattle.cube_engine.specs.Opening.{StartCause, IsStartFault};
 ghost use Rattle.cube_engine.specs.Steps as steps;
 ghost use Rattle.cube_serving.specs.NamedBooks.{rooms_of, dims_of, is_named, any_failed, IsKeptIn, AreInOrder, places_of, HoldsAt, IsTurn, IsCounted, IsAdded};
+ghost use Rattle.cube_serving.specs.declared.named.NamedBook.{NamedBook};
 
 use crate::named::NamedBook;
-use cube_core::Steps;
-use cube_engine::{Book, EngineFault, SharedCore, Turns};
+use cube_engine::{Book, SharedCore, StartFault, Turns};
 use cube_io::{Desk, Store};
 use cube_model::{Ask, Fixed, Kind, NoMemory, Outcome, Outcomes, Policy, Reply, Text};
 use std::alloc::Global;
-use std::marker::{Brand, Model};
-use std::sync::ledger::{Blank, Ledger};
+use std::marker::Model;
 
 // The name of the room that an ask goes to.
 fn aim_of(ask: &Ask) -> &[u8]
@@ -65,13 +64,12 @@ fn miss_ask(alloc: Global, group: &Option<Text>) -> (Reply, Outcome)
 }
 
 // Answers an ask by the book at a place, which has the name.
-fn answer_at<S: Store, L: Ledger>(
+fn answer_at<S: Store>(
     books: &mut Vec<NamedBook>,
     place: usize,
     alloc: Global,
     store: &mut S,
     ask: &Ask,
-    counted: &mut Steps<L>,
 ) -> (Reply, Outcome)
     requires place { position (is_named (aim ask.now.group)) books.old.items ≡ Some place }
     requires order { AreInOrder books.old.items }
@@ -81,18 +79,15 @@ fn answer_at<S: Store, L: Ledger>(
     ensures untouched { (steps.manner (dims_of books.old.items)).next (rooms_of books.old.items) ask.now outcome.Given ≡ rooms_of books.old.items → store.new ≡ store.old }
     ensures memory { result.1 ≡ outcome.NoMemory → store.new ≡ store.old }
 {
-    books[place]
-        .book
-        .answer(alloc, store, &ask.question, counted)
+    books[place].book.answer(alloc, store, &ask.question)
 }
 
 // Answers an ask by the book that it goes to.
-fn answer_by<S: Store, L: Ledger>(
+fn answer_by<S: Store>(
     books: &mut Vec<NamedBook>,
     alloc: Global,
     store: &mut S,
     ask: &Ask,
-    counted: &mut Steps<L>,
 ) -> (Reply, Outcome)
     requires order { AreInOrder books.old.items }
     requires attached { IsTrue (S.state store.old).attached }
@@ -102,7 +97,7 @@ fn answer_by<S: Store, L: Ledger>(
     ensures memory { result.1 ≡ outcome.NoMemory → store.new ≡ store.old }
 {
     match find_book(books.as_slice(), aim_of(ask)) {
-        Some(place) => answer_at(books, place, alloc, store, ask, counted),
+        Some(place) => answer_at(books, place, alloc, store, ask),
         None => miss_ask(alloc, &ask.group),
     }
 }
@@ -132,7 +127,7 @@ fn add_book<S: Store>(
     name: Text,
     core: SharedCore,
     policy: Policy,
-) -> Result<(), EngineFault>
+) -> Result<(), StartFault>
     requires order { AreInOrder books.old.items }
     requires few { length books.old.items < 16 }
     requires free { room_of name (rooms_of books.old.items) ≡ None }
@@ -159,7 +154,7 @@ fn add_book<S: Store>(
     let _rules = book.core();
     match push_book(books, name, book) {
         Ok(()) => Ok(()),
-        Err(_) => Err(EngineFault::NoMemory),
+        Err(_) => Err(StartFault::NoMemory),
     }
 }
 
@@ -204,7 +199,7 @@ impl Groups {
         name: Text,
         core: SharedCore,
         policy: Policy,
-    ) -> Result<(), EngineFault>
+    ) -> Result<(), StartFault>
         requires few { length self.old.books < 16 }
         requires free { room_of name (rooms_of self.old.books) ≡ None }
         requires alike { Each (λ g. g.book.core.dims ≡ core.dims) self.old.books }
@@ -245,6 +240,22 @@ impl Groups {
         &self.books[place].book
     }
 
+    /// The book of the one group that there is.
+    pub fn only(self) -> Book
+        requires { length self.books ≡ 1 }
+        ensures { (named : NamedBook) → self.books ≡ named ∷ [] → result ≡ named.book }
+    {
+        let mut books = self.books;
+        books.remove(0).book
+    }
+
+    /// What became of the asks so far, in turn.
+    pub fn outcomes(&self) -> &[Outcome]
+        ensures { result.now ≡ self.now.outcomes }
+    {
+        self.turns.outcomes()
+    }
+
     /// What became of the asks. It takes no memory.
     pub fn finish(self) -> Outcomes
         ensures { result ≡ self.outcomes }
@@ -252,17 +263,8 @@ impl Groups {
         self.turns.finish()
     }
 
-    // Answers an ask with a count that is dropped.
-    fn answer_uncounted<S: Store, L: Ledger>(
-        &mut self,
-        alloc: Global,
-        store: &mut S,
-        ask: &Ask,
-        blank: Blank,
-    ) -> Reply
-        requires name { blank.name ≡ L.name }
-        requires parts { blank.parts ≡ L.parts }
-        requires some { 0 < L.parts }
+    // Answers an ask and takes down what became of it.
+    fn answer_ask<S: Store>(&mut self, alloc: Global, store: &mut S, ask: &Ask) -> Reply
         requires left { 1 ≤ self.old.left }
         requires attached { IsTrue (S.state store.old).attached }
         requires kept { IsTrue (S.state store.old).told → Each (IsKeptIn (S.state store.old).logs) self.old.books }
@@ -271,8 +273,7 @@ impl Groups {
         ensures untouched { (steps.manner (dims_of self.old.books)).next (rooms_of self.old.books) ask.now outcome.Given ≡ rooms_of self.old.books → store.new ≡ store.old }
         ensures memory { self.new.outcomes ≡ self.old.outcomes ++ outcome.NoMemory ∷ [] → store.new ≡ store.old }
     {
-        let mut counted = Steps::<L>::new(blank);
-        let (reply, outcome) = answer_by(&mut self.books, alloc, store, ask, &mut counted);
+        let (reply, outcome) = answer_by(&mut self.books, alloc, store, ask);
         self.turns.record(outcome);
         reply
     }
@@ -311,7 +312,7 @@ impl<S: Store> Desk<S> for Groups {
     ghost within = { λ e rooms log state. HoldsAt IsWithin (places_of e.books) rooms log state };
 
     fn answer(&mut self, alloc: Global, store: &mut S, ask: &Ask) -> Reply {
-        self.answer_uncounted::<S, Brand>(alloc, store, ask, Blank::new(1))
+        self.answer_ask(alloc, store, ask)
     }
 
     fn miss(&mut self) -> Reply {

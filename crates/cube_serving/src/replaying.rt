@@ -125,7 +125,7 @@ pub fn replay_cube<F: Folder, S: Store, O: Sink>(
     ensures names { (store.new ≡ store.old) ⊎ AsksStore journal.now (seen S.state store.old store.new) result }
     ensures others { OnlyFirst (most_groups cube.now.rules) (S.state store.old) (S.state store.new) }
     ensures causes { HasCauses (of_command (seen F.state files.old files.new) (seen S.state store.old store.new) (seen O.state out.old out.new)) result }
-    ensures calls { result.status ≡ 9 → IsTrue (S.state store.old).told → (S.state store.new).calls ≤ (S.state store.old).calls + 1 + 11 * most_groups cube.now.rules }
+    ensures calls { result.status ≡ 9 → IsTrue (S.state store.old).told → (S.state store.new).calls ≤ (S.state store.old).calls + (1 + 11 * most_groups cube.now.rules) }
     ensures memory { result.status ≡ 7 → (result.outcomes ≡ []) × (out.new ≡ out.old) }
     ensures complete { ReplayCompletes cube.now script_name.now (seen F.state files.old files.new) (seen S.state store.old store.new) (seen O.state out.old out.new) result }
 {

@@ -63,7 +63,7 @@ pub fn serve_cube<F: Folder, S: Store, W: Wire>(
     ensures heard { (wire.new ≡ wire.old) ⊎ Hears address.now (seen W.state wire.old wire.new) result }
     ensures others { OnlyFirst (most_groups cube.now.rules) (S.state store.old) (S.state store.new) }
     ensures causes { HasCauses (of_server (seen F.state files.old files.new) (seen S.state store.old store.new) (seen W.state wire.old wire.new)) result }
-    ensures calls { result.status ≡ 9 → IsTrue (S.state store.old).told → (S.state store.new).calls ≤ (S.state store.old).calls + 1 + 11 * most_groups cube.now.rules }
+    ensures calls { result.status ≡ 9 → IsTrue (S.state store.old).told → (S.state store.new).calls ≤ (S.state store.old).calls + (1 + 11 * most_groups cube.now.rules) }
     ensures memory { result.status ≡ 7 → (result.outcomes ≡ []) × (IsTrue (W.state wire.old).told → (W.state wire.new).log ≡ []) }
     ensures complete { ServeCompletes cube.now (seen F.state files.old files.new) (seen S.state store.old store.new) (seen W.state wire.old wire.new) result }
 {

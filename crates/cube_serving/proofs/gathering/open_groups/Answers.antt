@@ -9,17 +9,6 @@ use Rattle.cube_serving.proofs.Names.{short_names}
 use Rattle.cube_serving.proofs.SealsHeld.{none_sealed, seals_on, unsealed_on}
 use Rattle.cube_serving.proofs.gathering.open_groups.Goals as goal
 
-pub returns-in-Err-clause-seals : goal.returns-in-Err-clause-seals
-returns-in-Err-clause-seals g c =
-    let tells = g.S.Store.state in
-    let gs = c.args.ruled.groups in
-    let few = c.requires.groups.few in
-    let low : 0 + length (map journal_of gs) ≤ 16 = (let long = length-map gs journal_of in omega (arith, few, long)) in
-    none_sealed (digest_of_values c.args.ruled.core) tells c.args.store.now c.start_groups.new.store 0 (map journal_of gs) low (λ told j from low. seals_stay (length gs) (tells c.args.store.now) (tells c.start_groups.new.store) few c.in-Err.ensures.frame told j low)
-
-pub returns-in-Err-clause-others : goal.returns-in-Err-clause-others
-returns-in-Err-clause-others g c = only_from_first (length c.args.ruled.groups) (g.S.Store.state c.args.store.now) (g.S.Store.state c.start_groups.new.store) c.in-Err.ensures.frame
-
 pub hold_all-requires-clause-short : goal.hold_all-requires-clause-short
 hold_all-requires-clause-short g c =
     let is : c.as_slice.result.now ≡ map journal_of c.args.ruled.groups = c.as_slice.ensures.value ∙ c.in-Ok.ensures.called in
@@ -84,21 +73,6 @@ returns-in-Ok-hold_all-clause-kept g c = λ told.
     let others : OnlySeals 0 (length gs) (tells mid) (tells new) = subst (λ (n : ℕ). OnlySeals 0 n (tells mid) (tells new)) (ap length (c.as_slice.ensures.value ∙ x.called) ∙ length-map gs journal_of) c.hold_all.ensures.others in
     kept_sealed core tells old mid new (length gs) few x.told others gs c.in-Ok.opened.value.groups.books few x.ok told (x.kept told)
 
-pub returns-in-Ok-hold_all-clause-sealed : goal.returns-in-Ok-hold_all-clause-sealed
-returns-in-Ok-hold_all-clause-sealed g c = λ told.
-    let core = c.args.ruled.core in
-    let gs = c.args.ruled.groups in
-    let tells = g.S.Store.state in
-    let old = c.args.store.now in
-    let mid = c.start_groups.new.store in
-    let new = c.hold_all.new.store in
-    let x = c.in-Ok.ensures in
-    let few = c.requires.groups.few in
-    let ns = map journal_of gs in
-    let low : 0 + length ns ≤ 16 = (let long = length-map gs journal_of in omega (arith, few, long)) in
-    let is : c.as_slice.result.now ≡ ns = c.as_slice.ensures.value ∙ x.called in
-    subst (λ (v : List ℕ). AllSealed v (tells new) 0 ns) c.digest_of_values-values.ensures (subst (AllSealed c.digest_of_values-values.result (tells new) 0) is (c.in-Ok-hold_all.ensures.sealed (subst IsTrue (sym x.told) told)))
-
 pub returns-in-Ok-hold_all-clause-passed : goal.returns-in-Ok-hold_all-clause-passed
 returns-in-Ok-hold_all-clause-passed g c =
     let core = c.args.ruled.core in
@@ -112,8 +86,53 @@ returns-in-Ok-hold_all-clause-passed g c =
     let others : OnlySeals 0 (length gs) (tells mid) (tells new) = subst (λ (n : ℕ). OnlySeals 0 n (tells mid) (tells new)) (ap length (c.as_slice.ensures.value ∙ x.called) ∙ length-map gs journal_of) c.hold_all.ensures.others in
     recover_sealed core tells old mid new (length gs) few x.told others 0 gs (omega (arith, few)) x.passed
 
-pub returns-in-Ok-hold_all-clause-seals : goal.returns-in-Ok-hold_all-clause-seals
-returns-in-Ok-hold_all-clause-seals g c =
+pub returns-in-Err-hold_all-clause-passed : goal.returns-in-Err-hold_all-clause-passed
+returns-in-Err-hold_all-clause-passed g c =
+    let core = c.args.ruled.core in
+    let gs = c.args.ruled.groups in
+    let tells = g.S.Store.state in
+    let old = c.args.store.now in
+    let mid = c.start_groups.new.store in
+    let new = c.hold_all.new.store in
+    let x = c.in-Ok.ensures in
+    let few = c.requires.groups.few in
+    let others : OnlySeals 0 (length gs) (tells mid) (tells new) = subst (λ (n : ℕ). OnlySeals 0 n (tells mid) (tells new)) (ap length (c.as_slice.ensures.value ∙ x.called) ∙ length-map gs journal_of) c.hold_all.ensures.others in
+    recover_sealed core tells old mid new (length gs) few x.told others 0 gs (omega (arith, few)) x.passed
+
+pub returns-in-Err-clause-err : goal.returns-in-Err-clause-err
+returns-in-Err-clause-err g c =
+    let core = c.args.ruled.core in
+    let gs = c.args.ruled.groups in
+    let tells = g.S.Store.state in
+    let old = c.args.store.now in
+    let mid = c.start_groups.new.store in
+    let few = c.requires.groups.few in
+    let ns = map journal_of gs in
+    let low : 0 + length ns ≤ 16 = (let long = length-map gs journal_of in omega (arith, few, long)) in
+    let x = c.in-Err.ensures in
+    record {
+      unstarted = x.err;
+      passed = x.passed;
+      seals = none_sealed (digest_of_values core) tells old mid 0 ns low (λ told j from below. seals_stay (length gs) (tells old) (tells mid) few x.frame told j below);
+      compared = x.compared;
+    }
+
+pub returns-in-Err-clause-opens : goal.returns-in-Err-clause-opens
+returns-in-Err-clause-opens g c =
+    let core = c.args.ruled.core in
+    let gs = c.args.ruled.groups in
+    let tells = g.S.Store.state in
+    let old = c.args.store.now in
+    let mid = c.start_groups.new.store in
+    let x = c.in-Err.ensures in
+    record {
+      told = x.told;
+      others = only_from_first (length gs) (tells old) (tells mid) x.frame;
+      calls = λ told. (let a = x.calls told in omega (arith, a));
+    }
+
+pub returns-in-Ok-hold_all-clause-held : goal.returns-in-Ok-hold_all-clause-held
+returns-in-Ok-hold_all-clause-held g c =
     let core = c.args.ruled.core in
     let gs = c.args.ruled.groups in
     let tells = g.S.Store.state in
@@ -126,24 +145,13 @@ returns-in-Ok-hold_all-clause-seals g c =
     let low : 0 + length ns ≤ 16 = (let long = length-map gs journal_of in omega (arith, few, long)) in
     let is : c.as_slice.result.now ≡ ns = c.as_slice.ensures.value ∙ x.called in
     let values = c.digest_of_values-values.result in
-    subst (λ (v : List ℕ). AllSeals v (seen tells old new) 0 ns) c.digest_of_values-values.ensures
-    (seals_on values tells old mid new 0 x.told (λ told j from low. seals_stay (length gs) (tells old) (tells mid) few x.frame told j low) 0 ns (omega arith) low (subst (AllSeals values (seen tells mid new) 0) is c.hold_all.ensures.seals))
-
-pub returns-in-Ok-hold_all-clause-others : goal.returns-in-Ok-hold_all-clause-others
-returns-in-Ok-hold_all-clause-others g c =
-    let core = c.args.ruled.core in
-    let gs = c.args.ruled.groups in
-    let tells = g.S.Store.state in
-    let old = c.args.store.now in
-    let mid = c.start_groups.new.store in
-    let new = c.hold_all.new.store in
-    let x = c.in-Ok.ensures in
-    let others : OnlySeals 0 (length gs) (tells mid) (tells new) = subst (λ (n : ℕ). OnlySeals 0 n (tells mid) (tells new)) (ap length (c.as_slice.ensures.value ∙ x.called) ∙ length-map gs journal_of) c.hold_all.ensures.others in
-    only_first (length gs) (tells old) (tells mid) (tells new) x.told x.frame others
-
-pub returns-in-Ok-hold_all-clause-compared : goal.returns-in-Ok-hold_all-clause-compared
-returns-in-Ok-hold_all-clause-compared g c =
-    inl c.in-Ok.ensures.agreed
+    let seals = subst (λ (v : List ℕ). AllSeals v (seen tells old new) 0 ns) c.digest_of_values-values.ensures
+    (seals_on values tells old mid new 0 x.told (λ told j from below. seals_stay (length gs) (tells old) (tells mid) few x.frame told j below) 0 ns (omega arith) low (subst (AllSeals values (seen tells mid new) 0) is c.hold_all.ensures.seals)) in
+    record {
+      agreed = x.agreed;
+      sealed = λ told. subst (λ (v : List ℕ). AllSealed v (tells new) 0 ns) c.digest_of_values-values.ensures (subst (AllSealed values (tells new) 0) is (c.in-Ok-hold_all.ensures.sealed (subst IsTrue (sym x.told) told)));
+      seals = seals;
+    }
 
 pub returns-in-Err-hold_all-clause-err : goal.returns-in-Err-hold_all-clause-err
 returns-in-Err-hold_all-clause-err g c =
@@ -159,13 +167,21 @@ returns-in-Err-hold_all-clause-err g c =
     let low : 0 + length ns ≤ 16 = (let long = length-map gs journal_of in omega (arith, few, long)) in
     let is : c.as_slice.result.now ≡ ns = c.as_slice.ensures.value ∙ x.called in
     let values = c.digest_of_values-values.result in
+    let seals = subst (λ (v : List ℕ). AllSeals v (seen tells old new) 0 ns) c.digest_of_values-values.ensures
+    (seals_on values tells old mid new 0 x.told (λ told j from below. seals_stay (length gs) (tells old) (tells mid) few x.frame told j below) 0 ns (omega arith) low (subst (AllSeals values (seen tells mid new) 0) is c.hold_all.ensures.seals)) in
+    let others : OnlySeals 0 (length gs) (tells mid) (tells new) = subst (λ (n : ℕ). OnlySeals 0 n (tells mid) (tells new)) (ap length is ∙ length-map gs journal_of) c.hold_all.ensures.others in
     let r = c.in-Err-hold_all.report in
-    unsealed_groups core gs (seen tells old new) r
-    (subst (λ (v : List ℕ). EndsAtSeals 0 ns v (seen tells old new) r) c.digest_of_values-values.ensures
-    (unsealed_on values tells old mid new 0 x.told (λ told j from low. seals_stay (length gs) (tells old) (tells mid) few x.frame told j low) 0 ns r (omega arith) low x.steady (subst (λ (l : List (List ℕ)). EndsAtSeals 0 l values (seen tells mid new) r) is c.in-Err-hold_all.ensures.err)))
+    record {
+      unstarted = unsealed_groups core gs (seen tells old new) r
+          (subst (λ (v : List ℕ). EndsAtSeals 0 ns v (seen tells old new) r) c.digest_of_values-values.ensures
+          (unsealed_on values tells old mid new 0 x.told (λ told j from below. seals_stay (length gs) (tells old) (tells mid) few x.frame told j below) 0 ns r (omega arith) low x.steady (subst (λ (l : List (List ℕ)). EndsAtSeals 0 l values (seen tells mid new) r) is c.in-Err-hold_all.ensures.err)));
+      passed = recover_sealed core tells old mid new (length gs) few x.told others 0 gs (omega (arith, few)) x.passed;
+      seals = seals;
+      compared = inl x.agreed;
+    }
 
-pub returns-in-Err-hold_all-clause-passed : goal.returns-in-Err-hold_all-clause-passed
-returns-in-Err-hold_all-clause-passed g c =
+pub returns-in-Ok-hold_all-clause-opens : goal.returns-in-Ok-hold_all-clause-opens
+returns-in-Ok-hold_all-clause-opens g c =
     let core = c.args.ruled.core in
     let gs = c.args.ruled.groups in
     let tells = g.S.Store.state in
@@ -173,12 +189,18 @@ returns-in-Err-hold_all-clause-passed g c =
     let mid = c.start_groups.new.store in
     let new = c.hold_all.new.store in
     let x = c.in-Ok.ensures in
-    let few = c.requires.groups.few in
-    let others : OnlySeals 0 (length gs) (tells mid) (tells new) = subst (λ (n : ℕ). OnlySeals 0 n (tells mid) (tells new)) (ap length (c.as_slice.ensures.value ∙ x.called) ∙ length-map gs journal_of) c.hold_all.ensures.others in
-    recover_sealed core tells old mid new (length gs) few x.told others 0 gs (omega (arith, few)) x.passed
+    let is = c.as_slice.ensures.value ∙ x.called in
+    let long : length c.as_slice.result.now ≡ length gs = ap length is ∙ length-map gs journal_of in
+    let others : OnlySeals 0 (length gs) (tells mid) (tells new) = subst (λ (n : ℕ). OnlySeals 0 n (tells mid) (tells new)) long c.hold_all.ensures.others in
+    let works = c.hold_all.ensures.works in
+    record {
+      told = works.told ∙ x.told;
+      others = only_first (length gs) (tells old) (tells mid) (tells new) x.told x.frame others;
+      calls = λ told. (let a = x.calls told in let b = works.calls (subst IsTrue (sym x.told) told) in omega (arith, a, b, long));
+    }
 
-pub returns-in-Err-hold_all-clause-seals : goal.returns-in-Err-hold_all-clause-seals
-returns-in-Err-hold_all-clause-seals g c =
+pub returns-in-Err-hold_all-clause-opens : goal.returns-in-Err-hold_all-clause-opens
+returns-in-Err-hold_all-clause-opens g c =
     let core = c.args.ruled.core in
     let gs = c.args.ruled.groups in
     let tells = g.S.Store.state in
@@ -186,26 +208,12 @@ returns-in-Err-hold_all-clause-seals g c =
     let mid = c.start_groups.new.store in
     let new = c.hold_all.new.store in
     let x = c.in-Ok.ensures in
-    let few = c.requires.groups.few in
-    let ns = map journal_of gs in
-    let low : 0 + length ns ≤ 16 = (let long = length-map gs journal_of in omega (arith, few, long)) in
-    let is : c.as_slice.result.now ≡ ns = c.as_slice.ensures.value ∙ x.called in
-    let values = c.digest_of_values-values.result in
-    subst (λ (v : List ℕ). AllSeals v (seen tells old new) 0 ns) c.digest_of_values-values.ensures
-    (seals_on values tells old mid new 0 x.told (λ told j from low. seals_stay (length gs) (tells old) (tells mid) few x.frame told j low) 0 ns (omega arith) low (subst (AllSeals values (seen tells mid new) 0) is c.hold_all.ensures.seals))
-
-pub returns-in-Err-hold_all-clause-others : goal.returns-in-Err-hold_all-clause-others
-returns-in-Err-hold_all-clause-others g c =
-    let core = c.args.ruled.core in
-    let gs = c.args.ruled.groups in
-    let tells = g.S.Store.state in
-    let old = c.args.store.now in
-    let mid = c.start_groups.new.store in
-    let new = c.hold_all.new.store in
-    let x = c.in-Ok.ensures in
-    let others : OnlySeals 0 (length gs) (tells mid) (tells new) = subst (λ (n : ℕ). OnlySeals 0 n (tells mid) (tells new)) (ap length (c.as_slice.ensures.value ∙ x.called) ∙ length-map gs journal_of) c.hold_all.ensures.others in
-    only_first (length gs) (tells old) (tells mid) (tells new) x.told x.frame others
-
-pub returns-in-Err-hold_all-clause-compared : goal.returns-in-Err-hold_all-clause-compared
-returns-in-Err-hold_all-clause-compared g c =
-    inl c.in-Ok.ensures.agreed
+    let is = c.as_slice.ensures.value ∙ x.called in
+    let long : length c.as_slice.result.now ≡ length gs = ap length is ∙ length-map gs journal_of in
+    let others : OnlySeals 0 (length gs) (tells mid) (tells new) = subst (λ (n : ℕ). OnlySeals 0 n (tells mid) (tells new)) long c.hold_all.ensures.others in
+    let works = c.hold_all.ensures.works in
+    record {
+      told = works.told ∙ x.told;
+      others = only_first (length gs) (tells old) (tells mid) (tells new) x.told x.frame others;
+      calls = λ told. (let a = x.calls told in let b = works.calls (subst IsTrue (sym x.told) told) in omega (arith, a, b, long));
+    }

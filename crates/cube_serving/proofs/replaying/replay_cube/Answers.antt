@@ -23,7 +23,7 @@ pub returns-in-Err-clause-complete : goal.returns-in-Err-clause-complete
 returns-in-Err-clause-complete g c = λ all has kept some files store out. inr (unruled.all_accepted c.args.cube.now (seen g.F.Folder.state c.args.files.now c.open_ruled.new.files) c.in-Err.report c.in-Err.ensures.err all files)
 
 pub returns-clause-names : goal.returns-clause-names
-returns-clause-names g c = inr (λ told. inl (c.serve_groups-end.ensures.stored (subst IsTrue (sym c.in-Ok-open_groups.ensures.told) told) ∙ c.in-Ok-open_groups.ensures.names told))
+returns-clause-names g c = inr (λ told. inl (c.serve_groups-end.ensures.stored (subst IsTrue (sym c.in-Ok-open_groups.ensures.opens.told) told) ∙ c.in-Ok-open_groups.ensures.names told))
 
 pub returns-clause-complete : goal.returns-clause-complete
 returns-clause-complete g c = λ all has kept some files store out.
@@ -64,10 +64,7 @@ returns-in-Err-open_groups-clause-answers g c =
         groups = ruled.groups;
         files_make = x.ok.1;
         behind = record { asked = asked_then (ruled_names c.args.cube.now x.ok.0) (c.args.script_name.now ∷ []) g.F.Folder.state c.args.files.now c.open_ruled.new.files c.open_script.new.files x.ok.2.asked z.asks; steady = z.reads.steady ∙ x.ok.2.steady };
-        unstarted = c.in-Err-open_groups.ensures.err;
-        passed = c.in-Err-open_groups.ensures.passed;
-        seals = c.in-Err-open_groups.ensures.seals;
-        compared = c.in-Err-open_groups.ensures.compared;
+        ended = c.in-Err-open_groups.ensures.err;
       }),
       refl,
     ))
@@ -83,7 +80,7 @@ returns-in_default-clause-answers g c =
     let files = seen g.F.Folder.state c.args.files.now c.open_script.new.files in
     let behind : GotBehind (ruled_names cube x.ok.0 ++ c.args.script_name.now ∷ []) files = record { asked = asked_then (ruled_names cube x.ok.0) (c.args.script_name.now ∷ []) g.F.Folder.state c.args.files.now c.open_ruled.new.files c.open_script.new.files x.ok.2.asked z.asks; steady = z.reads.steady ∙ x.ok.2.steady } in
     inr (inr (inl (
-      unserved cube (c.args.script_name.now ∷ []) files x.ok.0 ruled.core ruled.groups g.S.Store.state c.args.store.now c.open_groups.new.store c.in-Ok-open_groups.started.value.books x.ok.1 behind y.ok y.over y.rules x.rules.few y.agreed y.sealed y.seals y.passed,
+      unserved cube (c.args.script_name.now ∷ []) files x.ok.0 ruled.core ruled.groups g.S.Store.state c.args.store.now c.open_groups.new.store c.in-Ok-open_groups.started.value.books x.ok.1 behind y.ok y.over y.rules x.rules.few y.held y.passed,
       (e.0, e.1, e.2 ∙ c.with.ensures ∙ ap (λ (t : List ℕ). t ++ codes "no memory\n") y.message),
       refl,
     )))
@@ -117,15 +114,17 @@ returns-clause-answers g c =
     inr (inr (inr (record {
       script = script.0;
       wire = wire;
-      asking = w.asking;
-      stated_is = w.stated ∙ y.outcomes.1;
-      outcomes_are = c.report_play.ensures.outcomes ∙ c.finish.ensures ∙ sym w.outcomes;
-      end = end;
+      upto = record {
+        asking = w.asking;
+        stated_is = w.stated ∙ y.outcomes.1;
+        outcomes_are = c.report_play.ensures.outcomes ∙ c.finish.ensures ∙ sym w.outcomes;
+        end = end;
+        served = served cube (c.args.script_name.now ∷ []) files f.ok.0 ruled.core ruled.groups tells old mid e.books f.ok.1 behind y.ok y.over y.rules f.rules.few y.held new e last end
+            true true wire.log refl refl (seals_alone ruled.core tells old mid new ruled.groups e.books f.rules.few y.ok y.opens.told z.others) y.opens.told y.steady y.passed w z.asks;
+      };
       said = subst (λ (fs : Option (List (List ℕ × List ℕ))). IfSome fs (λ known. FileSays script_said c.args.script_name.now known (Ok script.0))) f.reads.files script.3;
       plays = (plays, most);
       playing = playing;
-      served = served cube (c.args.script_name.now ∷ []) files f.ok.0 ruled.core ruled.groups tells old mid e.books f.ok.1 behind y.ok y.over y.rules f.rules.few y.agreed y.sealed y.seals new e last end
-          true true wire.log refl refl (seals_alone ruled.core tells old mid new ruled.groups e.books f.rules.few y.ok y.told z.others) y.told y.steady y.passed w z.asks;
       whole = λ u is. (
           let some = ends_whole end u _ _ wire.log w.wired.ended is in
           whole script.0 some.0 wire.log (playing.events).0 (sym plays ∙ (playing.events).1) script.2 some.1);
@@ -138,7 +137,7 @@ returns-clause-answers g c =
 pub returns-clause-others : goal.returns-clause-others
 returns-clause-others g c =
     let y = c.in-Ok-open_groups.ensures in
-    only_most c.in-Ok.opened.value.core g.S.Store.state c.args.store.now c.open_groups.new.store c.serve_groups-end.new.store c.in-Ok.opened.value.groups c.in-Ok-open_groups.started.value.books c.in-Ok.ensures.rules.few y.ok y.told _ c.in-Ok.ensures.few y.others c.serve_groups-end.ensures.others
+    only_most c.in-Ok.opened.value.core g.S.Store.state c.args.store.now c.open_groups.new.store c.serve_groups-end.new.store c.in-Ok.opened.value.groups c.in-Ok-open_groups.started.value.books c.in-Ok.ensures.rules.few y.ok y.opens.told _ c.in-Ok.ensures.few y.opens.others c.serve_groups-end.ensures.others
 
 pub returns-in-Err-clause-names : goal.returns-in-Err-clause-names
 returns-in-Err-clause-names g c = inl refl
@@ -153,16 +152,16 @@ pub returns-in-Err-open_groups-clause-names : goal.returns-in-Err-open_groups-cl
 returns-in-Err-open_groups-clause-names g c = inr c.in-Err-open_groups.ensures.names_err
 
 pub returns-in-Err-open_groups-clause-others : goal.returns-in-Err-open_groups-clause-others
-returns-in-Err-open_groups-clause-others g c = λ told k far none. c.in-Err-open_groups.ensures.others told k (omega (arith, far, c.in-Ok.ensures.few)) (λ j from low. none j from (let few = c.in-Ok.ensures.few in omega (arith, low, few)))
+returns-in-Err-open_groups-clause-others g c = λ told k far none. c.in-Err-open_groups.ensures.opens.others told k (omega (arith, far, c.in-Ok.ensures.few)) (λ j from low. none j from (let few = c.in-Ok.ensures.few in omega (arith, low, few)))
 
 pub returns-in-Err-open_groups-clause-calls : goal.returns-in-Err-open_groups-clause-calls
-returns-in-Err-open_groups-clause-calls g c = λ nine told. omega (arith, c.in-Err-open_groups.ensures.calls told, c.in-Ok.ensures.few)
+returns-in-Err-open_groups-clause-calls g c = λ nine told. omega (arith, c.in-Err-open_groups.ensures.opens.calls told, c.in-Ok.ensures.few)
 
 pub returns-in_default-clause-names : goal.returns-in_default-clause-names
 returns-in_default-clause-names g c = inr (λ told. inl (c.in-Ok-open_groups.ensures.names told))
 
 pub returns-in_default-clause-others : goal.returns-in_default-clause-others
-returns-in_default-clause-others g c = λ told k far none. c.in-Ok-open_groups.ensures.others told k (omega (arith, far, c.in-Ok.ensures.few)) (λ j from low. none j from (let few = c.in-Ok.ensures.few in omega (arith, low, few)))
+returns-in_default-clause-others g c = λ told k far none. c.in-Ok-open_groups.ensures.opens.others told k (omega (arith, far, c.in-Ok.ensures.few)) (λ j from low. none j from (let few = c.in-Ok.ensures.few in omega (arith, low, few)))
 
 pub returns-in_default-clause-calls : goal.returns-in_default-clause-calls
 returns-in_default-clause-calls g c = λ nine. absurd (omega (arith, c.close.ensures.0, nine))
@@ -171,12 +170,12 @@ pub returns-in-Err-clause-memory : goal.returns-in-Err-clause-memory
 returns-in-Err-clause-memory g c = λ seven. (unruled.unasked c.args.cube.now (seen g.F.Folder.state c.args.files.now c.open_ruled.new.files) c.in-Err.report c.in-Err.ensures.err, refl)
 
 pub returns-in-Err-open_groups-clause-memory : goal.returns-in-Err-open_groups-clause-memory
-returns-in-Err-open_groups-clause-memory g c = λ seven. (unstarted.unasked c.in-Ok.opened.value.core c.in-Ok.opened.value.groups (seen g.S.Store.state c.args.store.now c.open_groups.new.store) c.in-Err-open_groups.report c.in-Err-open_groups.ensures.err, refl)
+returns-in-Err-open_groups-clause-memory g c = λ seven. (unstarted.unasked c.in-Ok.opened.value.core c.in-Ok.opened.value.groups (seen g.S.Store.state c.args.store.now c.open_groups.new.store) c.in-Err-open_groups.report c.in-Err-open_groups.ensures.err.unstarted, refl)
 
 pub returns-in-Err-open_groups-clause-complete : goal.returns-in-Err-open_groups-clause-complete
 returns-in-Err-open_groups-clause-complete g c = λ all has kept some files store out.
     let x = c.in-Ok.ensures in
-    inr (unstarted.accepted c.in-Ok.opened.value.core c.in-Ok.opened.value.groups (seen g.S.Store.state c.args.store.now c.open_groups.new.store) c.in-Err-open_groups.report kept.told (kept.recover c.in-Ok.opened.value.core x.ok.0 c.in-Ok.opened.value.groups x.ok.1) (kept.agrees c.in-Ok.opened.value.core x.ok.0 c.in-Ok.opened.value.groups x.ok.1) (store (unstarted.unasked c.in-Ok.opened.value.core c.in-Ok.opened.value.groups (seen g.S.Store.state c.args.store.now c.open_groups.new.store) c.in-Err-open_groups.report c.in-Err-open_groups.ensures.err)) c.in-Err-open_groups.ensures.err)
+    inr (unstarted.accepted c.in-Ok.opened.value.core c.in-Ok.opened.value.groups (seen g.S.Store.state c.args.store.now c.open_groups.new.store) c.in-Err-open_groups.report kept.told (kept.accepted c.in-Ok.opened.value.core x.ok.0 c.in-Ok.opened.value.groups x.ok.1) (store (unstarted.unasked c.in-Ok.opened.value.core c.in-Ok.opened.value.groups (seen g.S.Store.state c.args.store.now c.open_groups.new.store) c.in-Err-open_groups.report c.in-Err-open_groups.ensures.err.unstarted)) c.in-Err-open_groups.ensures.err.unstarted)
 
 pub returns-in_default-clause-memory : goal.returns-in_default-clause-memory
 returns-in_default-clause-memory g c = λ seven. (c.close.ensures.1, refl)
@@ -209,7 +208,7 @@ pub returns-in-Err-open_groups-clause-causes : goal.returns-in-Err-open_groups-c
 returns-in-Err-open_groups-clause-causes g c =
     let ruled = c.in-Ok.opened.value in
     wider (alone (c.in-Ok-open_script.ensures.reads.steady ∙ c.in-Ok.ensures.reads.steady)) (λ e. e) same (alone refl) same
-    (at_journals ruled.core ruled.groups (seen g.S.Store.state c.args.store.now c.open_groups.new.store) c.in-Err-open_groups.report c.in-Err-open_groups.ensures.err)
+    (at_journals ruled.core ruled.groups (seen g.S.Store.state c.args.store.now c.open_groups.new.store) c.in-Err-open_groups.report c.in-Err-open_groups.ensures.err.unstarted)
 
 pub returns-in_default-clause-causes : goal.returns-in_default-clause-causes
 returns-in_default-clause-causes g c = no_memory c.close.ensures.0 (record { files = c.in-Ok-open_script.ensures.reads.steady ∙ c.in-Ok.ensures.reads.steady; input = refl; out = refl; wire = refl })

@@ -29,13 +29,15 @@ returns-clause-answers g c =
     let files = seen g.F.Folder.state c.args.files.now c.open_ruled.new.files in
     let behind = subst (λ (ns : List (List ℕ)). GotBehind ns files) (sym (append-nil (ruled_names cube x.ok.0))) x.ok.2 in
     inr (inr (record {
-      asking = w.asking;
-      stated_is = w.stated ∙ y.outcomes.1;
-      outcomes_are = c.report_serving.ensures.outcomes ∙ c.finish.ensures ∙ sym w.outcomes;
-      end = end;
-      served = served cube [] files x.ok.0 ruled.core ruled.groups tells old mid e.books x.ok.1 behind y.ok y.over y.rules x.rules.few y.agreed y.sealed y.seals new e last end
-          (g.W.Wire.state c.args.wire.now).told (g.W.Wire.state c.listen.new.self).told (g.W.Wire.state c.serve_groups-end.new.wire).log refl c.in-Ok-listen.ensures.told
-          (seals_alone ruled.core tells old mid new ruled.groups e.books x.rules.few y.ok y.told z.others) y.told y.steady y.passed w z.asks;
+      upto = record {
+        asking = w.asking;
+        stated_is = w.stated ∙ y.outcomes.1;
+        outcomes_are = c.report_serving.ensures.outcomes ∙ c.finish.ensures ∙ sym w.outcomes;
+        end = end;
+        served = served cube [] files x.ok.0 ruled.core ruled.groups tells old mid e.books x.ok.1 behind y.ok y.over y.rules x.rules.few y.held new e last end
+            (g.W.Wire.state c.args.wire.now).told (g.W.Wire.state c.listen.new.self).told (g.W.Wire.state c.serve_groups-end.new.wire).log refl c.in-Ok-listen.ensures.told
+            (seals_alone ruled.core tells old mid new ruled.groups e.books x.rules.few y.ok y.opens.told z.others) y.opens.told y.steady y.passed w z.asks;
+      };
       status = c.report_serving.ensures.status;
       text = c.report_serving.ensures.text;
     }))
@@ -50,7 +52,7 @@ returns-in-Err-listen-clause-answers g c =
     let files = seen g.F.Folder.state c.args.files.now c.open_ruled.new.files in
     let behind = subst (λ (ns : List (List ℕ)). GotBehind ns files) (sym (append-nil (ruled_names cube x.ok.0))) x.ok.2 in
     inr (inl (
-      unserved cube [] files x.ok.0 ruled.core ruled.groups g.S.Store.state c.args.store.now c.open_groups.new.store c.in-Ok-open_groups.started.value.books x.ok.1 behind y.ok y.over y.rules x.rules.few y.agreed y.sealed y.seals y.passed,
+      unserved cube [] files x.ok.0 ruled.core ruled.groups g.S.Store.state c.args.store.now c.open_groups.new.store c.in-Ok-open_groups.started.value.books x.ok.1 behind y.ok y.over y.rules x.rules.few y.held y.passed,
       inl ((e.0, e.1, e.2 ∙ c.with-in-Err-listen.ensures ∙ ap (λ (t : List ℕ). t ++ codes "wire failed\n") y.message), c.in-Err-listen.ensures.cause.failed),
       λ told. c.in-Err-listen.ensures.log told ∙ c.requires.quiet told,
     ))
@@ -65,7 +67,7 @@ returns-in_default-clause-answers g c =
     let files = seen g.F.Folder.state c.args.files.now c.open_ruled.new.files in
     let behind = subst (λ (ns : List (List ℕ)). GotBehind ns files) (sym (append-nil (ruled_names cube x.ok.0))) x.ok.2 in
     inr (inl (
-      unserved cube [] files x.ok.0 ruled.core ruled.groups g.S.Store.state c.args.store.now c.open_groups.new.store c.in-Ok-open_groups.started.value.books x.ok.1 behind y.ok y.over y.rules x.rules.few y.agreed y.sealed y.seals y.passed,
+      unserved cube [] files x.ok.0 ruled.core ruled.groups g.S.Store.state c.args.store.now c.open_groups.new.store c.in-Ok-open_groups.started.value.books x.ok.1 behind y.ok y.over y.rules x.rules.few y.held y.passed,
       inr (e.0, e.1, e.2 ∙ c.with.ensures ∙ ap (λ (t : List ℕ). t ++ codes "no memory\n") y.message),
       c.requires.quiet,
     ))
@@ -86,10 +88,7 @@ returns-in-Err-open_groups-clause-answers g c =
         groups = ruled.groups;
         files_make = x.ok.1;
         behind = subst (λ (ns : List (List ℕ)). GotBehind ns files) (sym (append-nil (ruled_names cube x.ok.0))) x.ok.2;
-        unstarted = c.in-Err-open_groups.ensures.err;
-        passed = c.in-Err-open_groups.ensures.passed;
-        seals = c.in-Err-open_groups.ensures.seals;
-        compared = c.in-Err-open_groups.ensures.compared;
+        ended = c.in-Err-open_groups.ensures.err;
       }),
       refl,
     )
@@ -97,7 +96,7 @@ returns-in-Err-open_groups-clause-answers g c =
 pub returns-clause-others : goal.returns-clause-others
 returns-clause-others g c =
     let y = c.in-Ok-open_groups.ensures in
-    only_most c.in-Ok.opened.value.core g.S.Store.state c.args.store.now c.open_groups.new.store c.serve_groups-end.new.store c.in-Ok.opened.value.groups c.in-Ok-open_groups.started.value.books c.in-Ok.ensures.rules.few y.ok y.told _ c.in-Ok.ensures.few y.others c.serve_groups-end.ensures.others
+    only_most c.in-Ok.opened.value.core g.S.Store.state c.args.store.now c.open_groups.new.store c.serve_groups-end.new.store c.in-Ok.opened.value.groups c.in-Ok-open_groups.started.value.books c.in-Ok.ensures.rules.few y.ok y.opens.told _ c.in-Ok.ensures.few y.opens.others c.serve_groups-end.ensures.others
 
 pub returns-in-Err-clause-complete : goal.returns-in-Err-clause-complete
 returns-in-Err-clause-complete g c = λ all kept some files store wire. inr (unruled.all_accepted c.args.cube.now (seen g.F.Folder.state c.args.files.now c.open_ruled.new.files) c.in-Err.report c.in-Err.ensures.err all files)
@@ -116,7 +115,7 @@ pub returns-clause-heard : goal.returns-clause-heard
 returns-clause-heard g c = inr (λ told. inl (c.serve_groups-end.ensures.plays.heard (subst IsTrue (sym c.in-Ok-listen.ensures.told) told) ∙ c.in-Ok-listen.ensures.heard told))
 
 pub returns-clause-names : goal.returns-clause-names
-returns-clause-names g c = inr (λ told. inl (c.serve_groups-end.ensures.stored (subst IsTrue (sym c.in-Ok-open_groups.ensures.told) told) ∙ c.in-Ok-open_groups.ensures.names told))
+returns-clause-names g c = inr (λ told. inl (c.serve_groups-end.ensures.stored (subst IsTrue (sym c.in-Ok-open_groups.ensures.opens.told) told) ∙ c.in-Ok-open_groups.ensures.names told))
 
 pub returns-clause-complete : goal.returns-clause-complete
 returns-clause-complete g c = λ all kept some files store wire.
@@ -137,16 +136,16 @@ pub returns-in-Err-open_groups-clause-names : goal.returns-in-Err-open_groups-cl
 returns-in-Err-open_groups-clause-names g c = inr c.in-Err-open_groups.ensures.names_err
 
 pub returns-in-Err-open_groups-clause-others : goal.returns-in-Err-open_groups-clause-others
-returns-in-Err-open_groups-clause-others g c = λ told k far none. c.in-Err-open_groups.ensures.others told k (omega (arith, far, c.in-Ok.ensures.few)) (λ j from low. none j from (let few = c.in-Ok.ensures.few in omega (arith, low, few)))
+returns-in-Err-open_groups-clause-others g c = λ told k far none. c.in-Err-open_groups.ensures.opens.others told k (omega (arith, far, c.in-Ok.ensures.few)) (λ j from low. none j from (let few = c.in-Ok.ensures.few in omega (arith, low, few)))
 
 pub returns-in-Err-open_groups-clause-calls : goal.returns-in-Err-open_groups-clause-calls
-returns-in-Err-open_groups-clause-calls g c = λ nine told. omega (arith, c.in-Err-open_groups.ensures.calls told, c.in-Ok.ensures.few)
+returns-in-Err-open_groups-clause-calls g c = λ nine told. omega (arith, c.in-Err-open_groups.ensures.opens.calls told, c.in-Ok.ensures.few)
 
 pub returns-in_default-clause-names : goal.returns-in_default-clause-names
 returns-in_default-clause-names g c = inr (λ told. inl (c.in-Ok-open_groups.ensures.names told))
 
 pub returns-in_default-clause-others : goal.returns-in_default-clause-others
-returns-in_default-clause-others g c = λ told k far none. c.in-Ok-open_groups.ensures.others told k (omega (arith, far, c.in-Ok.ensures.few)) (λ j from low. none j from (let few = c.in-Ok.ensures.few in omega (arith, low, few)))
+returns-in_default-clause-others g c = λ told k far none. c.in-Ok-open_groups.ensures.opens.others told k (omega (arith, far, c.in-Ok.ensures.few)) (λ j from low. none j from (let few = c.in-Ok.ensures.few in omega (arith, low, few)))
 
 pub returns-in_default-clause-calls : goal.returns-in_default-clause-calls
 returns-in_default-clause-calls g c = λ nine. absurd (omega (arith, c.close.ensures.0, nine))
@@ -161,12 +160,12 @@ pub returns-in-Err-open_groups-clause-heard : goal.returns-in-Err-open_groups-cl
 returns-in-Err-open_groups-clause-heard g c = inl refl
 
 pub returns-in-Err-open_groups-clause-memory : goal.returns-in-Err-open_groups-clause-memory
-returns-in-Err-open_groups-clause-memory g c = λ seven. (unstarted.unasked c.in-Ok.opened.value.core c.in-Ok.opened.value.groups (seen g.S.Store.state c.args.store.now c.open_groups.new.store) c.in-Err-open_groups.report c.in-Err-open_groups.ensures.err, c.requires.quiet)
+returns-in-Err-open_groups-clause-memory g c = λ seven. (unstarted.unasked c.in-Ok.opened.value.core c.in-Ok.opened.value.groups (seen g.S.Store.state c.args.store.now c.open_groups.new.store) c.in-Err-open_groups.report c.in-Err-open_groups.ensures.err.unstarted, c.requires.quiet)
 
 pub returns-in-Err-open_groups-clause-complete : goal.returns-in-Err-open_groups-clause-complete
 returns-in-Err-open_groups-clause-complete g c = λ all kept some files store wire.
     let x = c.in-Ok.ensures in
-    inr (unstarted.accepted c.in-Ok.opened.value.core c.in-Ok.opened.value.groups (seen g.S.Store.state c.args.store.now c.open_groups.new.store) c.in-Err-open_groups.report kept.told (kept.recover c.in-Ok.opened.value.core x.ok.0 c.in-Ok.opened.value.groups x.ok.1) (kept.agrees c.in-Ok.opened.value.core x.ok.0 c.in-Ok.opened.value.groups x.ok.1) (store (unstarted.unasked c.in-Ok.opened.value.core c.in-Ok.opened.value.groups (seen g.S.Store.state c.args.store.now c.open_groups.new.store) c.in-Err-open_groups.report c.in-Err-open_groups.ensures.err)) c.in-Err-open_groups.ensures.err)
+    inr (unstarted.accepted c.in-Ok.opened.value.core c.in-Ok.opened.value.groups (seen g.S.Store.state c.args.store.now c.open_groups.new.store) c.in-Err-open_groups.report kept.told (kept.accepted c.in-Ok.opened.value.core x.ok.0 c.in-Ok.opened.value.groups x.ok.1) (store (unstarted.unasked c.in-Ok.opened.value.core c.in-Ok.opened.value.groups (seen g.S.Store.state c.args.store.now c.open_groups.new.store) c.in-Err-open_groups.report c.in-Err-open_groups.ensures.err.unstarted)) c.in-Err-open_groups.ensures.err.unstarted)
 
 pub returns-in_default-clause-heard : goal.returns-in_default-clause-heard
 returns-in_default-clause-heard g c = inl refl
@@ -181,7 +180,7 @@ pub returns-in-Err-listen-clause-names : goal.returns-in-Err-listen-clause-names
 returns-in-Err-listen-clause-names g c = inr (λ told. inl (c.in-Ok-open_groups.ensures.names told))
 
 pub returns-in-Err-listen-clause-others : goal.returns-in-Err-listen-clause-others
-returns-in-Err-listen-clause-others g c = λ told k far none. c.in-Ok-open_groups.ensures.others told k (omega (arith, far, c.in-Ok.ensures.few)) (λ j from low. none j from (let few = c.in-Ok.ensures.few in omega (arith, low, few)))
+returns-in-Err-listen-clause-others g c = λ told k far none. c.in-Ok-open_groups.ensures.opens.others told k (omega (arith, far, c.in-Ok.ensures.few)) (λ j from low. none j from (let few = c.in-Ok.ensures.few in omega (arith, low, few)))
 
 pub returns-in-Err-listen-clause-calls : goal.returns-in-Err-listen-clause-calls
 returns-in-Err-listen-clause-calls g c = λ nine. absurd (omega (arith, c.close-in-Err-listen.ensures.0, nine))
@@ -198,7 +197,7 @@ returns-in-Err-clause-causes g c = let x = c.in-Err.ensures in wider same (never
 pub returns-in-Err-open_groups-clause-causes : goal.returns-in-Err-open_groups-clause-causes
 returns-in-Err-open_groups-clause-causes g c =
     let ruled = c.in-Ok.opened.value in
-    wider (alone c.in-Ok.ensures.reads.steady) (λ e. e) same same (alone refl) (at_journals ruled.core ruled.groups (seen g.S.Store.state c.args.store.now c.open_groups.new.store) c.in-Err-open_groups.report c.in-Err-open_groups.ensures.err)
+    wider (alone c.in-Ok.ensures.reads.steady) (λ e. e) same same (alone refl) (at_journals ruled.core ruled.groups (seen g.S.Store.state c.args.store.now c.open_groups.new.store) c.in-Err-open_groups.report c.in-Err-open_groups.ensures.err.unstarted)
 
 pub returns-in_default-clause-causes : goal.returns-in_default-clause-causes
 returns-in_default-clause-causes g c = no_memory c.close.ensures.0 (record { files = c.in-Ok.ensures.reads.steady; input = refl; out = refl; wire = refl })

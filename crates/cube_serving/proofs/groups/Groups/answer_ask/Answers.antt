@@ -5,7 +5,7 @@ use Rattle.cube_io.specs.Told.{Works}
 use Rattle.cube_io.proofs.Outcomes.{last_outcome, works_more}
 use Rattle.cube_engine.specs.Steps.{manner}
 use Rattle.cube_serving.specs.NamedBooks.{Groups, rooms_of, dims_of, any_failed}
-use Rattle.cube_serving.proofs.groups.Groups.answer_uncounted.Goals as goal
+use Rattle.cube_serving.proofs.groups.Groups.answer_ask.Goals as goal
 
 pub returns-clause-untouched : goal.returns-clause-untouched
 returns-clause-untouched g c =
