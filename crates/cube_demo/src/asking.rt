@@ -1,11 +1,11 @@
-// The made queries, asked of an engine that keeps nothing.
-ghost use Rattle.std.specs.Prelude.{◌≡◌, ◌≤◌, ◌+◌, IfOk, OnOk, IsTrue};
+// The made queries, asked of a book whose store keeps nothing.
+ghost use Rattle.std.specs.Prelude.{◌≡◌, None, IfOk, OnOk, IsTrue};
 ghost use Rattle.cube_model.specs.Policies.{IsPolicy};
 
 use cube_core::Core;
-use cube_engine::Engine;
-use cube_io::{Desk, NullStore, Store};
-use cube_model::{Ask, Fixed, NoMemory, Policy, Question, Reply, Text};
+use cube_engine::{Book, SharedCore};
+use cube_io::{NullStore, Store};
+use cube_model::{NoMemory, Outcome, Policy, Question, Text};
 use std::alloc::Global;
 
 /// A store that keeps nothing, under some name.
@@ -21,23 +21,15 @@ fn null_store(alloc: Global) -> Result<NullStore, NoMemory>
 }
 
 /// Asks a query. Want of memory for the reply is an error here, any other reply is passed over.
-fn ask(
-    alloc: Global,
-    engine: &mut Engine,
-    store: &mut NullStore,
-    query: &Text,
-) -> Result<(), NoMemory>
-    requires fits { ⟦<Engine as Desk<NullStore>>⟧.fits engine.old store.old }
-    requires capacity { 1 ≤ ⟦<Engine as Desk<NullStore>>⟧.capacity engine.old }
-    ensures fits { ⟦<Engine as Desk<NullStore>>⟧.fits engine.new store.new }
-    ensures capacity { OnOk result (⟦<Engine as Desk<NullStore>>⟧.capacity engine.new + 1 ≡ ⟦<Engine as Desk<NullStore>>⟧.capacity engine.old) }
+fn ask(alloc: Global, book: &mut Book, store: &mut NullStore, query: &Text) -> Result<(), NoMemory>
+    requires none { book.old.waiting ≡ None }
+    requires attached { IsTrue (⟦<NullStore as Store>⟧.state store.old).attached }
+    ensures none { OnOk result (book.new.waiting ≡ None) }
+    ensures attached { OnOk result (IsTrue (⟦<NullStore as Store>⟧.state store.new).attached) }
 {
-    let asked = Ask {
-        group: None,
-        question: Question::Query(query.copied(alloc)?),
-    };
-    match engine.answer(alloc, store, &asked) {
-        Reply::Fixed(Fixed::NoMemory) => Err(NoMemory),
+    let asked = Question::Query(query.copied(alloc)?);
+    match book.answer(alloc, store, &asked) {
+        (_, Outcome::NoMemory) => Err(NoMemory),
         _ => Ok(()),
     }
 }
@@ -52,12 +44,12 @@ pub(crate) fn ask_all(
     requires { IsPolicy core.dims policy }
 {
     let mut store = null_store(alloc)?;
-    let capacity = queries.len() as u64;
-    let Ok(mut engine) = Engine::start(alloc, core, policy, &mut store, 0, capacity) else {
+    let core = SharedCore::new(alloc, core)?;
+    let Ok(mut book) = Book::start(alloc, core, policy, &mut store, 0) else {
         return Err(NoMemory);
     };
     'queries: for query in queries {
-        ask(alloc, &mut engine, &mut store, query)?;
+        ask(alloc, &mut book, &mut store, query)?;
     }
     Ok(())
 }

@@ -12,7 +12,7 @@ use cube_made::make_cube;
 use cube_model::{NoMemory, Text};
 use std::alloc::Global;
 
-/// The summary of the cube that is made of a number and a size, whose queries are asked of an engine as well.
+/// The summary of the cube that is made of a number and a size, whose queries are asked of a book as well.
 fn summary_of(alloc: Global, number: u64, size: u32) -> Result<Text, NoMemory>
     requires some { 1 ≤ size }
     requires few { size ≤ 20 }

@@ -1,12 +1,13 @@
-// What a crash may leave of a log while requests are kept in it, and what an engine recovers from each such image.
-ghost use Rattle.std.specs.Prelude.{IsTrue, IfOk, IfSome};
+// What a crash may leave of a log while requests are kept in it, and what a book recovers from each such image.
+ghost use Rattle.std.specs.Prelude.{IfOk, IfSome};
 ghost use Rattle.cube_model.specs.Policies.{IsPolicy};
+ghost use Rattle.trial_desks.specs.Fitting.{Fits};
 
 use cube_core::Core;
-use cube_engine::Engine;
+use cube_engine::{Book, SharedCore};
 use cube_fixtures::{Parts, all_fields, field_policy};
-use cube_io::{Call, Change, Desk, Failing, MemStore, Reach, Store, Target};
-use cube_model::{Ask, Fixed, NoMemory, Policy, Question, Reply, Text};
+use cube_io::{Call, Change, Failing, MemStore, Reach, Store, Target};
+use cube_model::{Fixed, NoMemory, Policy, Question, Reply, Text};
 use std::alloc::Global;
 use std::process::Abort;
 use std::test::Fail;
@@ -115,17 +116,18 @@ fn all_under(alloc: Global) -> Result<(Core, Policy), NoMemory>
     Ok((core, rules))
 }
 
-/// An engine over the log of a store, unless the store fails.
-fn start(alloc: Global, store: &mut MemStore) -> Result<Option<Engine>, Fail>
-    ensures { IfOk result (λ started. IfSome started (λ engine. ⟦<Engine as Desk<MemStore>>⟧.fits engine store.new)) }
+/// A book over the log of a store, unless the store fails.
+fn start(alloc: Global, store: &mut MemStore) -> Result<Option<Book>, Fail>
+    ensures { IfOk result (λ started. IfSome started (λ book. Fits (⟦<MemStore as Store>⟧.state store.new) book)) }
 {
     let (core, rules) = all_under(alloc)?;
     let name = Text::from_bytes(alloc, b"log")?;
     if store.attach(&name).is_err() {
         return Ok(None);
     }
-    match Engine::start(alloc, core, rules, store, 0, 3) {
-        Ok(engine) => Ok(Some(engine)),
+    let core = SharedCore::new(alloc, core)?;
+    match Book::start(alloc, core, rules, store, 0) {
+        Ok(book) => Ok(Some(book)),
         Err(_) => Ok(None),
     }
 }
@@ -182,45 +184,26 @@ fn line_of(alloc: Global, text: &[u8]) -> Result<Vec<u8>, Fail> {
     Ok(line)
 }
 
-/// One ask, where there is space for it.
-fn put<D: Desk<MemStore>>(
-    alloc: Global,
-    desk: &mut D,
-    store: &mut MemStore,
-    ask: &Ask,
-) -> Result<Reply, &'static str>
-    requires { D.fits desk.old store.old }
-    ensures { D.fits desk.new store.new }
-{
-    if desk.left() == 0 {
-        return Err("no room");
-    }
-    Ok(desk.answer(alloc, store, ask))
-}
-
 /// Takes down one ask: a request that is answered is one that is kept.
-fn ask_one<D: Desk<MemStore>>(
+fn ask_one(
     alloc: Global,
-    desk: &mut D,
+    book: &mut Book,
     store: &mut MemStore,
     text: &[u8],
     ran: &mut Ran,
 ) -> Result<(), Fail>
-    requires { D.fits desk.old store.old }
-    ensures { D.fits desk.new store.new }
+    requires { Fits (⟦<MemStore as Store>⟧.state store.old) book.old }
+    ensures { Fits (⟦<MemStore as Store>⟧.state store.new) book.new }
 {
-    let ask = Ask {
-        group: None,
-        question: Question::Query(Text::from_bytes(alloc, text)?),
-    };
+    let question = Question::Query(Text::from_bytes(alloc, text)?);
     ran.note(store)?;
-    match put(alloc, desk, store, &ask)? {
-        Reply::Made { status: 200, .. } => {
+    match book.answer(alloc, store, &question) {
+        (Reply::Made { status: 200, .. }, _) => {
             let line = line_of(alloc, text)?;
             ran.lines.extend_from_slice(&line)?;
             Ok(())
         }
-        Reply::Fixed(Fixed::JournalFault) => {
+        (Reply::Fixed(Fixed::JournalFault), _) => {
             ran.faults = ran.faults.saturating_add(1);
             Ok(())
         }
@@ -229,34 +212,30 @@ fn ask_one<D: Desk<MemStore>>(
 }
 
 /// Asks the queries one behind the other.
-fn ask_all<D: Desk<MemStore>>(
-    alloc: Global,
-    desk: &mut D,
-    store: &mut MemStore,
-) -> Result<Ran, Fail>
-    requires { D.fits desk.old store.old }
-    ensures { D.fits desk.new store.new }
+fn ask_all(alloc: Global, book: &mut Book, store: &mut MemStore) -> Result<Ran, Fail>
+    requires { Fits (⟦<MemStore as Store>⟧.state store.old) book.old }
+    ensures { Fits (⟦<MemStore as Store>⟧.state store.new) book.new }
 {
     let mut ran = Ran::new(alloc);
     'queries: for text in &QUERIES {
-        ask_one(alloc, desk, store, text, &mut ran)?;
+        ask_one(alloc, book, store, text, &mut ran)?;
     }
     ran.note(store)?;
     Ok(ran)
 }
 
-/// What an engine answers over the log of a store, if it starts.
+/// What a book answers over the log of a store, if it starts.
 fn run(alloc: Global, store: &mut MemStore) -> Result<Ran, Fail> {
-    let Some(mut engine) = start(alloc, store)? else {
+    let Some(mut book) = start(alloc, store)? else {
         return Ok(Ran::new(alloc));
     };
-    ask_all(alloc, &mut engine, store)
+    ask_all(alloc, &mut book, store)
 }
 
-/// What stands behind the first line of a log that an engine recovers from an image, or nothing where it recovers none.
+/// What stands behind the first line of a log that a book recovers from an image, or nothing where it recovers none.
 fn recovered(alloc: Global, image: &[u8]) -> Result<Option<Text>, Fail> {
     let mut store = store_of(alloc, image, Vec::new(alloc))?;
-    let Some(_engine) = start(alloc, &mut store)? else {
+    let Some(_book) = start(alloc, &mut store)? else {
         return Ok(None);
     };
     match store.read_all(alloc, 0) {
@@ -282,7 +261,7 @@ fn is_allowed(alloc: Global, lines: &[u8], kept: &[u8]) -> Result<bool, Fail> {
     Ok(is_one)
 }
 
-/// Images, each with the lines behind the first one of the log that an engine recovers from it.
+/// Images, each with the lines behind the first one of the log that a book recovers from it.
 type Seen = Vec<(Text, Text)>;
 
 /// An image recovers what was answered, alone or with one more request.
@@ -376,11 +355,11 @@ fn check_runs(
     Err(Fail::from("no end of calls"))
 }
 
-/// The log that an engine begins.
+/// The log that a book begins.
 fn begun(alloc: Global) -> Result<Text, Fail> {
     let mut store = store_of(alloc, b"", Vec::new(alloc))?;
-    let Some(_engine) = start(alloc, &mut store)? else {
-        return Err(Fail::from("no engine"));
+    let Some(_book) = start(alloc, &mut store)? else {
+        return Err(Fail::from("no book"));
     };
     match store.read_all(alloc, 0) {
         Ok(log) => Ok(log),

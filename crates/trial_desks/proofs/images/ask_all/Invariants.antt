@@ -1,4 +1,5 @@
+use Rattle.trial_desks.specs.Fitting.{Fits}
 use Rattle.trial_desks.proofs.images.ask_all.Given as goal
 
 abbrev pub invariant-queries : goal.invariant-queries
-invariant-queries g l = g.D.Desk.fits l.desk l.store
+invariant-queries l = Fits l.store l.book
