@@ -9,3 +9,4 @@ pub mod TwinFiles
 pub mod Said
 mod Unread
 mod Causes
+mod Behind

@@ -1,26 +1,19 @@
 -- A run of some orders, and a run in which nothing is done.
-use Rattle.std.proofs.Common.{◌≡◌, ◌⊎◌, List, ℕ, inl, inr, sym, subst, arith}
+use Rattle.std.proofs.Common.{◌≡◌, ◌⊎◌, List, ℕ, inl, inr, sym, subst}
 use Rattle.std.specs.Prelude.{IfOk, IfErr}
 use Rattle.std.specs.declared.result.Result.{Result}
 use Rattle.std.specs.declared.result.Result.TheVariants.{Ok, Err}
-use Rattle.cube_io.specs.Seen.{StoreState}
 use Rattle.cube_opening.specs.Causes.{HasCauses, IsStatus, IsStill, Rises}
 use Rattle.cube_opening.specs.Reports.{IsReport, NoMessage}
 use Rattle.cube_opening.specs.declared.report.Report.{Report}
-use Rattle.cube_serving.specs.Grouping.{OnlyFirst}
-use Rattle.cube_serving.specs.Starting.{OnlyJournal}
 use Rattle.cube_words.specs.declared.ordered.Orders.{Orders}
 use Rattle.cube_words.specs.declared.words.Usage.{Usage}
-use Rattle.cube_app.specs.Runs.{Outside, Obeyed, Untouched, IsCalm, CalmStatus, Runs, counted}
+use Rattle.cube_app.specs.Runs.{Outside, Obeyed, Untouched, NoneRose, CalmStatus, Runs, counted}
 use Rattle.cube_app.specs.Texts.{usage_text}
 
 -- what was obeyed, by another name of the orders
 pub obeyed_as : {F S I O W : Type 0} {objects : Outside F S I O W} {r : Report} (o o' : Orders) → o ≡ o' → Obeyed o' objects r → Obeyed o objects r
 obeyed_as {F} {S} {I} {O} {W} {objects} {r} o o' same x = subst (λ (x : Orders). Obeyed x objects r) (sym same) x
-
--- one journal is the first log
-pub only_first : (old new : StoreState) → OnlyJournal old new → OnlyFirst 1 old new
-only_first old new only told k far none = only told k (λ zero. omega (arith, far, zero)) (none 0 (omega arith) (omega arith))
 
 each_ok : {T E : Type 0} (r : Result T E) (P : T → Type 0) → ((x : T) → P x) → IfOk r P
 each_ok (Ok x) P f = f x
@@ -34,19 +27,19 @@ no_memory : {n : ℕ} → n ≡ 7 → CalmStatus n
 no_memory e = inr (inr (inr (inr (inl e))))
 
 -- where no count rose the status is one of the run's own
-calm_end : {F S I O W : Type 0} {objects : Outside F S I O W} {r : Report} → HasCauses (counted objects) r → IsCalm objects → CalmStatus r.status
-calm_end {F} {S} {I} {O} {W} {objects} {r} x calm = go x.status
+calm_end : {F S I O W : Type 0} (objects : Outside F S I O W) {r : Report} → HasCauses (counted objects) r → NoneRose (counted objects) → CalmStatus r.status
+calm_end {F} {S} {I} {O} {W} objects {r} x calm = go x.status
   where
     unread : (Rises (counted objects).files × IsStill (counted objects).input) ⊎ (Rises (counted objects).input × IsStill (counted objects).files) → ⊥
-    unread (inl e) = calm.files e.0
-    unread (inr e) = calm.input e.0
+    unread (inl e) = calm.0 e.0
+    unread (inr e) = calm.2 e.0
 
     go : IsStatus r.status → CalmStatus r.status
     go (inl e) = inr e
     go (inr (inl e)) = absurd (unread (x.unreadable e))
-    go (inr (inr (inl e))) = absurd (calm.out (x.output e))
-    go (inr (inr (inr (inl e)))) = absurd (calm.wire (x.unheard e))
-    go (inr (inr (inr (inr e)))) = absurd (calm.store (x.unkept e).0)
+    go (inr (inr (inl e))) = absurd (calm.3 (x.output e))
+    go (inr (inr (inr (inl e)))) = absurd (calm.4 (x.unheard e))
+    go (inr (inr (inr (inr e)))) = absurd (calm.1 (x.unkept e).0)
 
 -- nothing is done where there is no memory to begin
 pub not_begun : {F S I O W : Type 0} {objects : Outside F S I O W} {r : Report} (words : List (List ℕ)) (given : Result Orders Usage) → NoMessage r → Untouched objects → Runs words given objects r
@@ -64,4 +57,4 @@ refused_as {F} {S} {I} {O} {W} {objects} {r} words given usage is told same = su
     wrong (inr e) = no_memory e.0
 
 pub run_as : {F S I O W : Type 0} {objects : Outside F S I O W} {r : Report} (words : List (List ℕ)) (given : Result Orders Usage) (orders : Orders) → Ok orders ≡ given → Obeyed orders objects r → Runs words given objects r
-run_as {F} {S} {I} {O} {W} {objects} {r} words given orders is done = subst (λ (x : Result Orders Usage). Runs words x objects r) is (record { refused = tt; obeyed = inl done; calm = calm_end {objects = objects} done.causes })
+run_as {F} {S} {I} {O} {W} {objects} {r} words given orders is done = subst (λ (x : Result Orders Usage). Runs words x objects r) is (record { refused = tt; obeyed = inl done; calm = calm_end objects done.causes })

@@ -178,21 +178,21 @@ says_open s w h last Spent stated os text old new m t ok reads adm all ended wit
 
 pub hides : {I O : Type 0} (core : Core) (policy : Policy) (h : List Entry) (talk : Talk) (input : Seen SourceState I) (out : Seen SinkState O) → IsCore core → IsPolicy core.dims policy → IsAdmissible (shown core policy) h
     → (talked : Talked (manner core.dims) (alone (world core policy) h) talk input out)
-    → Hides core policy (first_history (rooms_behind (manner core.dims) (alone (world core policy) h) talked.first talk.outcomes)) (λ w. Says talk.ending (manner core.dims) (alone w h) talk.stated talk.outcomes talked.text out.before.written out.after.written)
+    → Hides core policy (first_history (rooms_behind (manner core.dims) (alone (world core policy) h) talked.took.first talk.outcomes)) (λ w. Says talk.ending (manner core.dims) (alone w h) talk.stated talk.outcomes talked.took.text out.before.written out.after.written)
 hides core policy h talk input out is_core is_policy adm talked =
     let s = core.dims in
     let w = world core policy in
     let os = talk.outcomes in
     let ok : IsWorld w = cores_are_worlds core policy is_core is_policy.methods in
-    let last = behind s w h talked.first os in
+    let last = behind s w h talked.took.first os in
     record {
       here = talked.says;
-      admissible = behind_stays s w h talked.first os adm;
+      admissible = behind_stays s w h talked.took.first os adm;
       hides = λ later good ext m t within.
-          let all = extends_trans (history_behind s w h talk.stated (lines talked.text) os) last later (all_grow s w h talk.stated talked.text talked.first talked.more os talked.split talked.matched) ext in
-          let ended = extends_trans (history_behind s w h talk.stated (ended_lines talked.text) os) last later (ended_grow s w h talk.stated talked.text talked.first talked.more os talked.split talked.matched) ext in
+          let all = extends_trans (history_behind s w h talk.stated (lines talked.took.text) os) last later (all_grow s w h talk.stated talked.took.text talked.took.first talked.took.more os talked.took.split talked.matched) ext in
+          let ended = extends_trans (history_behind s w h talk.stated (ended_lines talked.took.text) os) last later (ended_grow s w h talk.stated talked.took.text talked.took.first talked.took.more os talked.took.split talked.matched) ext in
           record {
-            same = says_open s w h later talk.ending talk.stated os talked.text out.before.written out.after.written m t ok (texts_read core policy is_core is_policy) good all ended within talked.says;
+            same = says_open s w h later talk.ending talk.stated os talked.took.text out.before.written out.after.written m t ok (texts_read core policy is_core is_policy) good all ended within talked.says;
             other_sum = other_sum w later m t ok good within;
           };
     }

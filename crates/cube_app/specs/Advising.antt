@@ -16,15 +16,14 @@ use Rattle.cube_advise.specs.Lines.{is_workload}
 use Rattle.cube_advise.specs.Open.{finest_open}
 use Rattle.cube_advise.specs.OpenLaws.{AreFinestOpen, IsAbove, IsAnswered}
 use Rattle.cube_advise.specs.Telling.{first_text, later_text}
-use Rattle.cube_engine.specs.Kept.{IsExact}
 use Rattle.cube_io.specs.Causes.{Rose}
 use Rattle.cube_io.specs.Seen.{FolderState, SinkState, StoreState, Seen, Unused}
 use Rattle.cube_opening.specs.Opening.{unless_long, FileSays, EndsAtLast, EndsUnopened, GotBehind, Make, HasAll, HasFile, names_of, names_with}
 use Rattle.cube_opening.specs.Reports.{IsReport, IsDone, Prints}
 use Rattle.cube_opening.specs.declared.cube_files.CubeFiles.{CubeFiles}
 use Rattle.cube_opening.specs.declared.report.Report.{Report}
-use Rattle.cube_serving.specs.Starting.{EndsUnstarted, IsOpen, Recovers, HasJournal}
-use Rattle.cube_app.specs.Ends.{AsksJournal}
+use Rattle.cube_serving.specs.OneCube.{HasJournal}
+use Rattle.cube_app.specs.Ends.{AsksJournal, EndsOrSays}
 
 -- ---- the workload
 
@@ -89,19 +88,12 @@ pub record Advised {O : Type 0} (cube : CubeFiles) (workload : Option (List ℕ)
   pub is : IsAdvice core policy []
   pub puts : Puts (first_text core policy bytes) out r
 
--- It was put what can be released behind the history of an open cube, which stays: every crash leaves it, and at each moment the log is as
--- at entry, or every crash leaves what recovers the same.
-pub record AdvisedLater {S O : Type 0} (cube : CubeFiles) (workload : Option (List ℕ)) (files : FolderState) (store : Seen StoreState S) (out : Seen SinkState O) (r : Report) : Type 0 where
-  pub core : Core
-  pub policy : Policy
-  pub history : List Entry
-  pub opened : IsOpen cube files store core policy history
+-- It was put what can be released behind a history, and the words for the lines of the workload.
+pub record AdvisesBehind {O : Type 0} (workload : Option (List ℕ)) (files : FolderState) (out : Seen SinkState O) (r : Report) (core : Core) (policy : Policy) (h : List Entry) : Type 0 where
   pub bytes : Option (List ℕ)
   pub said : WorkloadSays workload files bytes
-  pub is : IsAdvice core policy history
-  pub puts : Puts (later_text core policy history bytes) out r
-  pub passed : Recovers core policy store
-  pub exact : IsTrue store.before.told → IsExact core policy history (store.after.logs 0).state
+  pub is : IsAdvice core policy h
+  pub puts : Puts (later_text core policy h bytes) out r
 
 -- a run without a journal ends at its files, or it advises
 abbrev pub FirstEnds : {F O : Type 0} → CubeFiles → Option (List ℕ) → Seen FolderState F → Seen SinkState O → Report → Type 0
@@ -109,12 +101,11 @@ FirstEnds cube workload files out r =
     (EndsUnread cube workload files r × Unused out)
     ⊎ (Advised cube workload files.before out r × GotBehind (named_with cube workload) files)
 
--- a run with a journal ends at its files, or at the journal, or it advises
+-- a run with a journal ends at the workload, or before its cube is open, or it advises by the history of the cube
 abbrev pub LaterEnds : {F S O : Type 0} → CubeFiles → Option (List ℕ) → Seen FolderState F → Seen StoreState S → Seen SinkState O → Report → Type 0
 LaterEnds cube workload files store out r =
-    (EndsUnread cube workload files r × Unused store × Unused out)
-    ⊎ (EndsUnstarted cube files.before store r × GotBehind (named_with cube workload) files × Unused out)
-    ⊎ (AdvisedLater cube workload files.before store out r × GotBehind (named_with cube workload) files)
+    (EndsAtWorkload cube workload files r × Unused store × Unused out)
+    ⊎ EndsOrSays cube (named_with cube workload) (AdvisesBehind workload files.before out r) files store out r
 
 abbrev pub AdviseEnds : {F S O : Type 0} → CubeFiles → Option (List ℕ) → Option (List ℕ) → Seen FolderState F → Seen StoreState S → Seen SinkState O → Report → Type 0
 AdviseEnds cube None workload files store out r = FirstEnds cube workload files out r × Unused store

@@ -16,8 +16,8 @@ use Rattle.cube_io.specs.Causes.{Rose}
 use Rattle.cube_io.specs.Seen.{FolderState, SinkState, StoreState, Seen, Unused}
 use Rattle.cube_journal.specs.SecondText.{journal2_text}
 use Rattle.cube_answers.specs.VerdictText.{unprotected}
-use Rattle.cube_engine.specs.Engines.{Engine}
-use Rattle.cube_engine.specs.Kept.{digest_for, history_of, IsExact}
+use Rattle.cube_engine.specs.Books.{Book}
+use Rattle.cube_engine.specs.Kept.{digest_for, history_of}
 use Rattle.cube_carry.specs.Carrying.{carried_history, stops, IsCarried}
 use Rattle.cube_carry.specs.Continues.{Continues, KeepsValues, breaches}
 use Rattle.cube_carry.specs.Names.{named, measure_in}
@@ -31,8 +31,8 @@ use Rattle.cube_opening.specs.Opening.{GotBehind, Make, HasAll, EndsUnopened, na
 use Rattle.cube_opening.specs.Reports.{IsReport, IsDone, NoMessage, Prints}
 use Rattle.cube_opening.specs.declared.cube_files.CubeFiles.{CubeFiles}
 use Rattle.cube_opening.specs.declared.report.Report.{Report}
-use Rattle.cube_serving.specs.Starting.{EndsClosed, IsOpen, Recovers, HasJournal}
-use Rattle.cube_app.specs.Ends.{AsksJournal}
+use Rattle.cube_serving.specs.OneCube.{EndsClosed, HasJournal}
+use Rattle.cube_app.specs.Ends.{SaidBy, SaysOver}
 use Rattle.cube_app.specs.declared.carrying.Uncarried.{Uncarried}
 use Rattle.cube_app.specs.declared.carrying.Uncarried.TheVariants.{Line, NoMemory}
 
@@ -119,8 +119,9 @@ HandsOver x out r =
 
 -- ---- why nothing is carried over
 
-abbrev pub handing_of : Engine → Core → Policy → Handing
-handing_of e c p = record { older = e.core; older_policy = e.policy; history = e.history; core = c; policy = p }
+-- from what a book holds to a core under a policy
+abbrev pub handing_of : Book → Core → Policy → Handing
+handing_of b c p = record { older = b.core; older_policy = b.policy; history = b.history; core = c; policy = p }
 
 -- the line names what stands in the way, or memory ran out
 abbrev pub IsUncarried : Handing → Uncarried → Type 0
@@ -140,14 +141,11 @@ IsHanded x = Continues (named x.older x.older_policy) (named x.core x.policy) ×
 -- ---- a run
 
 -- The files of the new cube make a core and a policy; then the older cube was opened with its journal, and what is carried over was said.
--- The older journal stays: every crash leaves its history.
 pub record CarriedOver {S O : Type 0} (cube older : CubeFiles) (files : FolderState) (store : Seen StoreState S) (out : Seen SinkState O) (r : Report) : Type 0 where
-  pub handing : Handing
-  pub files_make : Make cube files handing.core handing.policy
-  pub opened : IsOpen older files store handing.older handing.older_policy handing.history
-  pub hands : HandsOver handing out r
-  pub passed : Recovers handing.older handing.older_policy store
-  pub exact : IsTrue store.before.told → IsExact handing.older handing.older_policy handing.history (store.after.logs 0).state
+  pub new_core : Core
+  pub new_policy : Policy
+  pub files_make : Make cube files new_core new_policy
+  pub hands : SaidBy older files store (λ core policy h. HandsOver (record { older = core; older_policy = policy; history = h; core = new_core; policy = new_policy }) out r)
 
 -- A run got behind the files of the new cube at some moment, and from then on ended before the older one was open.
 pub record EndsAtOlder {F S : Type 0} (cube older : CubeFiles) (files : Seen FolderState F) (store : Seen StoreState S) (r : Report) : Type 0 where
@@ -174,8 +172,5 @@ CarryCompletes cube older files store out r = HasAll cube files.before → HasAl
     → ¬ Rose files.before.faults files.after.faults → ¬ Rose store.before.faults store.after.faults → ¬ Rose out.before.faults out.after.faults → IsDone r
 
 -- All that a run that is to carry a history over does with these files and this journal. Where nothing is carried, nothing is put.
-pub record CarryRun {F S O : Type 0} (cube older : CubeFiles) (journal : List ℕ) (files : Seen FolderState F) (store : Seen StoreState S) (out : Seen SinkState O) (r : Report) : Type 0 where
-  pub answers : CarryEnds cube older files store out r
-  pub named_journal : AsksJournal journal store r
-  pub few_calls : IsTrue store.before.told → store.after.calls ≤ store.before.calls + 12
-  pub complete : CarryCompletes cube older files store out r
+abbrev pub CarryRun : {F S O : Type 0} → CubeFiles → CubeFiles → List ℕ → Seen FolderState F → Seen StoreState S → Seen SinkState O → Report → Type 0
+CarryRun cube older journal files store out r = SaysOver journal store r (CarryEnds cube older files store out r) (CarryCompletes cube older files store out r)

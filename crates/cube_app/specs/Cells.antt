@@ -1,5 +1,5 @@
 -- All that `witness`, `twin` and `compact` do.
-use Rattle.std.specs.Prelude.{◌≡◌, ◌⊎◌, ◌≤◌, ◌+◌, ⊤, ℕ, nat_lt, IsTrue, IsOk, List, ◌++◌, length, codes, if◌then◌else◌}
+use Rattle.std.specs.Prelude.{◌≡◌, ◌⊎◌, ⊤, ℕ, nat_lt, IsOk, List, ◌++◌, length, codes, if◌then◌else◌}
 use Rattle.std.specs.declared.result.Result.{Result}
 use Rattle.std.specs.declared.result.Result.TheVariants.{Ok, Err}
 use Rattle.cube_model.specs.declared.entry.Entry.{Entry}
@@ -7,16 +7,16 @@ use Rattle.cube_model.specs.declared.policy.Policy.{Policy}
 use Rattle.cube_model.specs.Cores.{Core, shown}
 use Rattle.cube_io.specs.Causes.{Rose}
 use Rattle.cube_io.specs.Files.{max_file}
-use Rattle.cube_io.specs.Seen.{FolderState, SinkState, StoreState, Seen, Unused}
+use Rattle.cube_io.specs.Seen.{FolderState, SinkState, StoreState, Seen}
 use Rattle.cube_engine.specs.Changes.{changes_for, text_of, twin_for}
 use Rattle.cube_engine.specs.Compacting.{compacted_text, KeepsAll}
-use Rattle.cube_engine.specs.Kept.{history_of, IsExact}
-use Rattle.cube_opening.specs.Opening.{GotBehind, Make, HasAll, names_of}
+use Rattle.cube_engine.specs.Kept.{history_of}
+use Rattle.cube_opening.specs.Opening.{Make, HasAll, names_of}
 use Rattle.cube_opening.specs.Reports.{IsReport, IsDone, NoMessage, Prints}
 use Rattle.cube_opening.specs.declared.cube_files.CubeFiles.{CubeFiles}
 use Rattle.cube_opening.specs.declared.report.Report.{Report}
-use Rattle.cube_serving.specs.Starting.{EndsClosed, IsOpen, Recovers, HasJournal}
-use Rattle.cube_app.specs.Ends.{AsksJournal}
+use Rattle.cube_serving.specs.OneCube.{HasJournal}
+use Rattle.cube_app.specs.Ends.{EndsOrSays, SaysOver}
 use Rattle.cube_app.specs.declared.cells.Telling.{Telling}
 use Rattle.cube_app.specs.declared.cells.Telling.TheVariants.{Changes, Twin, Compacted}
 
@@ -43,28 +43,14 @@ KeepsIf Changes core policy h = ⊤
 KeepsIf Twin core policy h = ⊤
 KeepsIf Compacted core policy h = KeepsAll core policy h
 
--- The text was told by an open cube and its history, which stays: every crash leaves it, and at each moment the log is as at entry, or
--- every crash leaves what recovers the same. A compacted history keeps all.
-pub record Told {S O : Type 0} (telling : Telling) (cube : CubeFiles) (cell : List ℕ) (files : FolderState) (store : Seen StoreState S) (out : Seen SinkState O) (r : Report) : Type 0 where
-  pub core : Core
-  pub policy : Policy
-  pub history : List Entry
-  pub opened : IsOpen cube files store core policy history
-  pub tells : Tells (told_text telling core policy history cell) out r
-  pub keeps : KeepsIf telling core policy history
-  pub passed : Recovers core policy store
-  pub exact : IsTrue store.before.told → IsExact core policy history (store.after.logs 0).state
-
 -- what is to be told is there over each core and history that the files and the log make
 abbrev pub CanTell : Telling → CubeFiles → List ℕ → FolderState → StoreState → Type 0
 CanTell telling cube cell files store =
     (core : Core) (policy : Policy) (h : List Entry) → Make cube files core policy → history_of core policy (store.logs 0).state.now ≡ Ok h → IsOk (told_text telling core policy h cell)
 
--- a run that is to tell ends before its cube is open, or it tells
+-- A run that is to tell ends before its cube is open, or it tells by the history of the cube. A compacted history keeps all.
 abbrev pub TellEnds : {F S O : Type 0} → Telling → CubeFiles → List ℕ → Seen FolderState F → Seen StoreState S → Seen SinkState O → Report → Type 0
-TellEnds telling cube cell files store out r =
-    (EndsClosed cube (names_of cube) files store r × Unused out)
-    ⊎ (Told telling cube cell files.before store out r × GotBehind (names_of cube) files)
+TellEnds telling cube cell files store out r = EndsOrSays cube (names_of cube) (λ core policy h. Tells (told_text telling core policy h cell) out r × KeepsIf telling core policy h) files store out r
 
 -- where the files, the journal and what is to be told are accepted and no count rose, all is done
 abbrev pub TellCompletes : {F S O : Type 0} → Telling → CubeFiles → List ℕ → Seen FolderState F → Seen StoreState S → Seen SinkState O → Report → Type 0
@@ -72,8 +58,5 @@ TellCompletes telling cube cell files store out r = HasAll cube files.before →
     → ¬ Rose files.before.faults files.after.faults → ¬ Rose store.before.faults store.after.faults → ¬ Rose out.before.faults out.after.faults → IsDone r
 
 -- All that a run that is to tell does with these files, this journal and this cell. Where nothing is told, nothing is put.
-pub record TellRun {F S O : Type 0} (telling : Telling) (cube : CubeFiles) (journal cell : List ℕ) (files : Seen FolderState F) (store : Seen StoreState S) (out : Seen SinkState O) (r : Report) : Type 0 where
-  pub answers : TellEnds telling cube cell files store out r
-  pub named : AsksJournal journal store r
-  pub few_calls : IsTrue store.before.told → store.after.calls ≤ store.before.calls + 12
-  pub complete : TellCompletes telling cube cell files store out r
+abbrev pub TellRun : {F S O : Type 0} → Telling → CubeFiles → List ℕ → List ℕ → Seen FolderState F → Seen StoreState S → Seen SinkState O → Report → Type 0
+TellRun telling cube journal cell files store out r = SaysOver journal store r (TellEnds telling cube cell files store out r) (TellCompletes telling cube cell files store out r)

@@ -1,5 +1,5 @@
 -- All that `why` does: it says why a query is refused, or whether a text says so.
-use Rattle.std.specs.Prelude.{◌≡◌, ◌⊎◌, ◌≤◌, ◌+◌, ◌↔◌, ⊤, ℕ, Bool, true, IsTrue, IsOk, List, ◌++◌, codes, if◌then◌else◌, IfSome, Option, Some, None}
+use Rattle.std.specs.Prelude.{◌≡◌, ◌⊎◌, ◌↔◌, ⊤, ℕ, Bool, true, IsOk, List, ◌++◌, codes, if◌then◌else◌, IfSome, Option, Some, None}
 use Rattle.std.specs.declared.result.Result.{Result}
 use Rattle.std.specs.declared.result.Result.TheVariants.{Ok, Err}
 use Rattle.cube_model.specs.declared.entry.Entry.{Entry}
@@ -12,13 +12,12 @@ use Rattle.cube_io.specs.Seen.{FolderState, SinkState, StoreState, Seen, Unused}
 use Rattle.cube_query.specs.Faults.{request_of, fault_body}
 use Rattle.cube_query.specs.declared.fault.RequestFault.{RequestFault}
 use Rattle.cube_reason.specs.Showing.{IsWhy, Shows}
-use Rattle.cube_engine.specs.Kept.{IsExact}
-use Rattle.cube_opening.specs.Opening.{EndsAtLast, FileSays, GotBehind, HasAll, HasFile, Make, names_of, names_with, unless_long}
+use Rattle.cube_opening.specs.Opening.{EndsAtLast, FileSays, HasAll, HasFile, Make, names_of, names_with, unless_long}
 use Rattle.cube_opening.specs.Reports.{IsReport, IsDone, NoMessage, Prints}
 use Rattle.cube_opening.specs.declared.cube_files.CubeFiles.{CubeFiles}
 use Rattle.cube_opening.specs.declared.report.Report.{Report}
-use Rattle.cube_serving.specs.Starting.{EndsClosed, IsOpen, Recovers, HasJournal}
-use Rattle.cube_app.specs.Ends.{AsksJournal}
+use Rattle.cube_serving.specs.OneCube.{HasJournal}
+use Rattle.cube_app.specs.Ends.{EndsOrSays, SaysOver}
 use Rattle.cube_app.specs.declared.reasons.Unsaid.{Unsaid}
 use Rattle.cube_app.specs.declared.reasons.Unsaid.TheVariants.{Query, NoMemory}
 
@@ -90,26 +89,13 @@ SaysOne Is out r =
 
 -- ---- why
 
--- It was said why by an open cube and its history, which stays: every crash leaves it, and at each moment the log is as at entry, or every
--- crash leaves what recovers the same.
-pub record ToldWhy {S O : Type 0} (cube : CubeFiles) (query : List ℕ) (files : FolderState) (store : Seen StoreState S) (out : Seen SinkState O) (r : Report) : Type 0 where
-  pub core : Core
-  pub policy : Policy
-  pub history : List Entry
-  pub opened : IsOpen cube files store core policy history
-  pub says : SaysOne (IsWhyOf core policy history query) out r
-  pub passed : Recovers core policy store
-  pub exact : IsTrue store.before.told → IsExact core policy history (store.after.logs 0).state
-
 -- the query is a request over each core that the files make
 abbrev pub IsQuery : CubeFiles → List ℕ → FolderState → Type 0
 IsQuery cube query files = (core : Core) (policy : Policy) → Make cube files core policy → IsOk (request_of core.dims query)
 
--- a run that is to say why ends before its cube is open, or it says so
+-- a run that is to say why ends before its cube is open, or it says so of the history of the cube
 abbrev pub WhyEnds : {F S O : Type 0} → CubeFiles → List ℕ → Seen FolderState F → Seen StoreState S → Seen SinkState O → Report → Type 0
-WhyEnds cube query files store out r =
-    (EndsClosed cube (names_of cube) files store r × Unused out)
-    ⊎ (ToldWhy cube query files.before store out r × GotBehind (names_of cube) files)
+WhyEnds cube query files store out r = EndsOrSays cube (names_of cube) (λ core policy h. SaysOne (IsWhyOf core policy h query) out r) files store out r
 
 -- where the files, the journal and the query are accepted and no count rose, all is done
 abbrev pub WhyCompletes : {F S O : Type 0} → CubeFiles → List ℕ → Seen FolderState F → Seen StoreState S → Seen SinkState O → Report → Type 0
@@ -117,11 +103,8 @@ WhyCompletes cube query files store out r = HasAll cube files.before → HasJour
     → ¬ Rose files.before.faults files.after.faults → ¬ Rose store.before.faults store.after.faults → ¬ Rose out.before.faults out.after.faults → IsDone r
 
 -- All that a run that is to say why does with these files, this journal and this query. Where nothing is said, nothing is put.
-pub record WhyRun {F S O : Type 0} (cube : CubeFiles) (journal query : List ℕ) (files : Seen FolderState F) (store : Seen StoreState S) (out : Seen SinkState O) (r : Report) : Type 0 where
-  pub answers : WhyEnds cube query files store out r
-  pub named : AsksJournal journal store r
-  pub few_calls : IsTrue store.before.told → store.after.calls ≤ store.before.calls + 12
-  pub complete : WhyCompletes cube query files store out r
+abbrev pub WhyRun : {F S O : Type 0} → CubeFiles → List ℕ → List ℕ → Seen FolderState F → Seen StoreState S → Seen SinkState O → Report → Type 0
+WhyRun cube journal query files store out r = SaysOver journal store r (WhyEnds cube query files store out r) (WhyCompletes cube query files store out r)
 
 -- ---- whether a text says why
 
@@ -129,35 +112,25 @@ pub record WhyRun {F S O : Type 0} (cube : CubeFiles) (journal query : List ℕ)
 abbrev pub reason_said : List ℕ → Result (List ℕ) (List ℕ)
 reason_said bytes = unless_long (codes "reason") bytes (Ok bytes)
 
--- It was said whether the bytes of the file are those of a reason, by an open cube and its history, which stays.
-pub record ToldWhether {S O : Type 0} (cube : CubeFiles) (query name : List ℕ) (files : FolderState) (store : Seen StoreState S) (out : Seen SinkState O) (r : Report) : Type 0 where
-  pub core : Core
-  pub policy : Policy
-  pub history : List Entry
+-- the file of this name says these bytes, and it was said whether they are those of a reason
+pub record SaysOfFile {O : Type 0} (query name : List ℕ) (files : FolderState) (out : Seen SinkState O) (r : Report) (core : Core) (policy : Policy) (h : List Entry) : Type 0 where
   pub reason : List ℕ
-  pub said : IfSome files.files (λ known. FileSays reason_said name known (Ok reason))
-  pub opened : IsOpen cube files store core policy history
-  pub says : SaysOne (IsWhetherOf core policy history query reason) out r
-  pub passed : Recovers core policy store
-  pub exact : IsTrue store.before.told → IsExact core policy history (store.after.logs 0).state
+  pub read : IfSome files.files (λ known. FileSays reason_said name known (Ok reason))
+  pub says : SaysOne (IsWhetherOf core policy h query reason) out r
 
 -- a run that is to check a reason ends at its file, or before its cube is open, or it says whether it is one
 abbrev pub WhetherEnds : {F S O : Type 0} → CubeFiles → List ℕ → List ℕ → Seen FolderState F → Seen StoreState S → Seen SinkState O → Report → Type 0
 WhetherEnds cube query name files store out r =
     (EndsAtLast cube reason_said name files r × Unused store × Unused out)
-    ⊎ (EndsClosed cube (names_with cube name) files store r × Unused out)
-    ⊎ (ToldWhether cube query name files.before store out r × GotBehind (names_with cube name) files)
+    ⊎ EndsOrSays cube (names_with cube name) (SaysOfFile query name files.before out r) files store out r
 
 abbrev pub WhetherCompletes : {F S O : Type 0} → CubeFiles → List ℕ → List ℕ → Seen FolderState F → Seen StoreState S → Seen SinkState O → Report → Type 0
 WhetherCompletes cube query name files store out r = HasAll cube files.before → HasFile reason_said name files.before → HasJournal cube files.before store.before → IsQuery cube query files.before
     → ¬ Rose files.before.faults files.after.faults → ¬ Rose store.before.faults store.after.faults → ¬ Rose out.before.faults out.after.faults → IsDone r
 
 -- All that a run that is to check the reason in a file does with these files, this journal and this query.
-pub record WhetherRun {F S O : Type 0} (cube : CubeFiles) (journal query name : List ℕ) (files : Seen FolderState F) (store : Seen StoreState S) (out : Seen SinkState O) (r : Report) : Type 0 where
-  pub answers : WhetherEnds cube query name files store out r
-  pub named : AsksJournal journal store r
-  pub few_calls : IsTrue store.before.told → store.after.calls ≤ store.before.calls + 12
-  pub complete : WhetherCompletes cube query name files store out r
+abbrev pub WhetherRun : {F S O : Type 0} → CubeFiles → List ℕ → List ℕ → List ℕ → Seen FolderState F → Seen StoreState S → Seen SinkState O → Report → Type 0
+WhetherRun cube journal query name files store out r = SaysOver journal store r (WhetherEnds cube query name files store out r) (WhetherCompletes cube query name files store out r)
 
 -- ---- with or without the file of a reason
 

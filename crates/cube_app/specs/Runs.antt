@@ -1,8 +1,7 @@
 -- What a run of the program does: all that is promised of the top call.
 use Rattle.std.specs.Prelude.{◌≡◌, ◌⊎◌, ℕ, List, [], Result, IfOk, IfErr}
-use Rattle.cube_io.specs.Causes.{Rose}
 use Rattle.cube_io.specs.Seen.{FolderState, SourceState, SinkState, StoreState, WireState, Seen, Unused}
-use Rattle.cube_opening.specs.Causes.{Counts, of_files, of_store, of_input, of_out, of_wire, IsOwn, HasCauses}
+use Rattle.cube_opening.specs.Causes.{Counts, Rises, of_files, of_store, of_input, of_out, of_wire, IsOwn, HasCauses}
 use Rattle.cube_opening.specs.Reports.{IsReport, NoMessage, Prints}
 use Rattle.cube_opening.specs.Ruling.{most_groups}
 use Rattle.cube_opening.specs.declared.report.Report.{Report}
@@ -96,12 +95,8 @@ pub record Obeyed {F S I O W : Type 0} (orders : Orders) (objects : Outside F S 
 -- ---- where nothing outside failed
 
 -- no count of faults rose
-pub record IsCalm {F S I O W : Type 0} (objects : Outside F S I O W) : Type 0 where
-  pub files : ¬ Rose objects.files.before.faults objects.files.after.faults
-  pub store : ¬ Rose objects.store.before.faults objects.store.after.faults
-  pub input : ¬ Rose objects.input.before.faults objects.input.after.faults
-  pub out : ¬ Rose objects.out.before.faults objects.out.after.faults
-  pub wire : ¬ Rose objects.wire.before.faults objects.wire.after.faults
+abbrev pub NoneRose : Counts → Type 0
+NoneRose c = ¬ Rises c.files × ¬ Rises c.store × ¬ Rises c.input × ¬ Rises c.out × ¬ Rises c.wire
 
 -- the statuses of a run where none rose: one of its own, or that of wrong words
 abbrev pub CalmStatus : ℕ → Type 0
@@ -119,4 +114,4 @@ Untouched objects = Unused objects.files × Unused objects.store × Unused objec
 pub record Runs {F S I O W : Type 0} (words : List (List ℕ)) (given : Result Orders Usage) (objects : Outside F S I O W) (r : Report) : Type 0 where
   pub refused : IfErr given (λ usage. (IsReport 2 (usage_text words usage) r ⊎ NoMessage r) × Untouched objects)
   pub obeyed : IfOk given (λ orders. Obeyed orders objects r ⊎ (NoMessage r × Untouched objects))
-  pub calm : IsCalm objects → CalmStatus r.status
+  pub calm : NoneRose (counted objects) → CalmStatus r.status

@@ -1,12 +1,11 @@
 -- All that `sum` and `ask` do with the lines of the input.
-use Rattle.std.specs.Prelude.{◌≡◌, ◌≢◌, ◌⊎◌, ◌≤◌, ◌+◌, ℕ, true, IsTrue, List, [], ◌∷◌, length, IfSome, IsSomeAnd, IsOk, Ok}
+use Rattle.std.specs.Prelude.{◌≡◌, ◌≢◌, ◌⊎◌, ℕ, true, List, [], ◌∷◌, length, IfSome, IsSomeAnd, IsOk, Ok}
 use Rattle.cube_model.specs.declared.entry.Entry.{Entry}
 use Rattle.cube_model.specs.declared.outcome.Outcome.{Outcome}
 use Rattle.cube_model.specs.declared.policy.Policy.{Policy}
 use Rattle.cube_model.specs.Cores.{Core, world}
 use Rattle.cube_model.specs.Rooms.{Room, alone}
-use Rattle.cube_io.specs.Causes.{Rose, RoseBy}
-use Rattle.cube_io.specs.Desks.{faults_in}
+use Rattle.cube_io.specs.Causes.{Rose}
 use Rattle.cube_io.specs.Files.{file_of}
 use Rattle.cube_io.specs.Seen.{FolderState, SourceState, SinkState, StoreState, Seen, Unused}
 use Rattle.cube_facts.specs.Flat.{Flat}
@@ -22,8 +21,9 @@ use Rattle.cube_opening.specs.Opening.{flat_said, FileSays, EndsAt, GotBehind, H
 use Rattle.cube_opening.specs.Reports.{IsReport, IsDone}
 use Rattle.cube_opening.specs.declared.cube_files.CubeFiles.{CubeFiles}
 use Rattle.cube_opening.specs.declared.report.Report.{Report}
-use Rattle.cube_serving.specs.Starting.{EndsClosed, HasJournal, IsOpen, Survived, HeldIn}
-use Rattle.cube_app.specs.Ends.{AsksJournal}
+use Rattle.cube_serving.specs.OneCube.{EndsClosed, HasJournal, IsOpen}
+use Rattle.cube_serving.specs.Serving.{AreKept}
+use Rattle.cube_app.specs.Ends.{AsksOver}
 use Rattle.cube_app.specs.Texts.{status_of, ending_text}
 
 -- ---- sums over a flat file
@@ -74,12 +74,10 @@ pub record Asked {S I O : Type 0} (cube : CubeFiles) (files : FolderState) (stor
   pub last : List Entry
   pub opened : IsOpen cube files store core policy first
   pub talked : asking.Talked (manner core.dims) (alone (world core policy) first) talk input out
-  pub last_is : last ≡ first_history (rooms_behind (manner core.dims) (alone (world core policy) first) talked.first talk.outcomes)
-  pub hides : Hides core policy last (λ w. asking.Says talk.ending (manner core.dims) (alone w first) talk.stated talk.outcomes talked.text out.before.written out.after.written)
-  pub survived : IsTrue store.before.told → Survived core policy first last talk.outcomes store
-  pub held : IsTrue store.before.told → HeldIn 0 core policy (IsInLine core policy first talked.first talk.outcomes) store
-  pub failed : RoseBy (faults_in talk.outcomes) store.before.faults store.after.faults
-  pub fresh : FailedFresh (manner core.dims) (alone (world core policy) first) talked.first talk.outcomes
+  pub last_is : last ≡ first_history (rooms_behind (manner core.dims) (alone (world core policy) first) talked.took.first talk.outcomes)
+  pub hides : Hides core policy last (λ w. asking.Says talk.ending (manner core.dims) (alone w first) talk.stated talk.outcomes talked.took.text out.before.written out.after.written)
+  pub kept : AreKept core (record { name = []; policy = policy; first = first; last = last } ∷ []) talk.outcomes (λ k. IsInLine core policy first talked.took.first talk.outcomes) store
+  pub fresh : FailedFresh (manner core.dims) (alone (world core policy) first) talked.took.first talk.outcomes
 
 -- the report says how the talk ended
 pub record Reports (talk : Talk) (r : Report) : Type 0 where
@@ -100,9 +98,5 @@ AskCompletes cube files store input out r = HasAll cube files.before → HasJour
 
 -- All that `ask` does with these files and this journal.
 pub record AskRun {F S I O : Type 0} (cube : CubeFiles) (journal : List ℕ) (stated : ℕ) (files : Seen FolderState F) (store : Seen StoreState S) (input : Seen SourceState I) (out : Seen SinkState O) (r : Report) : Type 0 where
-  pub answers : AskEnds cube stated files store input out r
-  pub named : AsksJournal journal store r
-  pub few_calls : r.status ≡ 9 → IsTrue store.before.told → store.after.calls ≤ store.before.calls + 12
+  pub runs : AsksOver journal 12 store r (AskEnds cube stated files store input out r) (Unused input × Unused out × (r.outcomes ≡ [])) (AskCompletes cube files store input out r)
   pub ended : r.status ≡ 0 → input.after.ended ≡ true
-  pub memory : r.status ≡ 7 → Unused input × Unused out × (r.outcomes ≡ [])
-  pub complete : AskCompletes cube files store input out r

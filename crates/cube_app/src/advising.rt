@@ -9,18 +9,19 @@ ghost use Rattle.cube_model.specs.Policies.{IsPolicy};
 ghost use Rattle.cube_opening.specs.Causes.{HasCauses, of_command, of_listing, only_out};
 ghost use Rattle.cube_opening.specs.Opening.{FileSays, AskedFor, EndsAt, GotBehind, HasAll, IsSteady, Make, Reads};
 ghost use Rattle.cube_opening.specs.Reports.{IsReport};
-ghost use Rattle.cube_serving.specs.Starting.{AsksStore, OnlyJournal};
+ghost use Rattle.cube_serving.specs.Grouping.{OnlyFirst};
+ghost use Rattle.cube_serving.specs.Starting.{AsksStore};
 ghost use Rattle.cube_app.specs.Advising.{workload_said, WorkloadSays, named_with, EndsUnread, Puts, FirstEnds, LaterEnds, AdviseEnds, AsksIfNamed, HasWorkload, AdviseCompletes};
 
 use crate::run::print;
 use cube_advise::{is_workload, told_first, told_later};
-use cube_engine::Engine;
+use cube_engine::Book;
 use cube_io::{Folder, Sink, Store};
 use cube_model::{NoMemory, Text};
 use cube_opening::{
     CubeFiles, Guarded, Message, Opened, Report, open_guarded, read_bytes, statuses,
 };
-use cube_serving::open_engine;
+use cube_serving::open_book;
 use std::alloc::Global;
 
 // The files of a run: those of a cube, and the bytes of the workload, where one is named.
@@ -113,13 +114,13 @@ fn open_advisable<F: Folder>(
     }
 }
 
-// What is told behind the history of an engine.
-fn told_behind(alloc: Global, engine: &Engine, workload: &Option<Text>) -> Result<Text, NoMemory>
+// What is told behind the history of a book.
+fn told_behind(alloc: Global, book: &Book, workload: &Option<Text>) -> Result<Text, NoMemory>
     requires { HasFewLines workload.now }
-    ensures { IfOk result (λ text. text ≡ later_text engine.now.core engine.now.policy engine.now.history workload.now) }
+    ensures { IfOk result (λ text. text ≡ later_text book.now.core book.now.policy book.now.history workload.now) }
 {
-    let (core, policy) = (engine.core(), engine.policy());
-    told_later(alloc, core, policy, engine.state().history(), workload)
+    let (core, policy) = (book.core(), book.policy());
+    told_later(alloc, core, policy, book.state().history(), workload)
 }
 
 // Puts what is told.
@@ -187,7 +188,7 @@ fn advise_later<F: Folder, S: Store, O: Sink>(
     ensures names { (store.new ≡ store.old) ⊎ AsksStore journal.now (seen S.state store.old store.new) result }
     ensures causes { HasCauses (of_command (seen F.state files.old files.new) (seen S.state store.old store.new) (seen O.state out.old out.new)) result }
     ensures calls { IsTrue (S.state store.old).told → (S.state store.new).calls ≤ (S.state store.old).calls + 12 }
-    ensures others { OnlyJournal (S.state store.old) (S.state store.new) }
+    ensures others { OnlyFirst 1 (S.state store.old) (S.state store.new) }
     ensures complete { AdviseCompletes cube.now (Some journal.now) workload.now (seen F.state files.old files.new) (seen S.state store.old store.new) (seen O.state out.old out.new) result }
     ensures outcomes { result.outcomes ≡ [] }
 {
@@ -200,7 +201,7 @@ fn advise_later<F: Folder, S: Store, O: Sink>(
         workload: bytes,
     } = opened.value;
     let _rules = guarded.core.dims();
-    let started = match open_engine(alloc, opened.message, guarded, journal, 1, store) {
+    let started = match open_book(alloc, opened.message, guarded, journal, store) {
         Ok(started) => started,
         Err(report) => return report,
     };
@@ -225,7 +226,7 @@ pub fn advise<F: Folder, S: Store, O: Sink>(
     ensures names { AsksIfNamed journal.now (seen S.state store.old store.new) result }
     ensures causes { HasCauses (of_command (seen F.state files.old files.new) (seen S.state store.old store.new) (seen O.state out.old out.new)) result }
     ensures calls { IsTrue (S.state store.old).told → (S.state store.new).calls ≤ (S.state store.old).calls + 12 }
-    ensures others { OnlyJournal (S.state store.old) (S.state store.new) }
+    ensures others { OnlyFirst 1 (S.state store.old) (S.state store.new) }
     ensures complete { AdviseCompletes cube.now journal.now workload.now (seen F.state files.old files.new) (seen S.state store.old store.new) (seen O.state out.old out.new) result }
     ensures outcomes { result.outcomes ≡ [] }
 {

@@ -1,5 +1,5 @@
 // A history that is carried over from an older cube to one that continues it.
-ghost use Rattle.std.specs.Prelude.{◌≡◌, ◌≢◌, ◌⊎◌, ◌≤◌, ◌+◌, [], IsTrue, IfOk, IfErr};
+ghost use Rattle.std.specs.Prelude.{◌≡◌, ◌≢◌, ◌⊎◌, ◌≤◌, ◌+◌, [], None, IsTrue, IfOk, IfErr};
 ghost use Rattle.cube_model.specs.Entries.{requests};
 ghost use Rattle.cube_model.specs.Policies.{IsPolicy};
 ghost use Rattle.cube_io.specs.Seen.{seen};
@@ -16,17 +16,18 @@ ghost use Rattle.cube_journal.specs.SecondText.{journal2_text as second_text};
 ghost use Rattle.cube_opening.specs.Causes.{HasCauses, of_command, only_out};
 ghost use Rattle.cube_app.specs.declared.carrying.Uncarried.TheVariants as why;
 ghost use Rattle.cube_app.specs.Carrying.{Handing, Carries, IsUncarried, IsHanded, HandsSo, CarryEnds, CarryCompletes, carried_entries, handing_of};
-ghost use Rattle.cube_serving.specs.Starting.{AsksStore, OnlyJournal};
+ghost use Rattle.cube_serving.specs.Grouping.{OnlyFirst};
+ghost use Rattle.cube_serving.specs.Starting.{AsksStore};
 
 use crate::run::print;
 use cube_carrying::{Breach, Carried, Compared, Stop, breach_text, carry, compare, stop_text};
 use cube_core::Core;
-use cube_engine::Engine;
+use cube_engine::Book;
 use cube_io::{Folder, Sink, Store};
 use cube_journal::{digest_of, journal2_text, public_text};
 use cube_model::{Entry, History, NoMemory, Places, Policy, Text};
 use cube_opening::{CubeFiles, Message, Report, open_guarded, refuse_line, statuses};
-use cube_serving::open_engine;
+use cube_serving::open_book;
 use std::alloc::Global;
 
 /// Why nothing is carried over.
@@ -48,7 +49,7 @@ fn line_or_none(line: Result<Text, NoMemory>) -> Uncarried
 }
 
 // The line on what keeps a cube from continuing an older one.
-fn broken(alloc: Global, older: &Engine, core: &Core, policy: &Policy, breach: &Breach) -> Uncarried
+fn broken(alloc: Global, older: &Book, core: &Core, policy: &Policy, breach: &Breach) -> Uncarried
     requires first { IsComparedBy (named older.now.core older.now.policy) (named core.now policy.now) older.now.core.cube core.now.cube (compared.Differs breach.now) }
     ensures { IsUncarried (handing_of older.now core.now policy.now) result }
 {
@@ -57,7 +58,7 @@ fn broken(alloc: Global, older: &Engine, core: &Core, policy: &Policy, breach: &
 }
 
 // The line on what stops a history.
-fn stopped(alloc: Global, older: &Engine, core: &Core, policy: &Policy, stop: &Stop) -> Uncarried
+fn stopped(alloc: Global, older: &Book, core: &Core, policy: &Policy, stop: &Stop) -> Uncarried
     requires continues { Continues (named older.now.core older.now.policy) (named core.now policy.now) }
     requires values { KeepsValues (named older.now.core older.now.policy) (named core.now policy.now) older.now.core.cube core.now.cube }
     requires first { IsCarriedBy (named older.now.core older.now.policy) (named core.now policy.now) older.now.history (carried.Stopped stop.now) }
@@ -86,7 +87,7 @@ fn journal_of(
 // The journal of the new cube that holds the carried entries.
 fn written(
     alloc: Global,
-    older: &Engine,
+    older: &Book,
     core: &Core,
     policy: &Policy,
     entries: &History,
@@ -104,11 +105,12 @@ fn written(
 // What is carried over to a cube that continues an older one.
 fn continued(
     alloc: Global,
-    older: &Engine,
+    older: &Book,
     core: &Core,
     policy: &Policy,
     places: &Places,
 ) -> Result<Text, Uncarried>
+    requires none { older.now.waiting ≡ None }
     requires policy { IsPolicy core.now.dims policy.now }
     requires continues { Continues (named older.now.core older.now.policy) (named core.now policy.now) }
     requires values { KeepsValues (named older.now.core older.now.policy) (named core.now policy.now) older.now.core.cube core.now.cube }
@@ -130,11 +132,12 @@ fn continued(
 // The journal of a cube that holds what the history of an older one told.
 fn carried_over(
     alloc: Global,
-    older: &Engine,
+    older: &Book,
     core: &Core,
     policy: &Policy,
 ) -> Result<Text, Uncarried>
-    requires { IsPolicy core.now.dims policy.now }
+    requires none { older.now.waiting ≡ None }
+    requires policy { IsPolicy core.now.dims policy.now }
     ensures ok { IfOk result (Carries (handing_of older.now core.now policy.now)) }
     ensures err { IfErr result (IsUncarried (handing_of older.now core.now policy.now)) }
 {
@@ -186,7 +189,7 @@ pub fn carry_over<F: Folder, S: Store, O: Sink>(
     ensures names { (store.new ≡ store.old) ⊎ AsksStore journal.now (seen S.state store.old store.new) result }
     ensures causes { HasCauses (of_command (seen F.state files.old files.new) (seen S.state store.old store.new) (seen O.state out.old out.new)) result }
     ensures calls { IsTrue (S.state store.old).told → (S.state store.new).calls ≤ (S.state store.old).calls + 12 }
-    ensures others { OnlyJournal (S.state store.old) (S.state store.new) }
+    ensures others { OnlyFirst 1 (S.state store.old) (S.state store.new) }
     ensures complete { CarryCompletes cube.now older.now (seen F.state files.old files.new) (seen S.state store.old store.new) (seen O.state out.old out.new) result }
     ensures outcomes { result.outcomes ≡ [] }
 {
@@ -199,7 +202,7 @@ pub fn carry_over<F: Folder, S: Store, O: Sink>(
         Ok(guarded) => guarded,
         Err(report) => return report,
     };
-    let started = match open_engine(alloc, guarded.message, guarded.value, journal, 1, store) {
+    let started = match open_book(alloc, guarded.message, guarded.value, journal, store) {
         Ok(started) => started,
         Err(report) => return report,
     };

@@ -1,18 +1,19 @@
 // What is told of an open cube: the changes that hide a cell or the fact file that they make, or the history written down as what it
 // holds.
-ghost use Rattle.std.specs.Prelude.{◌≡◌, ◌≢◌, ◌⊎◌, ◌≤◌, ◌+◌, ◌++◌, ℕ, List, Result, [], IsTrue, IfOk, IfErr, IsOk, Ok, Err, codes};
+ghost use Rattle.std.specs.Prelude.{◌≡◌, ◌≢◌, ◌⊎◌, ◌≤◌, ◌+◌, ◌++◌, ℕ, List, Result, [], None, IsTrue, IfOk, IfErr, IsOk, Ok, Err, codes};
 ghost use Rattle.cube_io.specs.Seen.{seen};
 ghost use Rattle.cube_engine.specs.Changes.{Refuses};
 ghost use Rattle.cube_opening.specs.Causes.{HasCauses, of_command, only_out};
 ghost use Rattle.cube_app.specs.Cells.{Tells, TellEnds, TellCompletes, told_text, unless_too_long as unless_long};
-ghost use Rattle.cube_serving.specs.Starting.{AsksStore, OnlyJournal};
+ghost use Rattle.cube_serving.specs.Grouping.{OnlyFirst};
+ghost use Rattle.cube_serving.specs.Starting.{AsksStore};
 
 use crate::run::print;
-use cube_engine::{Engine, NoChanges};
+use cube_engine::{Book, NoChanges};
 use cube_io::{Folder, MAX_FILE, Sink, Store};
 use cube_model::Text;
 use cube_opening::{CubeFiles, Message, Report, open_guarded, refuse_line, statuses};
-use cube_serving::open_engine;
+use cube_serving::open_book;
 use std::alloc::Global;
 
 /// What is told of an open cube.
@@ -71,15 +72,16 @@ fn unless_too_long(alloc: Global, twin: Result<Text, NoChanges>) -> Result<Text,
     }
 }
 
-// What an engine tells at its end.
-fn told_of(alloc: Global, engine: Engine, telling: Telling, cell: &Text) -> Result<Text, NoChanges>
-    ensures ok { IfOk result (λ text. told_text telling engine.core engine.policy engine.history cell.now ≡ Ok text) }
-    ensures err { IfErr result (λ why. Refuses why (told_text telling engine.core engine.policy engine.history cell.now)) }
+// What a book tells of a cell.
+fn told_of(alloc: Global, book: &Book, telling: Telling, cell: &Text) -> Result<Text, NoChanges>
+    requires { book.now.waiting ≡ None }
+    ensures ok { IfOk result (λ text. told_text telling book.now.core book.now.policy book.now.history cell.now ≡ Ok text) }
+    ensures err { IfErr result (λ why. Refuses why (told_text telling book.now.core book.now.policy book.now.history cell.now)) }
 {
     match telling {
-        Telling::Changes => engine.changes_text(alloc, cell.as_slice()),
-        Telling::Twin => unless_too_long(alloc, engine.twin_text(alloc, cell.as_slice())),
-        Telling::Compacted => match engine.compacted_text(alloc) {
+        Telling::Changes => book.changes_text(alloc, cell.as_slice()),
+        Telling::Twin => unless_too_long(alloc, book.twin_text(alloc, cell.as_slice())),
+        Telling::Compacted => match book.compacted_text(alloc) {
             Ok(text) => Ok(text),
             Err(_) => Err(NoChanges::NoMemory),
         },
@@ -103,7 +105,7 @@ pub fn tell<F: Folder, S: Store, O: Sink>(
     ensures names { (store.new ≡ store.old) ⊎ AsksStore journal.now (seen S.state store.old store.new) result }
     ensures causes { HasCauses (of_command (seen F.state files.old files.new) (seen S.state store.old store.new) (seen O.state out.old out.new)) result }
     ensures calls { IsTrue (S.state store.old).told → (S.state store.new).calls ≤ (S.state store.old).calls + 12 }
-    ensures others { OnlyJournal (S.state store.old) (S.state store.new) }
+    ensures others { OnlyFirst 1 (S.state store.old) (S.state store.new) }
     ensures complete { TellCompletes telling cube.now cell.now (seen F.state files.old files.new) (seen S.state store.old store.new) (seen O.state out.old out.new) result }
     ensures outcomes { result.outcomes ≡ [] }
 {
@@ -112,10 +114,10 @@ pub fn tell<F: Folder, S: Store, O: Sink>(
         Err(report) => return report,
     };
     let _rules = opened.value.core.dims();
-    let started = match open_engine(alloc, opened.message, opened.value, journal, 1, store) {
+    let started = match open_book(alloc, opened.message, opened.value, journal, store) {
         Ok(started) => started,
         Err(report) => return report,
     };
-    let told = told_of(alloc, started.value, telling, cell);
+    let told = told_of(alloc, &started.value, telling, cell);
     put_told(alloc, started.message, told, out)
 }

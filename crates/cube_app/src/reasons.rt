@@ -1,5 +1,5 @@
 // Why a query is refused, and whether a text says so.
-ghost use Rattle.std.specs.Prelude.{◌≡◌, ◌≢◌, ◌⊎◌, ◌≤◌, ◌+◌, ◌↔◌, ◌++◌, ◌∷◌, ℕ, List, [], true, IsTrue, IfOk, IfErr, IfSome, OnOk, IsOk, Ok, codes};
+ghost use Rattle.std.specs.Prelude.{◌≡◌, ◌≢◌, ◌⊎◌, ◌≤◌, ◌+◌, ◌↔◌, ◌++◌, ◌∷◌, ℕ, List, [], None, true, IsTrue, IfOk, IfErr, IfSome, OnOk, IsOk, Ok, codes};
 ghost use Rattle.cube_model.specs.Cores as cores;
 ghost use Rattle.cube_model.specs.Cores.{shown};
 ghost use Rattle.cube_model.specs.Verdicts.{verdict as verdict_of};
@@ -10,10 +10,11 @@ ghost use Rattle.cube_reason.specs.Showing.{IsWhy, Shows};
 ghost use Rattle.cube_opening.specs.Causes.{HasCauses, of_command, only_out};
 ghost use Rattle.cube_opening.specs.Opening.{AskedFor, EndsAt, FileSays, Reads};
 ghost use Rattle.cube_app.specs.Reasons.{Accepts, IsWhyOf, IsWhetherOf, IsUnread, IsUnsaid, SaysSo, WhyEnds, WhyCompletes, WhetherEnds, WhetherCompletes, ReasonRun, accepted_text, reason_said};
-ghost use Rattle.cube_serving.specs.Starting.{AsksStore, OnlyJournal};
+ghost use Rattle.cube_serving.specs.Grouping.{OnlyFirst};
+ghost use Rattle.cube_serving.specs.Starting.{AsksStore};
 
 use crate::run::print;
-use cube_engine::Engine;
+use cube_engine::Book;
 use cube_io::{Folder, Sink, Store};
 use cube_model::{NoMemory, Request, Text};
 use cube_opening::{
@@ -21,7 +22,7 @@ use cube_opening::{
 };
 use cube_query::{RequestFault, read_request};
 use cube_reason::{accept_text, why_text};
-use cube_serving::open_engine;
+use cube_serving::open_book;
 use std::alloc::Global;
 
 /// Why nothing is said of a query.
@@ -43,44 +44,46 @@ fn unread(alloc: Global, fault: RequestFault) -> Unsaid
 }
 
 // The request that a query is.
-fn request_in(alloc: Global, engine: &Engine, query: &Text) -> Result<Request, Unsaid>
-    ensures ok { IfOk result (λ request. request_of engine.now.core.dims query.now ≡ Ok request) }
-    ensures valid { IfOk result (λ request. is_request engine.now.core.dims request ≡ true) }
-    ensures err { IfErr result (IsUnsaid engine.now.core query.now) }
+fn request_in(alloc: Global, book: &Book, query: &Text) -> Result<Request, Unsaid>
+    ensures ok { IfOk result (λ request. request_of book.now.core.dims query.now ≡ Ok request) }
+    ensures valid { IfOk result (λ request. is_request book.now.core.dims request ≡ true) }
+    ensures err { IfErr result (IsUnsaid book.now.core query.now) }
 {
-    match read_request(alloc, engine.core().dims(), query.as_slice()) {
+    match read_request(alloc, book.core().dims(), query.as_slice()) {
         Ok(request) => Ok(request),
         Err(RequestFault::NoMemory) => Err(Unsaid::NoMemory),
         Err(fault) => Err(unread(alloc, fault)),
     }
 }
 
-// Why a request is refused behind the history of an engine.
-fn why_refused(alloc: Global, engine: &mut Engine, request: &Request) -> Result<Text, NoMemory>
-    requires { is_request engine.old.core.dims request.now ≡ true }
-    ensures { IfOk result (λ text. IsWhy engine.old.core.dims (shown engine.old.core engine.old.policy) engine.old.history request.now (verdict_of (shown engine.old.core engine.old.policy) engine.old.history request.now) text) }
+// Why a request is refused behind the history of a book.
+fn why_refused(alloc: Global, book: &mut Book, request: &Request) -> Result<Text, NoMemory>
+    requires none { book.old.waiting ≡ None }
+    requires request { is_request book.old.core.dims request.now ≡ true }
+    ensures { IfOk result (λ text. IsWhy book.old.core.dims (shown book.old.core book.old.policy) book.old.history request.now (verdict_of (shown book.old.core book.old.policy) book.old.history request.now) text) }
 {
-    let verdict = engine.verdict(alloc, request)?;
-    let core = engine.core();
-    let policy = engine.policy();
-    let history = engine.state().history();
+    let verdict = book.verdict(alloc, request)?;
+    let core = book.core();
+    let policy = book.policy();
+    let history = book.state().history();
     why_text(alloc, core, policy, history, request, &verdict)
 }
 
 // Whether a text is the line of the refusal of a request and behind it the lines of a reason.
 fn is_reason(
     alloc: Global,
-    engine: &mut Engine,
+    book: &mut Book,
     request: &Request,
     text: &Text,
 ) -> Result<bool, NoMemory>
-    requires { is_request engine.old.core.dims request.now ≡ true }
-    ensures { IfOk result (λ taken. (taken ≡ true) ↔ Shows engine.old.core.dims (shown engine.old.core engine.old.policy) engine.old.history request.now (verdict_of (shown engine.old.core engine.old.policy) engine.old.history request.now) text.now) }
+    requires none { book.old.waiting ≡ None }
+    requires request { is_request book.old.core.dims request.now ≡ true }
+    ensures { IfOk result (λ taken. (taken ≡ true) ↔ Shows book.old.core.dims (shown book.old.core book.old.policy) book.old.history request.now (verdict_of (shown book.old.core book.old.policy) book.old.history request.now) text.now) }
 {
-    let verdict = engine.verdict(alloc, request)?;
-    let core = engine.core();
-    let policy = engine.policy();
-    let history = engine.state().history();
+    let verdict = book.verdict(alloc, request)?;
+    let core = book.core();
+    let policy = book.policy();
+    let history = book.state().history();
     accept_text(
         alloc,
         core,
@@ -93,16 +96,17 @@ fn is_reason(
 }
 
 // What is said of a query: why it is refused.
-fn why_of(alloc: Global, engine: Engine, query: &Text) -> Result<Text, Unsaid>
-    ensures ok { IfOk result (λ text. IsWhyOf engine.core engine.policy engine.history query.now (Ok text)) }
-    ensures err { IfErr result (IsUnsaid engine.core query.now) }
+fn why_of(alloc: Global, book: Book, query: &Text) -> Result<Text, Unsaid>
+    requires { book.waiting ≡ None }
+    ensures ok { IfOk result (λ text. IsWhyOf book.core book.policy book.history query.now (Ok text)) }
+    ensures err { IfErr result (IsUnsaid book.core query.now) }
 {
-    let mut engine = engine;
-    let request = match request_in(alloc, &engine, query) {
+    let mut book = book;
+    let request = match request_in(alloc, &book, query) {
         Ok(request) => request,
         Err(unsaid) => return Err(unsaid),
     };
-    match why_refused(alloc, &mut engine, &request) {
+    match why_refused(alloc, &mut book, &request) {
         Ok(text) => Ok(text),
         Err(_) => Err(Unsaid::NoMemory),
     }
@@ -122,28 +126,30 @@ fn accepted(alloc: Global, taken: bool) -> Result<Text, NoMemory>
 // The word for whether a text says why a request is refused.
 fn whether(
     alloc: Global,
-    engine: &mut Engine,
+    book: &mut Book,
     request: &Request,
     reason: &Text,
 ) -> Result<Text, NoMemory>
-    requires { is_request engine.old.core.dims request.now ≡ true }
-    ensures { IfOk result (λ text. Accepts engine.old.core engine.old.policy engine.old.history request.now reason.now text) }
+    requires none { book.old.waiting ≡ None }
+    requires request { is_request book.old.core.dims request.now ≡ true }
+    ensures { IfOk result (λ text. Accepts book.old.core book.old.policy book.old.history request.now reason.now text) }
 {
-    let taken = is_reason(alloc, engine, request, reason)?;
+    let taken = is_reason(alloc, book, request, reason)?;
     accepted(alloc, taken)
 }
 
 // What is said of a query and a text: whether the text says why it is refused.
-fn whether_of(alloc: Global, engine: Engine, query: &Text, reason: &Text) -> Result<Text, Unsaid>
-    ensures ok { IfOk result (λ text. IsWhetherOf engine.core engine.policy engine.history query.now reason.now (Ok text)) }
-    ensures err { IfErr result (IsUnsaid engine.core query.now) }
+fn whether_of(alloc: Global, book: Book, query: &Text, reason: &Text) -> Result<Text, Unsaid>
+    requires { book.waiting ≡ None }
+    ensures ok { IfOk result (λ text. IsWhetherOf book.core book.policy book.history query.now reason.now (Ok text)) }
+    ensures err { IfErr result (IsUnsaid book.core query.now) }
 {
-    let mut engine = engine;
-    let request = match request_in(alloc, &engine, query) {
+    let mut book = book;
+    let request = match request_in(alloc, &book, query) {
         Ok(request) => request,
         Err(unsaid) => return Err(unsaid),
     };
-    match whether(alloc, &mut engine, &request, reason) {
+    match whether(alloc, &mut book, &request, reason) {
         Ok(text) => Ok(text),
         Err(_) => Err(Unsaid::NoMemory),
     }
@@ -189,7 +195,7 @@ fn why<F: Folder, S: Store, O: Sink>(
     ensures names { (store.new ≡ store.old) ⊎ AsksStore journal.now (seen S.state store.old store.new) result }
     ensures causes { HasCauses (of_command (seen F.state files.old files.new) (seen S.state store.old store.new) (seen O.state out.old out.new)) result }
     ensures calls { IsTrue (S.state store.old).told → (S.state store.new).calls ≤ (S.state store.old).calls + 12 }
-    ensures others { OnlyJournal (S.state store.old) (S.state store.new) }
+    ensures others { OnlyFirst 1 (S.state store.old) (S.state store.new) }
     ensures complete { WhyCompletes cube.now query.now (seen F.state files.old files.new) (seen S.state store.old store.new) (seen O.state out.old out.new) result }
     ensures outcomes { result.outcomes ≡ [] }
 {
@@ -197,7 +203,7 @@ fn why<F: Folder, S: Store, O: Sink>(
         Ok(opened) => opened,
         Err(report) => return report,
     };
-    let started = match open_engine(alloc, opened.message, opened.value, journal, 1, store) {
+    let started = match open_book(alloc, opened.message, opened.value, journal, store) {
         Ok(started) => started,
         Err(report) => return report,
     };
@@ -241,7 +247,7 @@ fn check_reason<F: Folder, S: Store, O: Sink>(
     ensures names { (store.new ≡ store.old) ⊎ AsksStore journal.now (seen S.state store.old store.new) result }
     ensures causes { HasCauses (of_command (seen F.state files.old files.new) (seen S.state store.old store.new) (seen O.state out.old out.new)) result }
     ensures calls { IsTrue (S.state store.old).told → (S.state store.new).calls ≤ (S.state store.old).calls + 12 }
-    ensures others { OnlyJournal (S.state store.old) (S.state store.new) }
+    ensures others { OnlyFirst 1 (S.state store.old) (S.state store.new) }
     ensures complete { WhetherCompletes cube.now query.now reason.now (seen F.state files.old files.new) (seen S.state store.old store.new) (seen O.state out.old out.new) result }
     ensures outcomes { result.outcomes ≡ [] }
 {
@@ -254,7 +260,7 @@ fn check_reason<F: Folder, S: Store, O: Sink>(
         Ok(read) => read,
         Err(report) => return report,
     };
-    let started = match open_engine(alloc, read.message, guarded, journal, 1, store) {
+    let started = match open_book(alloc, read.message, guarded, journal, store) {
         Ok(started) => started,
         Err(report) => return report,
     };
@@ -278,7 +284,7 @@ pub fn say_why<F: Folder, S: Store, O: Sink>(
     requires { message ≡ [] }
     ensures run { ReasonRun cube.now journal.now query.now reason.now (seen F.state files.old files.new) (seen S.state store.old store.new) (seen O.state out.old out.new) result }
     ensures causes { HasCauses (of_command (seen F.state files.old files.new) (seen S.state store.old store.new) (seen O.state out.old out.new)) result }
-    ensures others { OnlyJournal (S.state store.old) (S.state store.new) }
+    ensures others { OnlyFirst 1 (S.state store.old) (S.state store.new) }
     ensures outcomes { result.outcomes ≡ [] }
 {
     match reason {

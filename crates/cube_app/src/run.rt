@@ -7,7 +7,8 @@ ghost use Rattle.cube_words.specs.Words.{orders_of as orders_in, Fits};
 ghost use Rattle.cube_opening.specs.Causes.{HasCauses, of_listing, of_talk, only_out};
 ghost use Rattle.cube_opening.specs.Reports.{IsReport, NoMessage, Prints};
 ghost use Rattle.cube_opening.specs.Opening.{HasAll};
-ghost use Rattle.cube_serving.specs.Starting.{AsksStore, OnlyJournal};
+ghost use Rattle.cube_serving.specs.Grouping.{OnlyFirst};
+ghost use Rattle.cube_serving.specs.Starting.{AsksStore};
 ghost use Rattle.cube_app.specs.Runs.{Obeyed, Runs};
 ghost use Rattle.cube_app.specs.Summary.{CheckEnds};
 ghost use Rattle.cube_app.specs.Talks.{SumEnds, SumCompletes, AskEnds, AskCompletes};
@@ -22,14 +23,13 @@ use crate::drafting::draft;
 use crate::making::show;
 use crate::reasons::say_why;
 use crate::summary::check_text;
-use cube_engine::Engine;
 use cube_io::{Folder, Sink, Source, Store, Wire};
 use cube_model::{NoMemory, Text};
 use cube_opening::{
     CubeFiles, Message, Report, no_message, open_flat, open_guarded, spent_message, statuses,
     with_text,
 };
-use cube_serving::{open_engine, replay_cube, serve_cube};
+use cube_serving::{Groups, open_alone, replay_cube, serve_cube};
 use cube_talk::{Carry, Ending, TalkEnd, converse_by_asks, converse_by_sums};
 use cube_words::{Command, Orders, Usage, help, orders_of};
 use std::alloc::Global;
@@ -187,14 +187,14 @@ fn check<F: Folder, O: Sink>(
     }
 }
 
-fn report_asks(message: Message, end: TalkEnd, engine: Engine) -> Report
+fn report_asks(message: Message, end: TalkEnd, groups: Groups) -> Report
     requires { message ≡ [] }
     ensures status { result.status ≡ status_in end.ending }
-    ensures text { result.text ≡ ending_text end.ending (length engine.outcomes) end.bytes }
-    ensures outcomes { result.outcomes ≡ engine.outcomes }
+    ensures text { result.text ≡ ending_text end.ending (length groups.outcomes) end.bytes }
+    ensures outcomes { result.outcomes ≡ groups.outcomes }
 {
-    let message = ending_message(message, end, engine.outcomes().len() as u64);
-    message.close_with(status_of(end.ending), engine.finish())
+    let message = ending_message(message, end, groups.outcomes().len() as u64);
+    message.close_with(status_of(end.ending), groups.finish())
 }
 
 // The answers of a cube to the lines of the input.
@@ -215,7 +215,7 @@ fn ask<F: Folder, S: Store, I: Source, O: Sink>(
     ensures names { (store.new ≡ store.old) ⊎ AsksStore journal.now (seen S.state store.old store.new) result }
     ensures causes { HasCauses (of_talk (seen F.state files.old files.new) (seen S.state store.old store.new) (seen I.state input.old input.new) (seen O.state out.old out.new)) result }
     ensures calls { result.status ≡ 9 → IsTrue (S.state store.old).told → (S.state store.new).calls ≤ (S.state store.old).calls + 12 }
-    ensures others { OnlyJournal (S.state store.old) (S.state store.new) }
+    ensures others { OnlyFirst 1 (S.state store.old) (S.state store.new) }
     ensures ended { result.status ≡ 0 → (I.state input.new).ended ≡ true }
     ensures memory { result.status ≡ 7 → (input.new ≡ input.old) × (out.new ≡ out.old) × (result.outcomes ≡ []) }
     ensures complete { AskCompletes cube.now (seen F.state files.old files.new) (seen S.state store.old store.new) (seen I.state input.old input.new) (seen O.state out.old out.new) result }
@@ -225,7 +225,7 @@ fn ask<F: Folder, S: Store, I: Source, O: Sink>(
         Err(report) => return report,
     };
     let _rules = opened.value.core.dims();
-    let started = match open_engine(alloc, opened.message, opened.value, journal, stated, store) {
+    let started = match open_alone(alloc, opened.message, opened.value, journal, stated, store) {
         Ok(started) => started,
         Err(report) => return report,
     };
@@ -235,8 +235,8 @@ fn ask<F: Folder, S: Store, I: Source, O: Sink>(
             .with(b"no memory\n")
             .close(alloc, statuses::NO_MEMORY);
     };
-    let (end, engine) = converse_by_asks(alloc, carry, started.value, store, input, out);
-    report_asks(started.message, end, engine)
+    let (end, groups) = converse_by_asks(alloc, carry, started.value, store, input, out);
+    report_asks(started.message, end, groups)
 }
 
 // Does what is ordered.

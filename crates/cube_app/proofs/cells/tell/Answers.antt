@@ -1,36 +1,33 @@
-use Rattle.std.proofs.Common.{inl, inr, refl, subst}
-use Rattle.cube_engine.specs.Engines.{Engine}
+use Rattle.std.proofs.Common.{inl, inr, refl, subst, sym}
 use Rattle.cube_io.specs.Seen.{seen}
 use Rattle.cube_opening.proofs.Accepted.{all_accepted}
 use Rattle.cube_opening.proofs.Ended.{unasked}
-use Rattle.cube_serving.proofs.Started.{opened}
 use Rattle.cube_app.specs.Cells.{Tells, KeepsIf, told_text}
+use Rattle.cube_app.proofs.Behind.{said_by}
 use Rattle.cube_app.proofs.Compacts.{keeps_if}
 use Rattle.cube_opening.proofs.Causes.{same, alone, never, wider, at_file, at_files}
-use Rattle.cube_serving.proofs.Causes.{at_journal}
+use Rattle.cube_serving.proofs.Causes.{at_journals}
+use Rattle.cube_serving.specs.OneCube.{under}
+use Rattle.cube_serving.proofs.Unstarted as unstarted
+use Rattle.cube_app.proofs.Handing.{done_by}
+use Rattle.cube_model.specs.declared.policy.Policy.{Policy}
+use Rattle.cube_model.specs.Cores.{Core}
+use Rattle.std.specs.Prelude.{IsOk}
 use Rattle.cube_app.proofs.cells.tell.Goals as goal
 
 pub returns-clause-answers : goal.returns-clause-answers
 returns-clause-answers g c =
     let guarded = c.in-Ok.opened.value in
-    let core = guarded.core in
-    let policy = guarded.policy in
-    let y = c.in-Ok-open_engine.ensures in
-    let engine = c.in-Ok-open_engine.started.value in
-    let text = λ (e : Engine). told_text c.args.telling e.core e.policy e.history c.args.cell.now in
+    let y = c.in-Ok-open_book.ensures in
+    let book = c.in-Ok-open_book.started.value in
+    let cell = c.args.cell.now in
+    let what = c.args.telling in
     let out = seen g.O.Sink.state c.args.out.now c.put_told.new.out in
-    let tells = c.put_told.ensures.tells (text engine) c.told_of-told.ensures.ok c.told_of-told.ensures.err in
+    let tells = c.put_told.ensures.tells (told_text what book.core book.policy book.history cell) c.told_of-told.ensures.ok c.told_of-told.ensures.err in
     inr (
-      record {
-        core = core;
-        policy = policy;
-        history = engine.history;
-        opened = opened c.args.cube.now (g.F.Folder.state c.args.files.now) g.S.Store.state c.args.store.now c.open_engine.new.store core policy engine 1 c.in-Ok.ensures.ok.1 y.engine y.rules y.history y.agreed y.sealed y.seals;
-        tells = subst (λ (e : Engine). Tells (text e) out c.put_told.result) y.engine tells;
-        keeps = subst (λ (e : Engine). KeepsIf c.args.telling e.core e.policy e.history) y.engine (keeps_if c.args.telling engine y.rules);
-        passed = y.crash;
-        exact = y.exact;
-      },
+      said_by c.args.cube.now (g.F.Folder.state c.args.files.now) guarded.core guarded.policy (seen g.S.Store.state c.args.store.now c.open_book.new.store) book
+          (λ core policy h. Tells (told_text what core policy h cell) out c.put_told.result × KeepsIf what core policy h)
+          c.in-Ok.ensures.ok.1 y.begun y.held y.passed (tells, keeps_if what book y.begun.started.rules),
       c.in-Ok.ensures.behind,
     )
 
@@ -40,24 +37,10 @@ returns-in-Err-clause-complete g c = λ all kept told files store out. inr (all_
 pub returns-in-Err-clause-answers : goal.returns-in-Err-clause-answers
 returns-in-Err-clause-answers g c = inl (inl (c.in-Err.ensures.err, refl), refl)
 
-pub returns-in-Err-open_engine-clause-answers : goal.returns-in-Err-open_engine-clause-answers
-returns-in-Err-open_engine-clause-answers g c =
+pub returns-in-Err-open_book-clause-answers : goal.returns-in-Err-open_book-clause-answers
+returns-in-Err-open_book-clause-answers g c =
     let guarded = c.in-Ok.opened.value in
-    inl (
-      inr (
-        record {
-          core = guarded.core;
-          policy = guarded.policy;
-          files_make = c.in-Ok.ensures.ok.1;
-          unstarted = c.in-Err-open_engine.ensures.err;
-          passed = c.in-Err-open_engine.ensures.crash;
-          seals = c.in-Err-open_engine.ensures.seals;
-          compared = c.in-Err-open_engine.ensures.compared;
-        },
-        c.in-Ok.ensures.behind,
-      ),
-      refl,
-    )
+    inl (inr (record { core = guarded.core; policy = guarded.policy; files_make = c.in-Ok.ensures.ok.1; ended = c.in-Err-open_book.ensures.err }, c.in-Ok.ensures.behind), refl)
 
 pub returns-in-Err-clause-outcomes : goal.returns-in-Err-clause-outcomes
 returns-in-Err-clause-outcomes g c = unasked c.args.cube.now (seen g.F.Folder.state c.args.files.now c.open_guarded.new.files) c.in-Err.report c.in-Err.ensures.err
@@ -65,8 +48,26 @@ returns-in-Err-clause-outcomes g c = unasked c.args.cube.now (seen g.F.Folder.st
 pub returns-in-Err-clause-causes : goal.returns-in-Err-clause-causes
 returns-in-Err-clause-causes g c = wider same (never _) same (alone refl) same (at_file (at_files c.args.cube.now (seen g.F.Folder.state c.args.files.now c.open_guarded.new.files) c.in-Err.report c.in-Err.ensures.err) c.in-Err.ensures.reads.steady_err)
 
-pub returns-in-Err-open_engine-clause-causes : goal.returns-in-Err-open_engine-clause-causes
-returns-in-Err-open_engine-clause-causes g c = wider (alone c.in-Ok.ensures.reads.steady) (λ e. e) same (alone refl) same (at_journal c.in-Ok.opened.value.core c.in-Ok.opened.value.policy (seen g.S.Store.state c.args.store.now c.open_engine.new.store) c.in-Err-open_engine.report c.in-Err-open_engine.ensures.err)
+pub returns-in-Err-open_book-clause-causes : goal.returns-in-Err-open_book-clause-causes
+returns-in-Err-open_book-clause-causes g c = wider (alone c.in-Ok.ensures.reads.steady) (λ e. e) same (alone refl) same (at_journals c.in-Ok.opened.value.core (under c.in-Ok.opened.value.policy) (seen g.S.Store.state c.args.store.now c.open_book.new.store) c.in-Err-open_book.report c.in-Err-open_book.ensures.err.unstarted)
 
 pub returns-clause-causes : goal.returns-clause-causes
 returns-clause-causes g c = wider (alone c.in-Ok.ensures.reads.steady) (never _) same same same c.put_told.ensures.causes
+
+pub returns-in-Err-open_book-clause-complete : goal.returns-in-Err-open_book-clause-complete
+returns-in-Err-open_book-clause-complete g c = λ all kept can files store out.
+    inr (unstarted.accepted c.in-Ok.opened.value.core (under c.in-Ok.opened.value.policy) (seen g.S.Store.state c.args.store.now c.open_book.new.store) c.in-Err-open_book.report kept.told (kept.accepted c.in-Ok.opened.value.core c.in-Ok.opened.value.policy c.in-Ok.ensures.ok.1) store c.in-Err-open_book.ensures.err.unstarted)
+
+pub returns-in-Err-open_book-clause-outcomes : goal.returns-in-Err-open_book-clause-outcomes
+returns-in-Err-open_book-clause-outcomes g c = unstarted.unasked c.in-Ok.opened.value.core (under c.in-Ok.opened.value.policy) (seen g.S.Store.state c.args.store.now c.open_book.new.store) c.in-Err-open_book.report c.in-Err-open_book.ensures.err.unstarted
+
+pub returns-clause-complete : goal.returns-clause-complete
+returns-clause-complete g c = λ all kept can files store out.
+    let guarded = c.in-Ok.opened.value in
+    let book = c.in-Ok-open_book.started.value in
+    let begun = c.in-Ok-open_book.ensures.begun.started in
+    let text = λ (core : Core) (policy : Policy). told_text c.args.telling core policy book.history c.args.cell.now in
+    let there = can guarded.core guarded.policy book.history c.in-Ok.ensures.ok.1 (begun.history kept.told) in
+    let is_there = subst (λ (core : Core). IsOk (text core book.policy)) (sym begun.core_is) (subst (λ (policy : Policy). IsOk (text guarded.core policy)) (sym begun.policy) there) in
+    let w = c.put_told.ensures in
+    done_by c.put_told.result.status w.status (w.accepted (text book.core book.policy) c.told_of-told.ensures.err is_there) (λ six. out (w.causes.output six))

@@ -1,16 +1,21 @@
-use Rattle.std.proofs.Common.{◌∷◌, ◌∙◌, ℕ, List, [], Option, Ok, inl, inr, refl, subst}
+use Rattle.std.proofs.Common.{◌∷◌, ◌∙◌, ℕ, List, [], Option, Ok, inl, inr, refl, subst, sym}
 use Rattle.std.specs.Prelude.{IfSome}
-use Rattle.cube_engine.specs.Engines.{Engine}
 use Rattle.cube_io.specs.Seen.{seen}
 use Rattle.cube_opening.specs.Opening.{FileSays, names_of}
 use Rattle.cube_opening.proofs.Accepted.{all_accepted}
 use Rattle.cube_opening.proofs.Behind.{asked_then, ends_behind}
 use Rattle.cube_opening.proofs.Ended.{unasked}
-use Rattle.cube_serving.proofs.Started.{opened}
-use Rattle.cube_app.specs.Reasons.{IsWhetherOf, SaysOne, reason_said}
+use Rattle.cube_app.specs.Reasons.{IsWhetherOf, SaysOfFile, reason_said}
+use Rattle.cube_app.proofs.Behind.{said_by}
 use Rattle.cube_app.proofs.Said.{says_by}
 use Rattle.cube_opening.proofs.Causes.{same, alone, later, never, wider, at_file, at_files, at_one}
-use Rattle.cube_serving.proofs.Causes.{at_journal}
+use Rattle.cube_serving.proofs.Causes.{at_journals}
+use Rattle.cube_serving.specs.OneCube.{under}
+use Rattle.cube_serving.proofs.Unstarted as unstarted
+use Rattle.cube_app.proofs.Handing.{done_by}
+use Rattle.cube_model.specs.Cores.{Core}
+use Rattle.cube_query.specs.Faults.{request_of}
+use Rattle.std.specs.Prelude.{IsOk}
 use Rattle.cube_app.proofs.reasons.check_reason.Goals as goal
 
 pub returns-in-Err-clause-answers : goal.returns-in-Err-clause-answers
@@ -36,22 +41,14 @@ returns-in-Err-open_reason-clause-answers g c =
       refl,
     )
 
-pub returns-in-Err-open_engine-clause-answers : goal.returns-in-Err-open_engine-clause-answers
-returns-in-Err-open_engine-clause-answers g c =
+pub returns-in-Err-open_book-clause-answers : goal.returns-in-Err-open_book-clause-answers
+returns-in-Err-open_book-clause-answers g c =
     let guarded = c.in-Ok.opened.value in
     let x = c.in-Ok.ensures in
     let z = c.in-Ok-open_reason.ensures in
     inr (inl (
       inr (
-        record {
-          core = guarded.core;
-          policy = guarded.policy;
-          files_make = x.ok.1;
-          unstarted = c.in-Err-open_engine.ensures.err;
-          passed = c.in-Err-open_engine.ensures.crash;
-          seals = c.in-Err-open_engine.ensures.seals;
-          compared = c.in-Err-open_engine.ensures.compared;
-        },
+        record { core = guarded.core; policy = guarded.policy; files_make = x.ok.1; ended = c.in-Err-open_book.ensures.err },
         record { asked = asked_then (names_of c.args.cube.now) (c.args.reason.now ∷ []) g.F.Folder.state c.args.files.now c.open_guarded.new.files c.open_reason.new.files x.behind.asked z.asks; steady = z.reads.steady ∙ x.behind.steady },
       ),
       refl,
@@ -60,27 +57,21 @@ returns-in-Err-open_engine-clause-answers g c =
 pub returns-clause-answers : goal.returns-clause-answers
 returns-clause-answers g c =
     let guarded = c.in-Ok.opened.value in
-    let core = guarded.core in
-    let policy = guarded.policy in
     let x = c.in-Ok.ensures in
     let z = c.in-Ok-open_reason.ensures in
-    let y = c.in-Ok-open_engine.ensures in
-    let engine = c.in-Ok-open_engine.started.value in
+    let y = c.in-Ok-open_book.ensures in
+    let book = c.in-Ok-open_book.started.value in
     let reason = c.in-Ok-open_reason.read.value in
+    let query = c.args.query.now in
+    let files = g.F.Folder.state c.args.files.now in
     let out = seen g.O.Sink.state c.args.out.now c.put_said.new.out in
     inr (inr (
-      record {
-        core = core;
-        policy = policy;
-        history = engine.history;
-        reason = reason;
-        said = subst (λ (fs : Option (List (List ℕ × List ℕ))). IfSome fs (λ known. FileSays reason_said c.args.reason.now known (Ok reason))) x.reads.files z.ok.1;
-        opened = opened c.args.cube.now (g.F.Folder.state c.args.files.now) g.S.Store.state c.args.store.now c.open_engine.new.store core policy engine 1 x.ok.1 y.engine y.rules y.history y.agreed y.sealed y.seals;
-        says = subst (λ (e : Engine). SaysOne (IsWhetherOf e.core e.policy e.history c.args.query.now reason) out c.put_said.result) y.engine
-            (says_by (IsWhetherOf engine.core engine.policy engine.history c.args.query.now reason) engine.core c.args.query.now c.whether_of-said.result out c.put_said.result (λ line is. is) c.whether_of-said.ensures.ok c.whether_of-said.ensures.err c.put_said.ensures.says);
-        passed = y.crash;
-        exact = y.exact;
-      },
+      said_by c.args.cube.now files guarded.core guarded.policy (seen g.S.Store.state c.args.store.now c.open_book.new.store) book
+          (SaysOfFile query c.args.reason.now files out c.put_said.result) x.ok.1 y.begun y.held y.passed (record {
+            reason = reason;
+            read = subst (λ (fs : Option (List (List ℕ × List ℕ))). IfSome fs (λ known. FileSays reason_said c.args.reason.now known (Ok reason))) x.reads.files z.ok.1;
+            says = says_by (IsWhetherOf book.core book.policy book.history query reason) book.core query c.whether_of-said.result out c.put_said.result (λ line is. is) c.whether_of-said.ensures.ok c.whether_of-said.ensures.err c.put_said.ensures.says;
+          }),
       record { asked = asked_then (names_of c.args.cube.now) (c.args.reason.now ∷ []) g.F.Folder.state c.args.files.now c.open_guarded.new.files c.open_reason.new.files x.behind.asked z.asks; steady = z.reads.steady ∙ x.behind.steady },
     ))
 
@@ -90,8 +81,24 @@ returns-in-Err-clause-causes g c = wider same (never _) same (alone refl) same (
 pub returns-in-Err-open_reason-clause-causes : goal.returns-in-Err-open_reason-clause-causes
 returns-in-Err-open_reason-clause-causes g c = wider (later c.in-Ok.ensures.reads.steady refl) (never _) same (alone refl) same (at_file (at_one reason_said c.args.reason.now (seen g.F.Folder.state c.open_guarded.new.files c.open_reason.new.files) _ c.in-Err-open_reason.ensures.err.unopened) c.in-Err-open_reason.ensures.reads.steady_err)
 
-pub returns-in-Err-open_engine-clause-causes : goal.returns-in-Err-open_engine-clause-causes
-returns-in-Err-open_engine-clause-causes g c = wider (alone (c.in-Ok-open_reason.ensures.reads.steady ∙ c.in-Ok.ensures.reads.steady)) (λ e. e) same (alone refl) same (at_journal c.in-Ok.opened.value.core c.in-Ok.opened.value.policy (seen g.S.Store.state c.args.store.now c.open_engine.new.store) c.in-Err-open_engine.report c.in-Err-open_engine.ensures.err)
+pub returns-in-Err-open_book-clause-causes : goal.returns-in-Err-open_book-clause-causes
+returns-in-Err-open_book-clause-causes g c = wider (alone (c.in-Ok-open_reason.ensures.reads.steady ∙ c.in-Ok.ensures.reads.steady)) (λ e. e) same (alone refl) same (at_journals c.in-Ok.opened.value.core (under c.in-Ok.opened.value.policy) (seen g.S.Store.state c.args.store.now c.open_book.new.store) c.in-Err-open_book.report c.in-Err-open_book.ensures.err.unstarted)
 
 pub returns-clause-causes : goal.returns-clause-causes
 returns-clause-causes g c = wider (alone (c.in-Ok-open_reason.ensures.reads.steady ∙ c.in-Ok.ensures.reads.steady)) (never _) same same same c.put_said.ensures.causes
+
+pub returns-in-Err-open_book-clause-complete : goal.returns-in-Err-open_book-clause-complete
+returns-in-Err-open_book-clause-complete g c = λ all has kept asked files store out.
+    inr (unstarted.accepted c.in-Ok.opened.value.core (under c.in-Ok.opened.value.policy) (seen g.S.Store.state c.args.store.now c.open_book.new.store) c.in-Err-open_book.report kept.told (kept.accepted c.in-Ok.opened.value.core c.in-Ok.opened.value.policy c.in-Ok.ensures.ok.1) store c.in-Err-open_book.ensures.err.unstarted)
+
+pub returns-in-Err-open_book-clause-outcomes : goal.returns-in-Err-open_book-clause-outcomes
+returns-in-Err-open_book-clause-outcomes g c = unstarted.unasked c.in-Ok.opened.value.core (under c.in-Ok.opened.value.policy) (seen g.S.Store.state c.args.store.now c.open_book.new.store) c.in-Err-open_book.report c.in-Err-open_book.ensures.err.unstarted
+
+pub returns-clause-complete : goal.returns-clause-complete
+returns-clause-complete g c = λ all has kept asked files store out.
+    let guarded = c.in-Ok.opened.value in
+    let begun = c.in-Ok-open_book.ensures.begun.started in
+    let query = c.args.query.now in
+    let is_there = subst (λ (core : Core). IsOk (request_of core.dims query)) (sym begun.core_is) (asked guarded.core guarded.policy c.in-Ok.ensures.ok.1) in
+    let w = c.put_said.ensures in
+    done_by c.put_said.result.status w.status (w.accepted c.in-Ok-open_book.started.value.core query c.whether_of-said.ensures.err is_there) (λ six. out (w.causes.output six))

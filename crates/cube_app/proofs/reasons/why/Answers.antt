@@ -1,34 +1,31 @@
-use Rattle.std.proofs.Common.{inl, inr, refl, subst}
-use Rattle.cube_engine.specs.Engines.{Engine}
+use Rattle.std.proofs.Common.{inl, inr, refl, subst, sym}
 use Rattle.cube_io.specs.Seen.{seen}
 use Rattle.cube_opening.proofs.Accepted.{all_accepted}
 use Rattle.cube_opening.proofs.Ended.{unasked}
-use Rattle.cube_serving.proofs.Started.{opened}
 use Rattle.cube_app.specs.Reasons.{IsWhyOf, SaysOne}
+use Rattle.cube_app.proofs.Behind.{said_by}
 use Rattle.cube_app.proofs.Said.{says_by}
 use Rattle.cube_opening.proofs.Causes.{same, alone, never, wider, at_file, at_files}
-use Rattle.cube_serving.proofs.Causes.{at_journal}
+use Rattle.cube_serving.proofs.Causes.{at_journals}
+use Rattle.cube_serving.specs.OneCube.{under}
+use Rattle.cube_serving.proofs.Unstarted as unstarted
+use Rattle.cube_app.proofs.Handing.{done_by}
+use Rattle.cube_model.specs.Cores.{Core}
+use Rattle.cube_query.specs.Faults.{request_of}
+use Rattle.std.specs.Prelude.{IsOk}
 use Rattle.cube_app.proofs.reasons.why.Goals as goal
 
 pub returns-clause-answers : goal.returns-clause-answers
 returns-clause-answers g c =
     let guarded = c.in-Ok.opened.value in
-    let core = guarded.core in
-    let policy = guarded.policy in
-    let y = c.in-Ok-open_engine.ensures in
-    let engine = c.in-Ok-open_engine.started.value in
+    let y = c.in-Ok-open_book.ensures in
+    let book = c.in-Ok-open_book.started.value in
+    let query = c.args.query.now in
     let out = seen g.O.Sink.state c.args.out.now c.put_said.new.out in
     inr (
-      record {
-        core = core;
-        policy = policy;
-        history = engine.history;
-        opened = opened c.args.cube.now (g.F.Folder.state c.args.files.now) g.S.Store.state c.args.store.now c.open_engine.new.store core policy engine 1 c.in-Ok.ensures.ok.1 y.engine y.rules y.history y.agreed y.sealed y.seals;
-        says = subst (λ (e : Engine). SaysOne (IsWhyOf e.core e.policy e.history c.args.query.now) out c.put_said.result) y.engine
-            (says_by (IsWhyOf engine.core engine.policy engine.history c.args.query.now) engine.core c.args.query.now c.why_of-said.result out c.put_said.result (λ line is. is) c.why_of-said.ensures.ok c.why_of-said.ensures.err c.put_said.ensures.says);
-        passed = y.crash;
-        exact = y.exact;
-      },
+      said_by c.args.cube.now (g.F.Folder.state c.args.files.now) guarded.core guarded.policy (seen g.S.Store.state c.args.store.now c.open_book.new.store) book
+          (λ core policy h. SaysOne (IsWhyOf core policy h query) out c.put_said.result) c.in-Ok.ensures.ok.1 y.begun y.held y.passed
+          (says_by (IsWhyOf book.core book.policy book.history query) book.core query c.why_of-said.result out c.put_said.result (λ line is. is) c.why_of-said.ensures.ok c.why_of-said.ensures.err c.put_said.ensures.says),
       c.in-Ok.ensures.behind,
     )
 
@@ -38,24 +35,10 @@ returns-in-Err-clause-complete g c = λ all kept asked files store out. inr (all
 pub returns-in-Err-clause-answers : goal.returns-in-Err-clause-answers
 returns-in-Err-clause-answers g c = inl (inl (c.in-Err.ensures.err, refl), refl)
 
-pub returns-in-Err-open_engine-clause-answers : goal.returns-in-Err-open_engine-clause-answers
-returns-in-Err-open_engine-clause-answers g c =
+pub returns-in-Err-open_book-clause-answers : goal.returns-in-Err-open_book-clause-answers
+returns-in-Err-open_book-clause-answers g c =
     let guarded = c.in-Ok.opened.value in
-    inl (
-      inr (
-        record {
-          core = guarded.core;
-          policy = guarded.policy;
-          files_make = c.in-Ok.ensures.ok.1;
-          unstarted = c.in-Err-open_engine.ensures.err;
-          passed = c.in-Err-open_engine.ensures.crash;
-          seals = c.in-Err-open_engine.ensures.seals;
-          compared = c.in-Err-open_engine.ensures.compared;
-        },
-        c.in-Ok.ensures.behind,
-      ),
-      refl,
-    )
+    inl (inr (record { core = guarded.core; policy = guarded.policy; files_make = c.in-Ok.ensures.ok.1; ended = c.in-Err-open_book.ensures.err }, c.in-Ok.ensures.behind), refl)
 
 pub returns-in-Err-clause-outcomes : goal.returns-in-Err-clause-outcomes
 returns-in-Err-clause-outcomes g c = unasked c.args.cube.now (seen g.F.Folder.state c.args.files.now c.open_guarded.new.files) c.in-Err.report c.in-Err.ensures.err
@@ -63,8 +46,24 @@ returns-in-Err-clause-outcomes g c = unasked c.args.cube.now (seen g.F.Folder.st
 pub returns-in-Err-clause-causes : goal.returns-in-Err-clause-causes
 returns-in-Err-clause-causes g c = wider same (never _) same (alone refl) same (at_file (at_files c.args.cube.now (seen g.F.Folder.state c.args.files.now c.open_guarded.new.files) c.in-Err.report c.in-Err.ensures.err) c.in-Err.ensures.reads.steady_err)
 
-pub returns-in-Err-open_engine-clause-causes : goal.returns-in-Err-open_engine-clause-causes
-returns-in-Err-open_engine-clause-causes g c = wider (alone c.in-Ok.ensures.reads.steady) (λ e. e) same (alone refl) same (at_journal c.in-Ok.opened.value.core c.in-Ok.opened.value.policy (seen g.S.Store.state c.args.store.now c.open_engine.new.store) c.in-Err-open_engine.report c.in-Err-open_engine.ensures.err)
+pub returns-in-Err-open_book-clause-causes : goal.returns-in-Err-open_book-clause-causes
+returns-in-Err-open_book-clause-causes g c = wider (alone c.in-Ok.ensures.reads.steady) (λ e. e) same (alone refl) same (at_journals c.in-Ok.opened.value.core (under c.in-Ok.opened.value.policy) (seen g.S.Store.state c.args.store.now c.open_book.new.store) c.in-Err-open_book.report c.in-Err-open_book.ensures.err.unstarted)
 
 pub returns-clause-causes : goal.returns-clause-causes
 returns-clause-causes g c = wider (alone c.in-Ok.ensures.reads.steady) (never _) same same same c.put_said.ensures.causes
+
+pub returns-in-Err-open_book-clause-complete : goal.returns-in-Err-open_book-clause-complete
+returns-in-Err-open_book-clause-complete g c = λ all kept asked files store out.
+    inr (unstarted.accepted c.in-Ok.opened.value.core (under c.in-Ok.opened.value.policy) (seen g.S.Store.state c.args.store.now c.open_book.new.store) c.in-Err-open_book.report kept.told (kept.accepted c.in-Ok.opened.value.core c.in-Ok.opened.value.policy c.in-Ok.ensures.ok.1) store c.in-Err-open_book.ensures.err.unstarted)
+
+pub returns-in-Err-open_book-clause-outcomes : goal.returns-in-Err-open_book-clause-outcomes
+returns-in-Err-open_book-clause-outcomes g c = unstarted.unasked c.in-Ok.opened.value.core (under c.in-Ok.opened.value.policy) (seen g.S.Store.state c.args.store.now c.open_book.new.store) c.in-Err-open_book.report c.in-Err-open_book.ensures.err.unstarted
+
+pub returns-clause-complete : goal.returns-clause-complete
+returns-clause-complete g c = λ all kept asked files store out.
+    let guarded = c.in-Ok.opened.value in
+    let begun = c.in-Ok-open_book.ensures.begun.started in
+    let query = c.args.query.now in
+    let is_there = subst (λ (core : Core). IsOk (request_of core.dims query)) (sym begun.core_is) (asked guarded.core guarded.policy c.in-Ok.ensures.ok.1) in
+    let w = c.put_said.ensures in
+    done_by c.put_said.result.status w.status (w.accepted c.in-Ok-open_book.started.value.core query c.why_of-said.ensures.err is_there) (λ six. out (w.causes.output six))

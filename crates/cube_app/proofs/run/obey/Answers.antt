@@ -4,7 +4,7 @@ use Rattle.cube_opening.proofs.Causes.{same, alone, never, wider}
 use Rattle.cube_app.specs.Cells.{TellRun}
 use Rattle.cube_app.specs.declared.cells.Telling.TheVariants as telling
 use Rattle.cube_words.specs.declared.ordered.Orders.TheVariants as orders
-use Rattle.cube_app.proofs.Ordered.{obeyed_as, only_first}
+use Rattle.cube_app.proofs.Ordered.{obeyed_as}
 use Rattle.cube_app.proofs.run.obey.Goals as goal
 
 pub returns-in-Help : goal.returns-in-Help
@@ -61,10 +61,10 @@ pub returns-in-Ask : goal.returns-in-Ask
 returns-in-Ask g c =
     let x = c.ask.ensures in
     obeyed_as c.args.orders (orders.Ask c.in-Ask.cube c.in-Ask.journal c.in-Ask.stated) c.in-Ask.is (record {
-      does = record { answers = x.answers; named = x.names; few_calls = x.calls; ended = x.ended; memory = x.memory; complete = x.complete };
+      does = record { runs = record { answers = x.answers; named = x.names; few_calls = x.calls; memory = x.memory; complete = x.complete }; ended = x.ended };
       leaves = refl;
       causes = wider same (λ e. e) same same (alone refl) x.causes;
-      others = only_first (g.S.Store.state c.args.store.now) (g.S.Store.state c.ask.new.store) x.others;
+      others = x.others;
     })
 
 pub returns-in-Witness : goal.returns-in-Witness
@@ -74,7 +74,7 @@ returns-in-Witness g c =
       does = record { answers = x.answers; named = x.names; few_calls = x.calls; complete = x.complete };
       leaves = (refl, refl, x.outcomes);
       causes = wider same (λ e. e) (alone refl) same (alone refl) x.causes;
-      others = only_first (g.S.Store.state c.args.store.now) (g.S.Store.state c.tell.new.store) x.others;
+      others = x.others;
     })
 
 pub returns-in-Twin : goal.returns-in-Twin
@@ -84,7 +84,7 @@ returns-in-Twin g c =
       does = record { answers = x.answers; named = x.names; few_calls = x.calls; complete = x.complete };
       leaves = (refl, refl, x.outcomes);
       causes = wider same (λ e. e) (alone refl) same (alone refl) x.causes;
-      others = only_first (g.S.Store.state c.args.store.now) (g.S.Store.state c.tell-in-Twin.new.store) x.others;
+      others = x.others;
     })
 
 pub returns-in-Compact : goal.returns-in-Compact
@@ -95,17 +95,17 @@ returns-in-Compact g c =
           c.new-no_cell.ensures (record { answers = x.answers; named = x.names; few_calls = x.calls; complete = x.complete });
       leaves = (refl, refl, x.outcomes);
       causes = wider same (λ e. e) (alone refl) same (alone refl) x.causes;
-      others = only_first (g.S.Store.state c.args.store.now) (g.S.Store.state c.tell-in-Compact.new.store) x.others;
+      others = x.others;
     })
 
 pub returns-in-Carry : goal.returns-in-Carry
 returns-in-Carry g c =
     let x = c.carry_over.ensures in
     obeyed_as c.args.orders (orders.Carry c.in-Carry.cube c.in-Carry.older c.in-Carry.journal c.in-Carry._out) c.in-Carry.is (record {
-      does = record { answers = x.answers; named_journal = x.names; few_calls = x.calls; complete = x.complete };
+      does = record { answers = x.answers; named = x.names; few_calls = x.calls; complete = x.complete };
       leaves = (refl, refl, x.outcomes);
       causes = wider same (λ e. e) (alone refl) same (alone refl) x.causes;
-      others = only_first (g.S.Store.state c.args.store.now) (g.S.Store.state c.carry_over.new.store) x.others;
+      others = x.others;
     })
 
 pub returns-in-Why : goal.returns-in-Why
@@ -115,7 +115,7 @@ returns-in-Why g c =
       does = x.run;
       leaves = (refl, refl, x.outcomes);
       causes = wider same (λ e. e) (alone refl) same (alone refl) x.causes;
-      others = only_first (g.S.Store.state c.args.store.now) (g.S.Store.state c.say_why.new.store) x.others;
+      others = x.others;
     })
 
 pub returns-in-Audit : goal.returns-in-Audit
@@ -135,14 +135,14 @@ returns-in-Advise g c =
       does = record { answers = x.answers; named = x.names; few_calls = x.calls; complete = x.complete };
       leaves = (refl, refl, x.outcomes);
       causes = wider same (λ e. e) (alone refl) same (alone refl) x.causes;
-      others = only_first (g.S.Store.state c.args.store.now) (g.S.Store.state c.advise.new.store) x.others;
+      others = x.others;
     })
 
 pub returns-in-Serve : goal.returns-in-Serve
 returns-in-Serve g c =
     let x = c.serve_cube.ensures in
     obeyed_as c.args.orders (orders.Serve c.in-Serve.cube c.in-Serve.journal c.in-Serve.address c.in-Serve.stated c.in-Serve.idle) c.in-Serve.is (record {
-      does = record { answers = x.answers; named = x.names; few_calls = x.calls; listened = x.heard; memory = x.memory; complete = x.complete };
+      does = record { runs = record { answers = x.answers; named = x.names; few_calls = x.calls; memory = x.memory; complete = x.complete }; listened = x.heard };
       leaves = (refl, refl);
       causes = wider same (λ e. e) (alone refl) (alone refl) same x.causes;
       others = x.others;
