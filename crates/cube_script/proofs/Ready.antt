@@ -163,7 +163,13 @@ ready_next script k e roll' r well at log entries bytes =
     record {
       events = ap events_in log ∙ events_heard k.roll.log e ∙ ap (λ (l : List Arrival). l ++ e ∷ []) r.events ∙ sym (take_next script k.taken e at);
       few = omega (arith, within);
-      ends = r.ends;
+      fails = record {
+        ends = r.fails.ends;
+        nothing = ap (list_all is_settled) log ∙ settled_more k.roll.log (Heard e) refl r.fails.nothing;
+        cause = none_overran k.overrun k.most roll'.log (r.torn ∙ sym stays) well;
+        sound = λ none. r.fails.sound (sym stays ∙ none);
+        broken = λ some. r.fails.broken (sym stays ∙ some);
+      };
       playable = r.playable;
       enough = rw log (omega (arith, owes, r.enough));
       entries = omega (arith, n, r.entries, entries);
@@ -171,11 +177,7 @@ ready_next script k e roll' r well at log entries bytes =
       bytes = omega (arith, b, r.bytes, bytes);
       sends = rw (log, count) (omega (arith, r.sends));
       sent = rw (log, size) (omega (arith, r.sent));
-      nothing = ap (list_all is_settled) log ∙ settled_more k.roll.log (Heard e) refl r.nothing;
       torn = r.torn ∙ sym stays;
-      cause = none_overran k.overrun k.most roll'.log (r.torn ∙ sym stays) well;
-      sound = λ none. r.sound (sym stays ∙ none);
-      broken = λ some. r.broken (sym stays ∙ some);
       steady = λ none dry more. r.steady (sym stays ∙ none) dry within;
     }
 
@@ -191,7 +193,13 @@ ready_sent script k c piece roll' r well some fits log entries bytes =
     record {
       events = ap events_in log ∙ events_sent k.roll.log c piece ∙ r.events;
       few = r.few;
-      ends = r.ends;
+      fails = record {
+        ends = r.fails.ends;
+        nothing = ap (list_all is_settled) log ∙ settled_more k.roll.log (Sent c piece) refl r.fails.nothing;
+        cause = none_overran k.overrun k.most roll'.log (r.torn ∙ sym stays) well;
+        sound = λ none. r.fails.sound (sym stays ∙ none);
+        broken = λ broke. r.fails.broken (sym stays ∙ broke);
+      };
       playable = r.playable;
       enough = rw log (omega (arith, owes, r.enough));
       entries = omega (arith, r.entries, entries, some);
@@ -199,11 +207,7 @@ ready_sent script k c piece roll' r well some fits log entries bytes =
       bytes = omega (arith, r.bytes, bytes, fits);
       sends = rw (log, count) (omega (arith, r.sends, some));
       sent = rw (log, size) (omega (arith, r.sent, fits));
-      nothing = ap (list_all is_settled) log ∙ settled_more k.roll.log (Sent c piece) refl r.nothing;
       torn = r.torn ∙ sym stays;
-      cause = none_overran k.overrun k.most roll'.log (r.torn ∙ sym stays) well;
-      sound = λ none. r.sound (sym stays ∙ none);
-      broken = λ broke. r.broken (sym stays ∙ broke);
       steady = λ none dry more. r.steady (sym stays ∙ none) dry more;
     }
 
@@ -225,7 +229,13 @@ ready_torn script k c len sf' roll' r sound fails rose log entries bytes =
     record {
       events = ap events_in log ∙ events_torn k.roll.log c [] len ∙ r.events;
       few = r.few;
-      ends = r.ends;
+      fails = record {
+        ends = r.fails.ends;
+        nothing = ap (list_all is_settled) log ∙ settled_more k.roll.log (Torn c [] len) refl r.fails.nothing;
+        cause = λ _. torn_overran k.overrun k.most k.roll.log roll'.log c len r.torn r.fails.cause fails log;
+        sound = λ none. absurd (no_way (sym now ∙ none));
+        broken = λ broke. rose;
+      };
       playable = r.playable;
       enough = rw log (omega (arith, pays, r.enough));
       entries = omega (arith, r.entries, entries, pays, r.enough);
@@ -233,11 +243,7 @@ ready_torn script k c len sf' roll' r sound fails rose log entries bytes =
       bytes = omega (arith, r.bytes, bytes);
       sends = rw (log, count) (omega (arith, r.sends));
       sent = rw (log, size) (omega (arith, r.sent));
-      nothing = ap (list_all is_settled) log ∙ settled_more k.roll.log (Torn c [] len) refl r.nothing;
       torn = sym now;
-      cause = λ _. torn_overran k.overrun k.most k.roll.log roll'.log c len r.torn r.cause fails log;
-      sound = λ none. absurd (no_way (sym now ∙ none));
-      broken = λ broke. rose;
       steady = λ none dry more. absurd (no_way (sym now ∙ none));
     }
 
@@ -259,7 +265,13 @@ ready_shut script k c roll' r opens log entries bytes =
     record {
       events = ap events_in log ∙ events_shut k.roll.log c ∙ r.events;
       few = r.few;
-      ends = r.ends;
+      fails = record {
+        ends = r.fails.ends;
+        nothing = ap (list_all is_settled) log ∙ settled_more k.roll.log (Shut c) refl r.fails.nothing;
+        cause = λ some. still_overran k.most k.roll.log roll'.log (Shut c) log refl refl (r.fails.cause (sym stays ∙ some));
+        sound = λ none. r.fails.sound (sym stays ∙ none);
+        broken = λ broke. r.fails.broken (sym stays ∙ broke);
+      };
       playable = r.playable;
       enough = rw log (omega (arith, pays, r.enough));
       entries = omega (arith, r.entries, entries, pays, r.enough);
@@ -267,11 +279,7 @@ ready_shut script k c roll' r opens log entries bytes =
       bytes = omega (arith, r.bytes, bytes);
       sends = rw (log, count) (omega (arith, r.sends));
       sent = rw (log, size) (omega (arith, r.sent));
-      nothing = ap (list_all is_settled) log ∙ settled_more k.roll.log (Shut c) refl r.nothing;
       torn = r.torn ∙ sym stays;
-      cause = λ some. still_overran k.most k.roll.log roll'.log (Shut c) log refl refl (r.cause (sym stays ∙ some));
-      sound = λ none. r.sound (sym stays ∙ none);
-      broken = λ broke. r.broken (sym stays ∙ broke);
       steady = λ none dry more. r.steady (sym stays ∙ none) dry more;
     }
 
@@ -282,7 +290,13 @@ pub ready_fails : (script : List Arrival) (k : Kept) (f' : ℕ)
 ready_fails script k f' r never = record {
   events = r.events;
   few = r.few;
-  ends = r.ends;
+  fails = record {
+    ends = r.fails.ends;
+    nothing = r.fails.nothing;
+    cause = r.fails.cause;
+    sound = r.fails.sound;
+    broken = r.fails.broken;
+  };
   playable = r.playable;
   enough = r.enough;
   entries = r.entries;
@@ -290,11 +304,7 @@ ready_fails script k f' r never = record {
   bytes = r.bytes;
   sends = r.sends;
   sent = r.sent;
-  nothing = r.nothing;
   torn = r.torn;
-  cause = r.cause;
-  sound = r.sound;
-  broken = r.broken;
   steady = λ none dry more. absurd (never (r.torn ∙ none) more);
 }
 
@@ -304,7 +314,13 @@ pub ready_spills : (script : List Arrival) (k : Kept) (f' : ℕ)
 ready_spills script k f' r = record {
   events = r.events;
   few = r.few;
-  ends = r.ends;
+  fails = record {
+    ends = r.fails.ends;
+    nothing = r.fails.nothing;
+    cause = r.fails.cause;
+    sound = r.fails.sound;
+    broken = r.fails.broken;
+  };
   playable = r.playable;
   enough = r.enough;
   entries = r.entries;
@@ -312,11 +328,7 @@ ready_spills script k f' r = record {
   bytes = r.bytes;
   sends = r.sends;
   sent = r.sent;
-  nothing = r.nothing;
   torn = r.torn;
-  cause = r.cause;
-  sound = r.sound;
-  broken = r.broken;
   steady = λ none dry more. absurd (no_way dry);
 }
 
@@ -353,14 +365,16 @@ pub playing : (script : List Arrival) (k : Kept) (heard : List (List ℕ))
 playing script k heard r =
     let is = taken_is script k r in
     record {
-      ends = r.ends;
-      nothing = r.nothing;
-      cause = r.cause;
+      fails = record {
+        ends = r.fails.ends;
+        nothing = r.fails.nothing;
+        cause = r.fails.cause;
+        sound = r.fails.sound;
+        broken = r.fails.broken;
+      };
       events = (drop k.taken script, sym (take-append-drop k.taken script) ∙ ap (λ (l : List Arrival). l ++ drop k.taken script) (sym r.events));
       sends = omega (arith, r.sends);
       sent = omega (arith, r.sent);
-      sound = r.sound;
-      broken = r.broken;
       steady = λ none dry more. r.steady none dry (omega (arith, is, more));
     }
 
@@ -369,8 +383,13 @@ playing script k heard r =
 pub ready_start : (script events : List Arrival) (roll : Roll) (most : SendCapacity) → script ≡ events ++ arrival.End ∷ [] → Each IsPlayable script → roll.log ≡ [] → roll.entries_left ≡ sum_by entries_for script + most.sends → roll.bytes_left ≡ sum_by bytes_for script + most.bytes → roll.entries_left < 2 ^ 64
     → IsReady script (record { taken = 0; roll = roll; owed = 0; left = most; most = most; overrun = false; spilled = false; faults = 0; send_faults = 0 })
 ready_start script events roll most is each none entries bytes small = record {
-  ends = (events, is);
-  nothing = ap (list_all is_settled) none;
+  fails = record {
+    ends = (events, is);
+    nothing = ap (list_all is_settled) none;
+    cause = λ some. absurd (no_way (sym some ∙ ap has_torn none));
+    sound = λ _. refl;
+    broken = λ broke. absurd (no_way (sym broke ∙ ap has_torn none));
+  };
   events = ap events_in none;
   few = omega arith;
   playable = each;
@@ -381,9 +400,6 @@ ready_start script events roll most is each none entries bytes small = record {
   sends = rw none (omega arith);
   sent = rw none (omega arith);
   torn = sym (ap has_torn none);
-  cause = λ some. absurd (no_way (sym some ∙ ap has_torn none));
-  sound = λ _. refl;
-  broken = λ broke. absurd (no_way (sym broke ∙ ap has_torn none));
   steady = λ _ _ _. refl;
 }
 
@@ -392,7 +408,7 @@ listening_start roll none entries bytes = record { few = rw none (omega (arith, 
 
 pub overrun_is : (script : List Arrival) (k : Kept)
     → IsReady script k → k.overrun ≡ true ↔ (0 < k.send_faults)
-overrun_is script k r = by k.overrun r.torn r.sound r.broken
+overrun_is script k r = by k.overrun r.torn r.fails.sound r.fails.broken
   where
     by : (b : Bool) → b ≡ has_torn k.roll.log → (has_torn k.roll.log ≡ false → k.send_faults ≡ 0) → (has_torn k.roll.log ≡ true → 0 < k.send_faults) → b ≡ true ↔ (0 < k.send_faults)
     by true is sound broken = (λ _. broken (sym is), λ _. refl)

@@ -7,7 +7,7 @@ use Rattle.cube_io.specs.Wires.{Arrival, LogEntry, events_in}
 use Rattle.cube_io.specs.Wires.Arrival.{Opened, Came, Closed, End}
 use Rattle.cube_io.specs.Wires.LogEntry.{Heard, Sent, Torn, Shut}
 use Rattle.cube_script.specs.declared.script_wire.SendCapacity.{SendCapacity}
-use Rattle.cube_script.specs.Playing.{Overran, has_torn, is_sent, sent_size, is_settled, max_addresses, max_address_bytes}
+use Rattle.cube_script.specs.Playing.{FailsWell, has_torn, is_sent, sent_size, max_addresses, max_address_bytes}
 
 -- a piece has a byte and fits the buffer
 abbrev pub IsPlayable : Arrival → Type 0
@@ -53,7 +53,7 @@ pub record Kept : Type 0 where
 pub record IsReady (script : List Arrival) (kept : Kept) : Type 0 where
   pub events : events_in kept.roll.log ≡ take kept.taken script
   pub few : kept.taken ≤ length script
-  pub ends : (events : List Arrival) × (script ≡ events ++ End ∷ [])
+  pub fails : FailsWell script kept.most kept.roll.log kept.send_faults
   pub playable : Each IsPlayable script
   pub enough : owed_by kept.roll.log ≤ kept.owed
   pub entries : sum_by entries_for (drop kept.taken script) + kept.left.sends + kept.owed ≤ kept.roll.entries_left
@@ -61,11 +61,7 @@ pub record IsReady (script : List Arrival) (kept : Kept) : Type 0 where
   pub bytes : sum_by bytes_for (drop kept.taken script) + kept.left.bytes ≤ kept.roll.bytes_left
   pub sends : count_by is_sent kept.roll.log + kept.left.sends ≡ kept.most.sends
   pub sent : sum_by sent_size kept.roll.log + kept.left.bytes ≡ kept.most.bytes
-  pub nothing : list_all is_settled kept.roll.log ≡ true
   pub torn : kept.overrun ≡ has_torn kept.roll.log
-  pub cause : has_torn kept.roll.log ≡ true → Overran kept.most kept.roll.log
-  pub sound : has_torn kept.roll.log ≡ false → kept.send_faults ≡ 0
-  pub broken : has_torn kept.roll.log ≡ true → 0 < kept.send_faults
   pub steady : has_torn kept.roll.log ≡ false → kept.spilled ≡ false → kept.taken < length script → kept.faults ≡ 0
 
 -- the address that an entry keeps, as bytes that came

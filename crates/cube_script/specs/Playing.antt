@@ -109,16 +109,20 @@ pub record Overran (most : SendCapacity) (log : List LogEntry) : Type 0 where
   pub unsent : count_by is_sent behind ≡ 0
   pub unheard : events_in behind ≡ []
 
--- What holds of each such wire, whatever was called: its script ends with the end, and it has given the first events of it;
--- no send passed the space, one failed only where it would have, and nothing went out of one that failed; one failed where the count of
--- failed sends is not 0; and while none failed no other call did, but for one with an address too many or behind the end.
+-- A script ends with the end; of a log under it, no send failed but where it would have passed the space, and nothing went out of one that
+-- failed; and one failed where the count of failed sends is not 0.
+pub record FailsWell (script : List Arrival) (most : SendCapacity) (log : List LogEntry) (send_faults : ℕ) : Type 0 where
+  pub ends : (events : List Arrival) × (script ≡ events ++ End ∷ [])
+  pub nothing : list_all is_settled log ≡ true
+  pub cause : has_torn log ≡ true → Overran most log
+  pub sound : has_torn log ≡ false → send_faults ≡ 0
+  pub broken : has_torn log ≡ true → 0 < send_faults
+
+-- What holds of each such wire, whatever was called: its sends fail so; it has given the first events of its script, and no send passed
+-- the space; and while none failed no other call did, but for one with an address too many or behind the end.
 pub record IsPlaying (w : Playing) : Type 0 where
-  pub ends : (events : List Arrival) × (w.script ≡ events ++ End ∷ [])
+  pub fails : FailsWell w.script w.most w.log w.send_faults
   pub events : (rest : List Arrival) × (w.script ≡ events_in w.log ++ rest)
   pub sends : count_by is_sent w.log ≤ w.most.sends
   pub sent : sum_by sent_size w.log ≤ w.most.bytes
-  pub nothing : list_all is_settled w.log ≡ true
-  pub cause : has_torn w.log ≡ true → Overran w.most w.log
-  pub sound : has_torn w.log ≡ false → w.send_faults ≡ 0
-  pub broken : has_torn w.log ≡ true → 0 < w.send_faults
   pub steady : has_torn w.log ≡ false → w.spilled ≡ false → length (events_in w.log) < length w.script → w.faults ≡ 0

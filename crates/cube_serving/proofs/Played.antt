@@ -189,7 +189,7 @@ unfailed w events end playing is quiet failed none sound e =
 -- why a send failed: where no event came behind it, it is the last but for the close
 pub overran : (w : Playing) (old new : DeskState) (events : ℕ) (capacity : SendCapacity) → IsPlaying w → w.most ≡ capacity → Serves old new events w.log → has_torn w.log ≡ true → EndsOverrun capacity w.log
 overran w old new events capacity playing is served some =
-    let o : Overran capacity w.log = subst (λ (most : SendCapacity). Overran most w.log) is (playing.cause some) in
+    let o : Overran capacity w.log = subst (λ (most : SendCapacity). Overran most w.log) is (playing.fails.cause some) in
     let (more, shut, waits) = fails_last old.manner old.rooms (events_in w.log) (luck_of (stated_at old events) served.outcomes (sends_in w.log) served.starved) o.before o.behind o.conn [] o.size (sym served.told ∙ o.whole) in
     record { overran = o; last = closed_last o.conn o.behind more shut waits o.unheard }
 
