@@ -1,5 +1,5 @@
 -- What a carried history keeps.
-use Rattle.std.proofs.Common.{◌≡◌, refl, sym, ap₂, ◌∙◌, subst, ℕ, zero, suc, ◌*◌, ◌≤◌, ◌^◌, List, [], ◌∷◌, ◌++◌, flat_map, map, length, length-append, Option, Some, None, Ok, inl, inr, arith}
+use Rattle.std.proofs.Common.{◌≡◌, refl, sym, ap₂, ◌∙◌, subst, ℕ, zero, suc, ◌*◌, ◌≤◌, ◌^◌, List, [], ◌∷◌, ◌++◌, flat_map, map, length, length-append, Option, Some, None, Ok, Err, inl, inr, arith}
 use Rattle.std.proofs.lemmas.List.{length-map}
 use Rattle.cube_model.specs.declared.entry.Entry.{Entry}
 use Rattle.cube_model.specs.declared.entry.Entry.TheVariants.{Linked}
@@ -28,8 +28,7 @@ use Rattle.cube_carry.proofs.Lives.{two_lives}
 use Rattle.cube_carry.proofs.OldPlaces.{old_cells}
 use Rattle.cube_engine.specs.Kept.{history_of}
 use Rattle.cube_engine.proofs.KeepsAll.{written_recovers, written_is_short}
-use Rattle.cube_app.specs.Carrying.{Handing, Carries, GoesOn, IsHanded, IsUncarried, carried_entries, carried_text}
-use Rattle.cube_app.specs.declared.carrying.Uncarried.TheVariants.{Line}
+use Rattle.cube_app.specs.Carrying.{Handing, Carries, GoesOn, IsHanded, IsCarryOf, carried_entries, carried_text}
 
 -- ---- its entries are sources and links alone
 
@@ -133,6 +132,6 @@ none_first : {X : Type 0} (xs : List X) (x : X) → xs ≡ [] → first xs ≡ S
 none_first [] x e f = cc
 none_first (y ∷ ys) x e f = absurd (cc)
 
-pub not_uncarried : (x : Handing) (line : List ℕ) → IsUncarried x (Line line) → IsHanded x → ⊥
-not_uncarried x line (inl e) handed = none_first _ _ ((breaches_are (named x.older x.older_policy) (named x.core x.policy) x.older.cube x.core.cube).1 (handed.0, handed.1)) e.is_first
-not_uncarried x line (inr e) handed = none_first _ _ handed.2 e.is_first
+pub not_uncarried : (x : Handing) → IsHanded x → (line : List ℕ) → IsCarryOf x (Err line) → ⊥
+not_uncarried x handed line (inl e) = none_first _ _ ((breaches_are (named x.older x.older_policy) (named x.core x.policy) x.older.cube x.core.cube).1 (handed.0, handed.1)) e.is_first
+not_uncarried x handed line (inr e) = none_first _ _ handed.2 e.is_first

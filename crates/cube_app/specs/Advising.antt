@@ -19,11 +19,12 @@ use Rattle.cube_advise.specs.Telling.{first_text, later_text}
 use Rattle.cube_io.specs.Causes.{Rose}
 use Rattle.cube_io.specs.Seen.{FolderState, SinkState, StoreState, Seen, Unused}
 use Rattle.cube_opening.specs.Opening.{unless_long, FileSays, EndsAtLast, EndsUnopened, GotBehind, Make, HasAll, HasFile, names_of, names_with}
-use Rattle.cube_opening.specs.Reports.{IsReport, IsDone, Prints}
+use Rattle.cube_opening.specs.Reports.{IsDone}
 use Rattle.cube_opening.specs.declared.cube_files.CubeFiles.{CubeFiles}
 use Rattle.cube_opening.specs.declared.report.Report.{Report}
 use Rattle.cube_serving.specs.OneCube.{HasJournal}
 use Rattle.cube_app.specs.Ends.{AsksJournal, EndsOrSays}
+use Rattle.cube_app.specs.Saying.{Puts}
 
 -- ---- the workload
 
@@ -73,10 +74,6 @@ pub record IsAdvice (core : Core) (policy : Policy) (h : List Entry) : Type 0 wh
   pub links : (m : ℕ) → method (shown core policy) m ≡ Parity → links_held (shown core policy) h m ≤ most_links (shown core policy) m
 
 -- ---- the run
-
--- the text was put on the sink, unless memory ran out
-abbrev pub Puts : {O : Type 0} → List ℕ → Seen SinkState O → Report → Type 0
-Puts text out r = Prints text out r ⊎ (IsReport 7 (codes "no memory\n") r × (out.after.written ≡ out.before.written))
 
 -- It was put what can be released from the cube of the files before anything is asked, and the words for the lines of the workload.
 pub record Advised {O : Type 0} (cube : CubeFiles) (workload : Option (List ℕ)) (files : FolderState) (out : Seen SinkState O) (r : Report) : Type 0 where

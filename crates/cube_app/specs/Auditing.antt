@@ -7,7 +7,7 @@ use Rattle.cube_model.specs.Cores.{Core}
 use Rattle.cube_io.specs.Causes.{Rose}
 use Rattle.cube_io.specs.Seen.{FolderState, SinkState, Seen, Unused}
 use Rattle.cube_opening.specs.Opening.{fault_text, faulted, unless_long, FileSays, EndsAtLast, EndsUnopened, GotBehind, Make, HasAll, HasFile, names_with}
-use Rattle.cube_opening.specs.Reports.{IsReport, IsDone, Prints}
+use Rattle.cube_opening.specs.Reports.{IsDone}
 use Rattle.cube_opening.specs.declared.cube_files.CubeFiles.{CubeFiles}
 use Rattle.cube_opening.specs.declared.report.Report.{Report}
 use Rattle.cube_audit.specs.Audits.{audited}
@@ -16,6 +16,7 @@ use Rattle.cube_audit.specs.Sound.{SaysSound}
 use Rattle.cube_audit.specs.Transcripts.{transcript_of}
 use Rattle.cube_audit.specs.Words.{fault_words}
 use Rattle.cube_audit.specs.declared.transcript.TranscriptItem.{TranscriptItem}
+use Rattle.cube_app.specs.Saying.{Puts}
 
 -- ---- the transcript
 
@@ -24,10 +25,6 @@ abbrev pub transcript_said : List ℕ → Result (List TranscriptItem) (List ℕ
 transcript_said bytes = unless_long (codes "transcript") bytes (faulted (λ fault. fault_text (codes "transcript") (fault_words fault)) (transcript_of bytes))
 
 -- ---- the run
-
--- the line of the audit was printed, unless memory ran out
-abbrev pub PrintsAudit : {O : Type 0} → Core → Policy → List TranscriptItem → Seen SinkState O → Report → Type 0
-PrintsAudit core policy items out r = Prints (audited_text core.dims (audited core policy items)) out r ⊎ (IsReport 7 (codes "no memory\n") r × (out.after.written ≡ out.before.written))
 
 -- The files make a core and a policy, and the transcript says these items. The line of their audit was printed. Where that one is a yes,
 -- each reply that was examined is exact, and for each protected cell there is another cube where each of them is exact too, and where the
@@ -38,7 +35,7 @@ pub record AuditTold {O : Type 0} (cube : CubeFiles) (transcript : List ℕ) (fi
   pub items : List TranscriptItem
   pub files_make : Make cube files core policy
   pub items_are : IfSome files.files (λ known. FileSays transcript_said transcript known (Ok items))
-  pub printed : PrintsAudit core policy items out r
+  pub printed : Puts (audited_text core.dims (audited core policy items)) out r
   pub sound : SaysSound core policy items (audited core policy items)
 
 -- a run of `audit` ends at one of the three files, or at the transcript, or it prints the line of the audit

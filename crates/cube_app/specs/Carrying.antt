@@ -28,13 +28,13 @@ use Rattle.cube_carrying.specs.Telling.{breach_text, stop_text}
 use Rattle.cube_carrying.specs.declared.breach.Breach.{Breach}
 use Rattle.cube_carrying.specs.declared.histories.Stop.{Stop}
 use Rattle.cube_opening.specs.Opening.{GotBehind, Make, HasAll, EndsUnopened, names_of}
-use Rattle.cube_opening.specs.Reports.{IsReport, IsDone, NoMessage, Prints}
+use Rattle.cube_opening.specs.Reports.{IsDone}
 use Rattle.cube_opening.specs.declared.cube_files.CubeFiles.{CubeFiles}
 use Rattle.cube_opening.specs.declared.report.Report.{Report}
 use Rattle.cube_serving.specs.OneCube.{EndsClosed, HasJournal}
 use Rattle.cube_app.specs.Ends.{SaidBy, SaysOver}
-use Rattle.cube_app.specs.declared.carrying.Uncarried.{Uncarried}
-use Rattle.cube_app.specs.declared.carrying.Uncarried.TheVariants.{Line, NoMemory}
+use Rattle.cube_app.specs.Saying.{IsUnsaidBy, SaysOne}
+use Rattle.cube_app.specs.declared.saying.Unsaid.{Unsaid}
 
 -- ---- two lives of a cube
 
@@ -106,16 +106,9 @@ abbrev pub IsCarryOf : Handing → Result (List ℕ) (List ℕ) → Type 0
 IsCarryOf x (Ok text) = Carries x text
 IsCarryOf x (Err line) = Breaks x line ⊎ StopsAt x line
 
--- the text was put on the sink, or the carry is refused with the line and nothing is put
-abbrev pub Hands : {O : Type 0} → Result (List ℕ) (List ℕ) → Seen SinkState O → Report → Type 0
-Hands (Ok text) out r = Prints text out r
-Hands (Err line) out r = (IsReport 3 (codes "carry: " ++ line) r ⊎ NoMessage r) × (out.after.written ≡ out.before.written)
-
 -- This was said, unless memory ran out before.
 abbrev pub HandsOver : {O : Type 0} → Handing → Seen SinkState O → Report → Type 0
-HandsOver x out r =
-    ((said : Result (List ℕ) (List ℕ)) × IsCarryOf x said × Hands said out r)
-    ⊎ (IsReport 7 (codes "no memory\n") r × (out.after.written ≡ out.before.written))
+HandsOver x out r = SaysOne (codes "carry: ") (IsCarryOf x) out r
 
 -- ---- why nothing is carried over
 
@@ -124,15 +117,8 @@ abbrev pub handing_of : Book → Core → Policy → Handing
 handing_of b c p = record { older = b.core; older_policy = b.policy; history = b.history; core = c; policy = p }
 
 -- the line names what stands in the way, or memory ran out
-abbrev pub IsUncarried : Handing → Uncarried → Type 0
-IsUncarried x (Line line) = Breaks x line ⊎ StopsAt x line
-IsUncarried x NoMemory = ⊤
-
--- a report on what is carried over, or on why nothing is
-abbrev pub HandsSo : {O : Type 0} → Result (List ℕ) Uncarried → Seen SinkState O → Report → Type 0
-HandsSo (Ok text) out r = Hands (Ok text) out r
-HandsSo (Err (Line line)) out r = Hands (Err line) out r
-HandsSo (Err NoMemory) out r = IsReport 7 (codes "no memory\n") r × (out.after.written ≡ out.before.written)
+abbrev pub IsUncarried : Handing → Unsaid → Type 0
+IsUncarried x why = IsUnsaidBy (IsCarryOf x) why
 
 -- the new cube continues the older one, with its values, and the history is carried over
 abbrev pub IsHanded : Handing → Type 0

@@ -12,11 +12,12 @@ use Rattle.cube_engine.specs.Changes.{changes_for, text_of, twin_for}
 use Rattle.cube_engine.specs.Compacting.{compacted_text, KeepsAll}
 use Rattle.cube_engine.specs.Kept.{history_of}
 use Rattle.cube_opening.specs.Opening.{Make, HasAll, names_of}
-use Rattle.cube_opening.specs.Reports.{IsReport, IsDone, NoMessage, Prints}
+use Rattle.cube_opening.specs.Reports.{IsDone}
 use Rattle.cube_opening.specs.declared.cube_files.CubeFiles.{CubeFiles}
 use Rattle.cube_opening.specs.declared.report.Report.{Report}
 use Rattle.cube_serving.specs.OneCube.{HasJournal}
 use Rattle.cube_app.specs.Ends.{EndsOrSays, SaysOver}
+use Rattle.cube_app.specs.Saying.{SaysOne}
 use Rattle.cube_app.specs.declared.cells.Telling.{Telling}
 use Rattle.cube_app.specs.declared.cells.Telling.TheVariants.{Changes, Twin, Compacted}
 
@@ -32,10 +33,10 @@ told_text Changes core policy h cell = text_of core.dims (shown core policy) (ch
 told_text Twin core policy h cell = unless_too_long (twin_for core policy h cell)
 told_text Compacted core policy h cell = Ok (compacted_text core policy h)
 
--- The text was put on the sink, or the cell is refused with the line and nothing is put. Memory may run out before.
-abbrev pub Tells : {O : Type 0} → Result (List ℕ) (ℕ × List ℕ) → Seen SinkState O → Report → Type 0
-Tells (Ok text) out r = Prints text out r ⊎ (IsReport 7 (codes "no memory\n") r × (out.after.written ≡ out.before.written))
-Tells (Err why) out r = (IsReport 3 (codes "cell: " ++ why.1) r ⊎ IsReport 7 (codes "no memory\n") r ⊎ NoMessage r) × (out.after.written ≡ out.before.written)
+-- this text is told, or this line says why none is
+abbrev pub IsTold : Result (List ℕ) (ℕ × List ℕ) → Result (List ℕ) (List ℕ) → Type 0
+IsTold found (Ok text) = found ≡ Ok text
+IsTold found (Err line) = (status : ℕ) × (found ≡ Err (status, line))
 
 -- a history that is told compacted keeps all
 abbrev pub KeepsIf : Telling → Core → Policy → List Entry → Type 0
@@ -50,7 +51,7 @@ CanTell telling cube cell files store =
 
 -- A run that is to tell ends before its cube is open, or it tells by the history of the cube. A compacted history keeps all.
 abbrev pub TellEnds : {F S O : Type 0} → Telling → CubeFiles → List ℕ → Seen FolderState F → Seen StoreState S → Seen SinkState O → Report → Type 0
-TellEnds telling cube cell files store out r = EndsOrSays cube (names_of cube) (λ core policy h. Tells (told_text telling core policy h cell) out r × KeepsIf telling core policy h) files store out r
+TellEnds telling cube cell files store out r = EndsOrSays cube (names_of cube) (λ core policy h. SaysOne (codes "cell: ") (IsTold (told_text telling core policy h cell)) out r × KeepsIf telling core policy h) files store out r
 
 -- where the files, the journal and what is to be told are accepted and no count rose, all is done
 abbrev pub TellCompletes : {F S O : Type 0} → Telling → CubeFiles → List ℕ → Seen FolderState F → Seen StoreState S → Seen SinkState O → Report → Type 0

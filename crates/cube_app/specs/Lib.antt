@@ -6,6 +6,7 @@ pub mod Drafting
 pub mod Ends
 pub mod Making
 pub mod Runs
+pub mod Saying
 pub mod Serves
 pub mod Summary
 pub mod Talks

@@ -13,13 +13,14 @@ use Rattle.cube_query.specs.Faults.{request_of, fault_body}
 use Rattle.cube_query.specs.declared.fault.RequestFault.{RequestFault}
 use Rattle.cube_reason.specs.Showing.{IsWhy, Shows}
 use Rattle.cube_opening.specs.Opening.{EndsAtLast, FileSays, HasAll, HasFile, Make, names_of, names_with, unless_long}
-use Rattle.cube_opening.specs.Reports.{IsReport, IsDone, NoMessage, Prints}
+use Rattle.cube_opening.specs.Reports.{IsDone}
 use Rattle.cube_opening.specs.declared.cube_files.CubeFiles.{CubeFiles}
 use Rattle.cube_opening.specs.declared.report.Report.{Report}
 use Rattle.cube_serving.specs.OneCube.{HasJournal}
 use Rattle.cube_app.specs.Ends.{EndsOrSays, SaysOver}
-use Rattle.cube_app.specs.declared.reasons.Unsaid.{Unsaid}
-use Rattle.cube_app.specs.declared.reasons.Unsaid.TheVariants.{Query, NoMemory}
+use Rattle.cube_app.specs.Saying.{SaysOne}
+use Rattle.cube_app.specs.declared.saying.Unsaid.{Unsaid}
+use Rattle.cube_app.specs.declared.saying.Unsaid.TheVariants.{Line, NoMemory}
 
 -- ---- what is said of a query
 
@@ -58,36 +59,23 @@ abbrev pub IsWhetherOf : Core → Policy → List Entry → List ℕ → List �
 IsWhetherOf core policy h query reason (Ok text) = SaysWhether core policy h query reason text
 IsWhetherOf core policy h query reason (Err line) = Unasked core query line
 
--- the text was put on the sink, or the query is refused with the line and nothing is put
-abbrev pub PutsSaid : {O : Type 0} → Result (List ℕ) (List ℕ) → Seen SinkState O → Report → Type 0
-PutsSaid (Ok text) out r = Prints text out r
-PutsSaid (Err line) out r = (IsReport 3 (codes "query: " ++ line) r ⊎ NoMessage r) × (out.after.written ≡ out.before.written)
-
 -- ---- why nothing is said
 
 -- the line is that of the reply to this fault, or memory ran out
 abbrev pub IsUnread : RequestFault → Unsaid → Type 0
-IsUnread fault (Query line) = line ≡ fault_body fault
+IsUnread fault (Line line) = line ≡ fault_body fault
 IsUnread fault NoMemory = ⊤
 
 -- the query is no request, or memory ran out
 abbrev pub IsUnsaid : Core → List ℕ → Unsaid → Type 0
-IsUnsaid core query (Query line) = Unasked core query line
+IsUnsaid core query (Line line) = Unasked core query line
 IsUnsaid core query NoMemory = ⊤
 
--- a report on what is said of a query, or on why nothing is
-abbrev pub SaysSo : {O : Type 0} → Result (List ℕ) Unsaid → Seen SinkState O → Report → Type 0
-SaysSo (Ok text) out r = PutsSaid (Ok text) out r
-SaysSo (Err (Query line)) out r = PutsSaid (Err line) out r
-SaysSo (Err NoMemory) out r = IsReport 7 (codes "no memory\n") r × (out.after.written ≡ out.before.written)
-
--- Of these something was said, unless memory ran out before.
-abbrev pub SaysOne : {O : Type 0} → (Result (List ℕ) (List ℕ) → Type 0) → Seen SinkState O → Report → Type 0
-SaysOne Is out r =
-    ((said : Result (List ℕ) (List ℕ)) × Is said × PutsSaid said out r)
-    ⊎ (IsReport 7 (codes "no memory\n") r × (out.after.written ≡ out.before.written))
-
 -- ---- why
+
+-- what stands before a line that refuses a query
+abbrev pub of_query : List ℕ
+of_query = codes "query: "
 
 -- the query is a request over each core that the files make
 abbrev pub IsQuery : CubeFiles → List ℕ → FolderState → Type 0
@@ -95,7 +83,7 @@ IsQuery cube query files = (core : Core) (policy : Policy) → Make cube files c
 
 -- a run that is to say why ends before its cube is open, or it says so of the history of the cube
 abbrev pub WhyEnds : {F S O : Type 0} → CubeFiles → List ℕ → Seen FolderState F → Seen StoreState S → Seen SinkState O → Report → Type 0
-WhyEnds cube query files store out r = EndsOrSays cube (names_of cube) (λ core policy h. SaysOne (IsWhyOf core policy h query) out r) files store out r
+WhyEnds cube query files store out r = EndsOrSays cube (names_of cube) (λ core policy h. SaysOne of_query (IsWhyOf core policy h query) out r) files store out r
 
 -- where the files, the journal and the query are accepted and no count rose, all is done
 abbrev pub WhyCompletes : {F S O : Type 0} → CubeFiles → List ℕ → Seen FolderState F → Seen StoreState S → Seen SinkState O → Report → Type 0
@@ -116,7 +104,7 @@ reason_said bytes = unless_long (codes "reason") bytes (Ok bytes)
 pub record SaysOfFile {O : Type 0} (query name : List ℕ) (files : FolderState) (out : Seen SinkState O) (r : Report) (core : Core) (policy : Policy) (h : List Entry) : Type 0 where
   pub reason : List ℕ
   pub read : IfSome files.files (λ known. FileSays reason_said name known (Ok reason))
-  pub says : SaysOne (IsWhetherOf core policy h query reason) out r
+  pub says : SaysOne of_query (IsWhetherOf core policy h query reason) out r
 
 -- a run that is to check a reason ends at its file, or before its cube is open, or it says whether it is one
 abbrev pub WhetherEnds : {F S O : Type 0} → CubeFiles → List ℕ → List ℕ → Seen FolderState F → Seen StoreState S → Seen SinkState O → Report → Type 0

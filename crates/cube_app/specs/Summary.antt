@@ -12,9 +12,10 @@ use Rattle.cube_engine.specs.Kept.{digest_for}
 use Rattle.cube_io.specs.Causes.{Rose}
 use Rattle.cube_io.specs.Seen.{FolderState, SinkState, Seen, Unused}
 use Rattle.cube_opening.specs.Opening.{EndsUnopened, GotBehind, Make, HasAll, names_of}
-use Rattle.cube_opening.specs.Reports.{IsReport, IsDone, Prints}
+use Rattle.cube_opening.specs.Reports.{IsDone}
 use Rattle.cube_opening.specs.declared.cube_files.CubeFiles.{CubeFiles}
 use Rattle.cube_opening.specs.declared.report.Report.{Report}
+use Rattle.cube_app.specs.Saying.{Puts}
 
 -- how many protected cells the measures have, each measure's counted on their own
 abbrev pub protected_count : Core → Policy → ℕ
@@ -40,16 +41,12 @@ check_text core policy = core_text core ++ count_line (codes "protected") (prote
 
 -- ---- the run
 
--- the summary was printed, unless memory ran out
-abbrev pub Summarizes : {O : Type 0} → Core → Policy → Seen SinkState O → Report → Type 0
-Summarizes core policy out r = Prints (check_text core policy) out r ⊎ (IsReport 7 (codes "no memory\n") r × (out.after.written ≡ out.before.written))
-
 -- the summary of the core and the policy that the files make was printed
 pub record Checked {O : Type 0} (cube : CubeFiles) (files : FolderState) (out : Seen SinkState O) (r : Report) : Type 0 where
   pub core : Core
   pub policy : Policy
   pub files_make : Make cube files core policy
-  pub printed : Summarizes core policy out r
+  pub printed : Puts (check_text core policy) out r
 
 -- a run of `check` ends at a file, or it prints the summary
 abbrev pub CheckEnds : {F O : Type 0} → CubeFiles → Seen FolderState F → Seen SinkState O → Report → Type 0

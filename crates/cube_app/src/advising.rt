@@ -6,14 +6,14 @@ ghost use Rattle.cube_io.specs.Causes.{Rose};
 ghost use Rattle.cube_io.specs.Files.{max_file};
 ghost use Rattle.cube_io.specs.Seen.{seen};
 ghost use Rattle.cube_model.specs.Policies.{IsPolicy};
-ghost use Rattle.cube_opening.specs.Causes.{HasCauses, of_command, of_listing, only_out};
+ghost use Rattle.cube_opening.specs.Causes.{HasCauses, of_command, of_listing};
 ghost use Rattle.cube_opening.specs.Opening.{FileSays, AskedFor, EndsAt, GotBehind, HasAll, IsSteady, Make, Reads};
 ghost use Rattle.cube_opening.specs.Reports.{IsReport};
 ghost use Rattle.cube_serving.specs.Grouping.{OnlyFirst};
 ghost use Rattle.cube_serving.specs.Starting.{AsksStore};
-ghost use Rattle.cube_app.specs.Advising.{workload_said, WorkloadSays, named_with, EndsUnread, Puts, FirstEnds, LaterEnds, AdviseEnds, AsksIfNamed, HasWorkload, AdviseCompletes};
+ghost use Rattle.cube_app.specs.Advising.{workload_said, WorkloadSays, named_with, EndsUnread, FirstEnds, LaterEnds, AdviseEnds, AsksIfNamed, HasWorkload, AdviseCompletes};
 
-use crate::run::print;
+use crate::saying::put_text;
 use cube_advise::{is_workload, told_first, told_later};
 use cube_engine::Book;
 use cube_io::{Folder, Sink, Store};
@@ -123,27 +123,6 @@ fn told_behind(alloc: Global, book: &Book, workload: &Option<Text>) -> Result<Te
     told_later(alloc, core, policy, book.state().history(), workload)
 }
 
-// Puts what is told.
-fn put_advice<O: Sink>(
-    alloc: Global,
-    message: Message,
-    text: Result<Text, NoMemory>,
-    out: &mut O,
-) -> Report
-    requires { message ≡ [] }
-    ensures puts { (said : List ℕ) → IfOk text (λ text. text ≡ said) → Puts said (seen O.state out.old out.new) result }
-    ensures causes { HasCauses (only_out (seen O.state out.old out.new)) result }
-    ensures status { (result.status ≡ 0) ⊎ (result.status ≡ 6) ⊎ (result.status ≡ 7) }
-    ensures outcomes { result.outcomes ≡ [] }
-{
-    match text {
-        Ok(text) => print(alloc, message, text.as_slice(), out),
-        Err(_) => message
-            .with(b"no memory\n")
-            .close(alloc, statuses::NO_MEMORY),
-    }
-}
-
 // Puts what can be released before anything is asked.
 fn advise_first<F: Folder, O: Sink>(
     alloc: Global,
@@ -169,7 +148,7 @@ fn advise_first<F: Folder, O: Sink>(
     } = opened.value;
     let _rules = guarded.core.dims();
     let text = told_first(alloc, &guarded.core, &guarded.policy, &bytes);
-    put_advice(alloc, opened.message, text, out)
+    put_text(alloc, opened.message, text, out)
 }
 
 // Puts what can be released behind the history that the journal holds.
@@ -206,7 +185,7 @@ fn advise_later<F: Folder, S: Store, O: Sink>(
         Err(report) => return report,
     };
     let text = told_behind(alloc, &started.value, &bytes);
-    put_advice(alloc, started.message, text, out)
+    put_text(alloc, started.message, text, out)
 }
 
 /// Puts what can be released from a cube, before anything is asked or behind the history that the journal holds, where one is named, and

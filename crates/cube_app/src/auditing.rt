@@ -12,7 +12,7 @@ ghost use Rattle.cube_opening.specs.Opening.{fault_text as refusal, FileSays, As
 ghost use Rattle.cube_opening.specs.Reports.{IsReport, NoMessage};
 ghost use Rattle.cube_app.specs.Auditing.{transcript_said, AuditEnds, AuditCompletes};
 
-use crate::run::print;
+use crate::saying::put_text;
 use cube_audit::{Transcript, TranscriptFault, audited_text, fault_text, read_transcript};
 use cube_core::{Core, Steps};
 use cube_io::{Folder, Sink};
@@ -127,11 +127,6 @@ pub fn audit<F: Folder, O: Sink>(
         Ok(read) => read,
         Err(report) => return report,
     };
-    match line_of(alloc, &guarded.core, &guarded.policy, &read.value) {
-        Ok(text) => print(alloc, read.message, text.as_slice(), out),
-        Err(_) => read
-            .message
-            .with(b"no memory\n")
-            .close(alloc, statuses::NO_MEMORY),
-    }
+    let line = line_of(alloc, &guarded.core, &guarded.policy, &read.value);
+    put_text(alloc, read.message, line, out)
 }

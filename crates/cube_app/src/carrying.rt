@@ -13,13 +13,13 @@ ghost use Rattle.cube_carrying.specs.declared.breach.Compared.TheVariants as com
 ghost use Rattle.cube_carrying.specs.declared.histories.Carried.TheVariants as carried;
 ghost use Rattle.cube_engine.specs.Kept.{digest_for};
 ghost use Rattle.cube_journal.specs.SecondText.{journal2_text as second_text};
-ghost use Rattle.cube_opening.specs.Causes.{HasCauses, of_command, only_out};
-ghost use Rattle.cube_app.specs.declared.carrying.Uncarried.TheVariants as why;
-ghost use Rattle.cube_app.specs.Carrying.{Handing, Carries, IsUncarried, IsHanded, HandsSo, CarryEnds, CarryCompletes, carried_entries, handing_of};
+ghost use Rattle.cube_opening.specs.Causes.{HasCauses, of_command};
+ghost use Rattle.cube_app.specs.declared.saying.Unsaid.TheVariants as why;
+ghost use Rattle.cube_app.specs.Carrying.{Handing, Carries, IsUncarried, IsHanded, CarryEnds, CarryCompletes, carried_entries, handing_of};
 ghost use Rattle.cube_serving.specs.Grouping.{OnlyFirst};
 ghost use Rattle.cube_serving.specs.Starting.{AsksStore};
 
-use crate::run::print;
+use crate::saying::{Unsaid, put_said};
 use cube_carrying::{Breach, Carried, Compared, Stop, breach_text, carry, compare, stop_text};
 use cube_core::Core;
 use cube_engine::Book;
@@ -30,26 +30,18 @@ use cube_opening::{CubeFiles, Message, Report, open_guarded, refuse_line, status
 use cube_serving::open_book;
 use std::alloc::Global;
 
-/// Why nothing is carried over.
-#[derive(Drop)]
-pub enum Uncarried {
-    /// This line names the first thing that stands in the way.
-    Line(Text),
-    NoMemory,
-}
-
 // A line that was made, unless memory ran out.
-fn line_or_none(line: Result<Text, NoMemory>) -> Uncarried
+fn line_or_none(line: Result<Text, NoMemory>) -> Unsaid
     ensures { (x : Handing) → IfOk line (λ text. IsUncarried x (why.Line text)) → IsUncarried x result }
 {
     match line {
-        Ok(line) => Uncarried::Line(line),
-        Err(_) => Uncarried::NoMemory,
+        Ok(line) => Unsaid::Line(line),
+        Err(_) => Unsaid::NoMemory,
     }
 }
 
 // The line on what keeps a cube from continuing an older one.
-fn broken(alloc: Global, older: &Book, core: &Core, policy: &Policy, breach: &Breach) -> Uncarried
+fn broken(alloc: Global, older: &Book, core: &Core, policy: &Policy, breach: &Breach) -> Unsaid
     requires first { IsComparedBy (named older.now.core older.now.policy) (named core.now policy.now) older.now.core.cube core.now.cube (compared.Differs breach.now) }
     ensures { IsUncarried (handing_of older.now core.now policy.now) result }
 {
@@ -58,7 +50,7 @@ fn broken(alloc: Global, older: &Book, core: &Core, policy: &Policy, breach: &Br
 }
 
 // The line on what stops a history.
-fn stopped(alloc: Global, older: &Book, core: &Core, policy: &Policy, stop: &Stop) -> Uncarried
+fn stopped(alloc: Global, older: &Book, core: &Core, policy: &Policy, stop: &Stop) -> Unsaid
     requires continues { Continues (named older.now.core older.now.policy) (named core.now policy.now) }
     requires values { KeepsValues (named older.now.core older.now.policy) (named core.now policy.now) older.now.core.cube core.now.cube }
     requires first { IsCarriedBy (named older.now.core older.now.policy) (named core.now policy.now) older.now.history (carried.Stopped stop.now) }
@@ -109,7 +101,7 @@ fn continued(
     core: &Core,
     policy: &Policy,
     places: &Places,
-) -> Result<Text, Uncarried>
+) -> Result<Text, Unsaid>
     requires none { older.now.waiting ≡ None }
     requires policy { IsPolicy core.now.dims policy.now }
     requires continues { Continues (named older.now.core older.now.policy) (named core.now policy.now) }
@@ -120,22 +112,17 @@ fn continued(
 {
     let (old, old_policy) = (older.core(), older.policy());
     match carry(alloc, old, old_policy, older.state(), core, policy, places) {
-        Err(_) => Err(Uncarried::NoMemory),
+        Err(_) => Err(Unsaid::NoMemory),
         Ok(Carried::Stopped(stop)) => Err(stopped(alloc, older, core, policy, &stop)),
         Ok(Carried::Entries(entries)) => match written(alloc, older, core, policy, &entries) {
             Ok(text) => Ok(text),
-            Err(_) => Err(Uncarried::NoMemory),
+            Err(_) => Err(Unsaid::NoMemory),
         },
     }
 }
 
 // The journal of a cube that holds what the history of an older one told.
-fn carried_over(
-    alloc: Global,
-    older: &Book,
-    core: &Core,
-    policy: &Policy,
-) -> Result<Text, Uncarried>
+fn carried_over(alloc: Global, older: &Book, core: &Core, policy: &Policy) -> Result<Text, Unsaid>
     requires none { older.now.waiting ≡ None }
     requires policy { IsPolicy core.now.dims policy.now }
     ensures ok { IfOk result (Carries (handing_of older.now core.now policy.now)) }
@@ -143,33 +130,9 @@ fn carried_over(
 {
     let old_policy = older.policy();
     match compare(alloc, older.core(), old_policy, core, policy) {
-        Err(_) => Err(Uncarried::NoMemory),
+        Err(_) => Err(Unsaid::NoMemory),
         Ok(Compared::Differs(breach)) => Err(broken(alloc, older, core, policy, &breach)),
         Ok(Compared::Continues(places)) => continued(alloc, older, core, policy, &places),
-    }
-}
-
-// Puts what is carried over, or reports why nothing is.
-#[tactic(auto, using(crate::proofs::Handed::not_uncarried))]
-fn put_carried<O: Sink>(
-    alloc: Global,
-    message: Message,
-    said: Result<Text, Uncarried>,
-    out: &mut O,
-) -> Report
-    requires { message ≡ [] }
-    ensures hands { HandsSo said (seen O.state out.old out.new) result }
-    ensures accepted { (x : Handing) → IfErr said (IsUncarried x) → IsHanded x → result.status ≢ 3 }
-    ensures causes { HasCauses (only_out (seen O.state out.old out.new)) result }
-    ensures status { (result.status ≡ 0) ⊎ (result.status ≡ 3) ⊎ (result.status ≡ 6) ⊎ (result.status ≡ 7) }
-    ensures outcomes { result.outcomes ≡ [] }
-{
-    match said {
-        Ok(text) => print(alloc, message, text.as_slice(), out),
-        Err(Uncarried::Line(line)) => refuse_line(alloc, b"carry: ", &line),
-        Err(Uncarried::NoMemory) => message
-            .with(b"no memory\n")
-            .close(alloc, statuses::NO_MEMORY),
     }
 }
 
@@ -207,5 +170,5 @@ pub fn carry_over<F: Folder, S: Store, O: Sink>(
         Err(report) => return report,
     };
     let said = carried_over(alloc, &started.value, &new.core, &new.policy);
-    put_carried(alloc, started.message, said, out)
+    put_said(alloc, started.message, b"carry: ", said, out)
 }

@@ -3,12 +3,13 @@
 ghost use Rattle.std.specs.Prelude.{◌≡◌, ◌≢◌, ◌⊎◌, ◌≤◌, ◌+◌, ◌++◌, ℕ, List, Result, [], None, IsTrue, IfOk, IfErr, IsOk, Ok, Err, codes};
 ghost use Rattle.cube_io.specs.Seen.{seen};
 ghost use Rattle.cube_engine.specs.Changes.{Refuses};
-ghost use Rattle.cube_opening.specs.Causes.{HasCauses, of_command, only_out};
-ghost use Rattle.cube_app.specs.Cells.{Tells, TellEnds, TellCompletes, told_text, unless_too_long as unless_long};
+ghost use Rattle.cube_opening.specs.Causes.{HasCauses, of_command};
+ghost use Rattle.cube_app.specs.Cells.{IsTold, TellEnds, TellCompletes, told_text, unless_too_long as unless_long};
+ghost use Rattle.cube_app.specs.Saying.{IsUnsaidBy};
 ghost use Rattle.cube_serving.specs.Grouping.{OnlyFirst};
 ghost use Rattle.cube_serving.specs.Starting.{AsksStore};
 
-use crate::run::print;
+use crate::saying::{Unsaid, put_said};
 use cube_engine::{Book, NoChanges};
 use cube_io::{Folder, MAX_FILE, Sink, Store};
 use cube_model::Text;
@@ -25,29 +26,6 @@ pub enum Telling {
     Twin,
     /// The history written down as what it holds, as a journal. The cell plays no part.
     Compacted,
-}
-
-// Puts what is told.
-fn put_told<O: Sink>(
-    alloc: Global,
-    message: Message,
-    told: Result<Text, NoChanges>,
-    out: &mut O,
-) -> Report
-    requires { message ≡ [] }
-    ensures tells { (said : Result (List ℕ) (ℕ × List ℕ)) → IfOk told (λ text. said ≡ Ok text) → IfErr told (λ why. Refuses why said) → Tells said (seen O.state out.old out.new) result }
-    ensures accepted { (said : Result (List ℕ) (ℕ × List ℕ)) → IfErr told (λ why. Refuses why said) → IsOk said → result.status ≢ 3 }
-    ensures causes { HasCauses (only_out (seen O.state out.old out.new)) result }
-    ensures status { (result.status ≡ 0) ⊎ (result.status ≡ 3) ⊎ (result.status ≡ 6) ⊎ (result.status ≡ 7) }
-    ensures outcomes { result.outcomes ≡ [] }
-{
-    match told {
-        Ok(text) => print(alloc, message, text.as_slice(), out),
-        Err(NoChanges::Said { line, .. }) => refuse_line(alloc, b"cell: ", &line),
-        Err(NoChanges::NoMemory) => message
-            .with(b"no memory\n")
-            .close(alloc, statuses::NO_MEMORY),
-    }
 }
 
 // A twin whose fact file no command reads.
@@ -72,8 +50,8 @@ fn unless_too_long(alloc: Global, twin: Result<Text, NoChanges>) -> Result<Text,
     }
 }
 
-// What a book tells of a cell.
-fn told_of(alloc: Global, book: &Book, telling: Telling, cell: &Text) -> Result<Text, NoChanges>
+// What a book has of a cell.
+fn found_of(alloc: Global, book: &Book, telling: Telling, cell: &Text) -> Result<Text, NoChanges>
     requires { book.now.waiting ≡ None }
     ensures ok { IfOk result (λ text. told_text telling book.now.core book.now.policy book.now.history cell.now ≡ Ok text) }
     ensures err { IfErr result (λ why. Refuses why (told_text telling book.now.core book.now.policy book.now.history cell.now)) }
@@ -85,6 +63,28 @@ fn told_of(alloc: Global, book: &Book, telling: Telling, cell: &Text) -> Result<
             Ok(text) => Ok(text),
             Err(_) => Err(NoChanges::NoMemory),
         },
+    }
+}
+
+// Why nothing is told.
+fn untold(why: NoChanges) -> Unsaid
+    ensures { (found : Result (List ℕ) (ℕ × List ℕ)) → Refuses why found → IsUnsaidBy (IsTold found) result }
+{
+    match why {
+        NoChanges::Said { line, .. } => Unsaid::Line(line),
+        NoChanges::NoMemory => Unsaid::NoMemory,
+    }
+}
+
+// What a book tells of a cell.
+fn told_of(alloc: Global, book: &Book, telling: Telling, cell: &Text) -> Result<Text, Unsaid>
+    requires { book.now.waiting ≡ None }
+    ensures ok { IfOk result (λ text. IsTold (told_text telling book.now.core book.now.policy book.now.history cell.now) (Ok text)) }
+    ensures err { IfErr result (IsUnsaidBy (IsTold (told_text telling book.now.core book.now.policy book.now.history cell.now))) }
+{
+    match found_of(alloc, book, telling, cell) {
+        Ok(text) => Ok(text),
+        Err(why) => Err(untold(why)),
     }
 }
 
@@ -119,5 +119,5 @@ pub fn tell<F: Folder, S: Store, O: Sink>(
         Err(report) => return report,
     };
     let told = told_of(alloc, &started.value, telling, cell);
-    put_told(alloc, started.message, told, out)
+    put_said(alloc, started.message, b"cell: ", told, out)
 }

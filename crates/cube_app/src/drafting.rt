@@ -4,7 +4,7 @@ ghost use Rattle.cube_io.specs.Seen.{seen};
 ghost use Rattle.cube_opening.specs.Causes.{HasCauses, of_listing};
 ghost use Rattle.cube_app.specs.Drafting.{DraftRun, Undrafted, text_in};
 
-use crate::run::print;
+use crate::saying::print;
 use cube_draft::{Draft, DraftFault, draft_files, fault_text};
 use cube_io::{Folder, Sink};
 use cube_model::Text;

@@ -11,6 +11,7 @@ mod making;
 mod noting;
 mod reasons;
 mod run;
+mod saying;
 mod summary;
 
 ghost use Rattle.std.specs.Prelude.{◌≡◌, IfOk};

@@ -1,19 +1,18 @@
 // Why a query is refused, and whether a text says so.
 ghost use Rattle.std.specs.Prelude.{◌≡◌, ◌≢◌, ◌⊎◌, ◌≤◌, ◌+◌, ◌↔◌, ◌++◌, ◌∷◌, ℕ, List, [], None, true, IsTrue, IfOk, IfErr, IfSome, OnOk, IsOk, Ok, codes};
-ghost use Rattle.cube_model.specs.Cores as cores;
 ghost use Rattle.cube_model.specs.Cores.{shown};
 ghost use Rattle.cube_model.specs.Verdicts.{verdict as verdict_of};
 ghost use Rattle.cube_io.specs.Seen.{seen};
 ghost use Rattle.cube_query.specs.Canonical.{is_request};
 ghost use Rattle.cube_query.specs.Faults.{request_of};
 ghost use Rattle.cube_reason.specs.Showing.{IsWhy, Shows};
-ghost use Rattle.cube_opening.specs.Causes.{HasCauses, of_command, only_out};
+ghost use Rattle.cube_opening.specs.Causes.{HasCauses, of_command};
 ghost use Rattle.cube_opening.specs.Opening.{AskedFor, EndsAt, FileSays, Reads};
-ghost use Rattle.cube_app.specs.Reasons.{Accepts, IsWhyOf, IsWhetherOf, IsUnread, IsUnsaid, SaysSo, WhyEnds, WhyCompletes, WhetherEnds, WhetherCompletes, ReasonRun, accepted_text, reason_said};
+ghost use Rattle.cube_app.specs.Reasons.{Accepts, IsWhyOf, IsWhetherOf, IsUnread, IsUnsaid, WhyEnds, WhyCompletes, WhetherEnds, WhetherCompletes, ReasonRun, accepted_text, reason_said};
 ghost use Rattle.cube_serving.specs.Grouping.{OnlyFirst};
 ghost use Rattle.cube_serving.specs.Starting.{AsksStore};
 
-use crate::run::print;
+use crate::saying::{Unsaid, put_said};
 use cube_engine::Book;
 use cube_io::{Folder, Sink, Store};
 use cube_model::{NoMemory, Request, Text};
@@ -25,20 +24,12 @@ use cube_reason::{accept_text, why_text};
 use cube_serving::open_book;
 use std::alloc::Global;
 
-/// Why nothing is said of a query.
-#[derive(Drop)]
-pub enum Unsaid {
-    /// It is no query, by this line.
-    Query(Text),
-    NoMemory,
-}
-
 // The line on a text that is no query.
 fn unread(alloc: Global, fault: RequestFault) -> Unsaid
     ensures { IsUnread fault result }
 {
     match fault.body(alloc) {
-        Ok(line) => Unsaid::Query(line),
+        Ok(line) => Unsaid::Line(line),
         Err(_) => Unsaid::NoMemory,
     }
 }
@@ -155,29 +146,6 @@ fn whether_of(alloc: Global, book: Book, query: &Text, reason: &Text) -> Result<
     }
 }
 
-// Puts what is said of a query.
-fn put_said<O: Sink>(
-    alloc: Global,
-    message: Message,
-    said: Result<Text, Unsaid>,
-    out: &mut O,
-) -> Report
-    requires { message ≡ [] }
-    ensures says { SaysSo said (seen O.state out.old out.new) result }
-    ensures accepted { (core : cores.Core) (query : List ℕ) → IfErr said (IsUnsaid core query) → IsOk (request_of core.dims query) → result.status ≢ 3 }
-    ensures causes { HasCauses (only_out (seen O.state out.old out.new)) result }
-    ensures status { (result.status ≡ 0) ⊎ (result.status ≡ 3) ⊎ (result.status ≡ 6) ⊎ (result.status ≡ 7) }
-    ensures outcomes { result.outcomes ≡ [] }
-{
-    match said {
-        Ok(text) => print(alloc, message, text.as_slice(), out),
-        Err(Unsaid::Query(line)) => refuse_line(alloc, b"query: ", &line),
-        Err(Unsaid::NoMemory) => message
-            .with(b"no memory\n")
-            .close(alloc, statuses::NO_MEMORY),
-    }
-}
-
 // Puts why a query is refused behind the history that the journal holds: the line of the refusal and behind it the lines of a
 // reason, or that it is admitted.
 fn why<F: Folder, S: Store, O: Sink>(
@@ -208,7 +176,7 @@ fn why<F: Folder, S: Store, O: Sink>(
         Err(report) => return report,
     };
     let said = why_of(alloc, started.value, query);
-    put_said(alloc, started.message, said, out)
+    put_said(alloc, started.message, b"query: ", said, out)
 }
 
 // Reads the file of a reason.
@@ -265,7 +233,7 @@ fn check_reason<F: Folder, S: Store, O: Sink>(
         Err(report) => return report,
     };
     let said = whether_of(alloc, started.value, query, &read.value);
-    put_said(alloc, started.message, said, out)
+    put_said(alloc, started.message, b"query: ", said, out)
 }
 
 /// Puts why a query is refused behind the history that the journal holds; or, where the file of a reason is named, whether its

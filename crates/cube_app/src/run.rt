@@ -22,6 +22,7 @@ use crate::cells::{Telling, tell};
 use crate::drafting::draft;
 use crate::making::show;
 use crate::reasons::say_why;
+use crate::saying::{print, put_text};
 use crate::summary::check_text;
 use cube_io::{Folder, Sink, Source, Store, Wire};
 use cube_model::{NoMemory, Text};
@@ -64,22 +65,6 @@ fn refuse_words(alloc: Global, words: &[Text], usage: Usage) -> Report
     match usage_text(alloc, words, usage) {
         Ok(text) => with_text(alloc, statuses::WRONG_WORDS, text),
         Err(_) => no_message(alloc),
-    }
-}
-
-/// Puts a text.
-pub fn print<O: Sink>(alloc: Global, message: Message, text: &[u8], out: &mut O) -> Report
-    requires { message ≡ [] }
-    ensures prints { Prints text.now (seen O.state out.old out.new) result }
-    ensures causes { HasCauses (only_out (seen O.state out.old out.new)) result }
-    ensures status { (result.status ≡ 0) ⊎ (result.status ≡ 6) }
-    ensures outcomes { result.outcomes ≡ [] }
-{
-    match out.put(text) {
-        Ok(()) => message.close(alloc, statuses::DONE),
-        Err(_) => message
-            .with(b"output failed\n")
-            .close(alloc, statuses::OUTPUT_FAILED),
     }
 }
 
@@ -178,13 +163,8 @@ fn check<F: Folder, O: Sink>(
         Ok(opened) => opened,
         Err(report) => return report,
     };
-    match check_text(alloc, &opened.value.core, &opened.value.policy) {
-        Ok(text) => print(alloc, opened.message, text.as_slice(), out),
-        Err(_) => opened
-            .message
-            .with(b"no memory\n")
-            .close(alloc, statuses::NO_MEMORY),
-    }
+    let text = check_text(alloc, &opened.value.core, &opened.value.policy);
+    put_text(alloc, opened.message, text, out)
 }
 
 fn report_asks(message: Message, end: TalkEnd, groups: Groups) -> Report

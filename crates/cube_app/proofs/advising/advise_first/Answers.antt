@@ -28,7 +28,7 @@ returns-clause-answers g c =
         bytes = read.workload;
         said = c.in-Ok.ensures.said;
         is = is_advice core policy [] c.dims-rules.ensures.rules c.in-Ok.ensures.rules tt;
-        puts = c.put_advice.ensures.puts (first_text core policy read.workload) c.told_first-text.ensures;
+        puts = c.put_text.ensures.puts (first_text core policy read.workload) c.told_first-text.ensures;
       },
       c.in-Ok.ensures.behind,
     )
@@ -37,4 +37,4 @@ pub returns-in-Err-clause-causes : goal.returns-in-Err-clause-causes
 returns-in-Err-clause-causes g c = wider same (λ e. e) same (alone refl) same (at_file (at_advised c.args.cube.now c.args.workload.now (seen g.F.Folder.state c.args.files.now c.open_advisable.new.files) c.in-Err.report c.in-Err.ensures.err) c.in-Err.ensures.steady_err)
 
 pub returns-clause-causes : goal.returns-clause-causes
-returns-clause-causes g c = wider (alone c.in-Ok.ensures.steady) (λ e. e) same same same c.put_advice.ensures.causes
+returns-clause-causes g c = wider (alone c.in-Ok.ensures.steady) (λ e. e) same same same c.put_text.ensures.causes

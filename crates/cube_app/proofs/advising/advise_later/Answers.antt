@@ -32,15 +32,15 @@ returns-clause-answers g c =
     let y = c.in-Ok-open_book.ensures in
     let book = c.in-Ok-open_book.started.value in
     let files = g.F.Folder.state c.args.files.now in
-    let out = seen g.O.Sink.state c.args.out.now c.put_advice.new.out in
+    let out = seen g.O.Sink.state c.args.out.now c.put_text.new.out in
     let rules = y.begun.started.rules in
     inr (inr (
       said_by c.args.cube.now files guarded.core guarded.policy (seen g.S.Store.state c.args.store.now c.open_book.new.store) book
-          (AdvisesBehind c.args.workload.now files out c.put_advice.result) c.in-Ok.ensures.ok.1 y.begun y.held y.passed (record {
+          (AdvisesBehind c.args.workload.now files out c.put_text.result) c.in-Ok.ensures.ok.1 y.begun y.held y.passed (record {
             bytes = read.workload;
             said = c.in-Ok.ensures.said;
             is = is_advice book.core book.policy book.history rules.core rules.policy rules.admissible;
-            puts = c.put_advice.ensures.puts (later_text book.core book.policy book.history read.workload) c.told_behind-text.ensures;
+            puts = c.put_text.ensures.puts (later_text book.core book.policy book.history read.workload) c.told_behind-text.ensures;
           }),
       c.in-Ok.ensures.behind,
     ))
@@ -52,7 +52,7 @@ pub returns-in-Err-open_book-clause-causes : goal.returns-in-Err-open_book-claus
 returns-in-Err-open_book-clause-causes g c = wider (alone c.in-Ok.ensures.steady) (λ e. e) same (alone refl) same (at_journals c.in-Ok.opened.value.guarded.core (under c.in-Ok.opened.value.guarded.policy) (seen g.S.Store.state c.args.store.now c.open_book.new.store) c.in-Err-open_book.report c.in-Err-open_book.ensures.err.unstarted)
 
 pub returns-clause-causes : goal.returns-clause-causes
-returns-clause-causes g c = wider (alone c.in-Ok.ensures.steady) (never _) same same same c.put_advice.ensures.causes
+returns-clause-causes g c = wider (alone c.in-Ok.ensures.steady) (never _) same same same c.put_text.ensures.causes
 
 pub returns-in-Err-open_book-clause-complete : goal.returns-in-Err-open_book-clause-complete
 returns-in-Err-open_book-clause-complete g c = λ all has kept files store out.

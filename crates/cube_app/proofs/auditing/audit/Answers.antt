@@ -2,12 +2,13 @@ use Rattle.std.proofs.Common.{◌∙◌, ◌++◌, ◌∷◌, [], ℕ, List, Opt
 use Rattle.std.specs.Prelude.{IfSome, codes}
 use Rattle.cube_io.specs.Seen.{seen}
 use Rattle.cube_opening.specs.Opening.{FileSays, names_of}
-use Rattle.cube_opening.specs.Reports.{Prints}
+use Rattle.cube_audit.specs.Audits.{audited}
+use Rattle.cube_audit.specs.AuditText.{audited_text}
 use Rattle.cube_opening.proofs.Accepted.{all_accepted, last_accepted}
 use Rattle.cube_opening.proofs.Behind.{asked_then, ends_behind}
 use Rattle.cube_opening.proofs.Ended.{one_unasked, unasked}
 use Rattle.cube_app.specs.Auditing.{transcript_said}
-use Rattle.cube_opening.proofs.Causes.{same, alone, later, wider, no_memory, at_file, at_files, at_one}
+use Rattle.cube_opening.proofs.Causes.{same, alone, later, wider, at_file, at_files, at_one}
 use Rattle.cube_app.proofs.auditing.audit.Goals as goal
 
 pub returns-in-Err-clause-answers : goal.returns-in-Err-clause-answers
@@ -41,30 +42,11 @@ returns-in-Err-open_transcript-clause-complete g c = λ all has files out.
 pub returns-in-Err-open_transcript-clause-outcomes : goal.returns-in-Err-open_transcript-clause-outcomes
 returns-in-Err-open_transcript-clause-outcomes g c = one_unasked transcript_said c.args.transcript.now (seen g.F.Folder.state c.open_guarded.new.files c.open_transcript.new.files) c.in-Err-open_transcript.report c.in-Err-open_transcript.ensures.err.unopened
 
-pub returns-in-Ok-line_of-clause-answers : goal.returns-in-Ok-line_of-clause-answers
-returns-in-Ok-line_of-clause-answers g c =
-    let x = c.in-Ok.ensures in
-    let z = c.in-Ok-open_transcript.ensures in
-    let items = c.in-Ok-open_transcript.read.value in
-    inr (inr (
-      record {
-        core = c.in-Ok.opened.value.core;
-        policy = c.in-Ok.opened.value.policy;
-        items = items;
-        files_make = x.ok.1;
-        items_are = subst (λ (fs : Option (List (List ℕ × List ℕ))). IfSome fs (λ known. FileSays transcript_said c.args.transcript.now known (Ok items))) x.reads.files z.ok.1;
-        printed = inl (subst (λ text. Prints text (seen g.O.Sink.state c.args.out.now c.print.new.out) c.print.result) (c.as_slice.ensures ∙ c.in-Ok-line_of.ensures.line) c.print.ensures.prints);
-        sound = c.line_of.ensures.sound;
-      },
-      record { asked = asked_then (names_of c.args.cube.now) (c.args.transcript.now ∷ []) g.F.Folder.state c.args.files.now c.open_guarded.new.files c.open_transcript.new.files x.behind.asked z.asks; steady = z.reads.steady ∙ x.behind.steady },
-    ))
-
 pub returns-clause-answers : goal.returns-clause-answers
 returns-clause-answers g c =
     let x = c.in-Ok.ensures in
     let z = c.in-Ok-open_transcript.ensures in
     let items = c.in-Ok-open_transcript.read.value in
-    let e = c.close.ensures in
     inr (inr (
       record {
         core = c.in-Ok.opened.value.core;
@@ -72,8 +54,8 @@ returns-clause-answers g c =
         items = items;
         files_make = x.ok.1;
         items_are = subst (λ (fs : Option (List (List ℕ × List ℕ))). IfSome fs (λ known. FileSays transcript_said c.args.transcript.now known (Ok items))) x.reads.files z.ok.1;
-        printed = inr ((e.0, e.1, e.2 ∙ c.with.ensures ∙ ap (λ (t : List ℕ). t ++ codes "no memory\n") z.ok.0), refl);
-        sound = c.line_of.ensures.sound;
+        printed = c.put_text.ensures.puts (audited_text c.in-Ok.opened.value.core.dims (audited c.in-Ok.opened.value.core c.in-Ok.opened.value.policy items)) c.line_of-line.ensures.line;
+        sound = c.line_of-line.ensures.sound;
       },
       record { asked = asked_then (names_of c.args.cube.now) (c.args.transcript.now ∷ []) g.F.Folder.state c.args.files.now c.open_guarded.new.files c.open_transcript.new.files x.behind.asked z.asks; steady = z.reads.steady ∙ x.behind.steady },
     ))
@@ -84,8 +66,5 @@ returns-in-Err-clause-causes g c = wider same (λ e. e) same (alone refl) same (
 pub returns-in-Err-open_transcript-clause-causes : goal.returns-in-Err-open_transcript-clause-causes
 returns-in-Err-open_transcript-clause-causes g c = wider (later c.in-Ok.ensures.reads.steady refl) (λ e. e) same (alone refl) same (at_file (at_one transcript_said c.args.transcript.now (seen g.F.Folder.state c.open_guarded.new.files c.open_transcript.new.files) _ c.in-Err-open_transcript.ensures.err.unopened) c.in-Err-open_transcript.ensures.reads.steady_err)
 
-pub returns-in-Ok-line_of-clause-causes : goal.returns-in-Ok-line_of-clause-causes
-returns-in-Ok-line_of-clause-causes g c = wider (alone (c.in-Ok-open_transcript.ensures.reads.steady ∙ c.in-Ok.ensures.reads.steady)) (λ e. e) same same same c.print.ensures.causes
-
 pub returns-clause-causes : goal.returns-clause-causes
-returns-clause-causes g c = no_memory c.close.ensures.0 (record { files = c.in-Ok-open_transcript.ensures.reads.steady ∙ c.in-Ok.ensures.reads.steady; input = refl; out = refl; wire = refl })
+returns-clause-causes g c = wider (alone (c.in-Ok-open_transcript.ensures.reads.steady ∙ c.in-Ok.ensures.reads.steady)) (λ e. e) same same same c.put_text.ensures.causes

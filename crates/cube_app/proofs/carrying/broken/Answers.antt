@@ -3,7 +3,7 @@ use Rattle.cube_answers.specs.VerdictText.{unprotected}
 use Rattle.cube_carrying.specs.Telling.{breach_text}
 use Rattle.cube_opening.proofs.Behind.{if_ok}
 use Rattle.cube_app.specs.Carrying.{IsUncarried, handing_of}
-use Rattle.cube_app.specs.declared.carrying.Uncarried.TheVariants.{Line}
+use Rattle.cube_app.specs.declared.saying.Unsaid.TheVariants.{Line}
 use Rattle.cube_app.proofs.carrying.broken.Goals as goal
 
 pub returns : goal.returns

@@ -1,3 +1,4 @@
+use Rattle.std.specs.Prelude.{codes}
 use Rattle.std.proofs.Common.{◌∙◌, inl, inr, refl, sym, subst}
 use Rattle.cube_model.specs.declared.policy.Policy.{Policy}
 use Rattle.cube_model.specs.Cores.{Core}
@@ -6,9 +7,11 @@ use Rattle.cube_opening.specs.Opening.{names_of}
 use Rattle.cube_opening.proofs.Accepted.{all_accepted}
 use Rattle.cube_opening.proofs.Behind.{asked_then}
 use Rattle.cube_opening.proofs.Ended.{unasked}
-use Rattle.cube_app.specs.Carrying.{Handing, HandsOver, IsHanded, handing_of}
+use Rattle.cube_app.specs.Carrying.{Handing, HandsOver, IsCarryOf, IsHanded, handing_of}
 use Rattle.cube_app.proofs.Behind.{said_by}
-use Rattle.cube_app.proofs.Handing.{hands_by, done_by, make_before, has_then, calm_then}
+use Rattle.cube_app.proofs.Handed.{not_uncarried}
+use Rattle.cube_app.proofs.Handing.{make_before, has_then, calm_then}
+use Rattle.cube_app.proofs.Said.{done_by, not_refused, says_by}
 use Rattle.cube_opening.proofs.Causes.{same, alone, later, never, wider, at_file, at_files}
 use Rattle.cube_serving.proofs.Causes.{at_journals}
 use Rattle.cube_serving.specs.OneCube.{under}
@@ -24,7 +27,7 @@ returns-clause-answers g c =
     let book = c.in-Ok-open_book.started.value in
     let now = g.F.Folder.state c.args.files.now in
     let then = g.F.Folder.state c.open_guarded.new.files in
-    let out = seen g.O.Sink.state c.args.out.now c.put_carried.new.out in
+    let out = seen g.O.Sink.state c.args.out.now c.put_said.new.out in
     let new = c.in-Ok.opened.value in
     let make = make_before c.args.older.now now then guarded.core guarded.policy x.reads.files z.ok.1 in
     inr (inr (
@@ -33,8 +36,8 @@ returns-clause-answers g c =
         new_policy = new.policy;
         files_make = x.ok.1;
         hands = said_by c.args.older.now now guarded.core guarded.policy (seen g.S.Store.state c.args.store.now c.open_book.new.store) book
-            (λ core policy h. HandsOver (record { older = core; older_policy = policy; history = h; core = new.core; policy = new.policy }) out c.put_carried.result) make y.begun y.held y.passed
-            (hands_by (handing_of book new.core new.policy) c.carried_over-said.result out c.put_carried.result c.carried_over-said.ensures.ok c.carried_over-said.ensures.err c.put_carried.ensures.hands);
+            (λ core policy h. HandsOver (record { older = core; older_policy = policy; history = h; core = new.core; policy = new.policy }) out c.put_said.result) make y.begun y.held y.passed
+            (says_by (codes "carry: ") (IsCarryOf (handing_of book new.core new.policy)) c.carried_over-said.result out c.put_said.result c.carried_over-said.ensures.ok c.carried_over-said.ensures.err c.put_said.ensures.says);
       },
       record { asked = asked_then (names_of c.args.cube.now) (names_of c.args.older.now) g.F.Folder.state c.args.files.now c.open_guarded.new.files c.open_guarded-2.new.files x.behind.asked z.behind.asked; steady = z.reads.steady ∙ x.behind.steady },
     ))
@@ -108,8 +111,9 @@ returns-clause-complete g c = λ all has kept can files store out.
     let handing : Core → Policy → Handing = λ core policy. record { older = core; older_policy = policy; history = book.history; core = new.core; policy = new.policy } in
     let handed = can (handing guarded.core guarded.policy) x.ok.1 make (y.begun.started.history kept.told) in
     let is_handed = subst (λ (core : Core). IsHanded (handing core book.policy)) (sym y.begun.started.core_is) (subst (λ (policy : Policy). IsHanded (handing guarded.core policy)) (sym y.begun.started.policy) handed) in
-    let w = c.put_carried.ensures in
-    done_by c.put_carried.result.status w.status (w.accepted (handing_of book new.core new.policy) c.carried_over-said.ensures.err is_handed) (λ six. out (w.causes.output six))
+    let w = c.put_said.ensures in
+    let x = handing_of book new.core new.policy in
+    done_by c.put_said.result.status w.status (λ three. not_refused (IsCarryOf x) c.carried_over-said.result c.carried_over-said.ensures.err (not_uncarried x is_handed) (w.refused three)) (λ six. out (w.causes.output six))
 
 pub returns-in-Err-clause-causes : goal.returns-in-Err-clause-causes
 returns-in-Err-clause-causes g c = wider same (never _) same (alone refl) same (at_file (at_files c.args.cube.now (seen g.F.Folder.state c.args.files.now c.open_guarded.new.files) c.in-Err.report c.in-Err.ensures.err) c.in-Err.ensures.reads.steady_err)
@@ -121,7 +125,7 @@ pub returns-in-Err-open_book-clause-causes : goal.returns-in-Err-open_book-claus
 returns-in-Err-open_book-clause-causes g c = wider (alone (c.in-Ok-open_guarded.ensures.reads.steady ∙ c.in-Ok.ensures.reads.steady)) (λ e. e) same (alone refl) same (at_journals c.in-Ok-open_guarded.guarded.value.core (under c.in-Ok-open_guarded.guarded.value.policy) (seen g.S.Store.state c.args.store.now c.open_book.new.store) c.in-Err-open_book.report c.in-Err-open_book.ensures.err.unstarted)
 
 pub returns-clause-causes : goal.returns-clause-causes
-returns-clause-causes g c = wider (alone (c.in-Ok-open_guarded.ensures.reads.steady ∙ c.in-Ok.ensures.reads.steady)) (never _) same same same c.put_carried.ensures.causes
+returns-clause-causes g c = wider (alone (c.in-Ok-open_guarded.ensures.reads.steady ∙ c.in-Ok.ensures.reads.steady)) (never _) same same same c.put_said.ensures.causes
 
 pub returns-in-Err-open_book-clause-complete : goal.returns-in-Err-open_book-clause-complete
 returns-in-Err-open_book-clause-complete g c = λ all has kept can files store out.

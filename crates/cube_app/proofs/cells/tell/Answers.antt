@@ -2,17 +2,18 @@ use Rattle.std.proofs.Common.{inl, inr, refl, subst, sym}
 use Rattle.cube_io.specs.Seen.{seen}
 use Rattle.cube_opening.proofs.Accepted.{all_accepted}
 use Rattle.cube_opening.proofs.Ended.{unasked}
-use Rattle.cube_app.specs.Cells.{Tells, KeepsIf, told_text}
+use Rattle.cube_app.specs.Cells.{IsTold, KeepsIf, told_text}
+use Rattle.cube_app.specs.Saying.{SaysOne}
 use Rattle.cube_app.proofs.Behind.{said_by}
 use Rattle.cube_app.proofs.Compacts.{keeps_if}
 use Rattle.cube_opening.proofs.Causes.{same, alone, never, wider, at_file, at_files}
 use Rattle.cube_serving.proofs.Causes.{at_journals}
 use Rattle.cube_serving.specs.OneCube.{under}
 use Rattle.cube_serving.proofs.Unstarted as unstarted
-use Rattle.cube_app.proofs.Handing.{done_by}
+use Rattle.cube_app.proofs.Said.{done_by, not_refused, not_untold, says_by}
 use Rattle.cube_model.specs.declared.policy.Policy.{Policy}
 use Rattle.cube_model.specs.Cores.{Core}
-use Rattle.std.specs.Prelude.{IsOk}
+use Rattle.std.specs.Prelude.{IsOk, codes}
 use Rattle.cube_app.proofs.cells.tell.Goals as goal
 
 pub returns-clause-answers : goal.returns-clause-answers
@@ -22,11 +23,11 @@ returns-clause-answers g c =
     let book = c.in-Ok-open_book.started.value in
     let cell = c.args.cell.now in
     let what = c.args.telling in
-    let out = seen g.O.Sink.state c.args.out.now c.put_told.new.out in
-    let tells = c.put_told.ensures.tells (told_text what book.core book.policy book.history cell) c.told_of-told.ensures.ok c.told_of-told.ensures.err in
+    let out = seen g.O.Sink.state c.args.out.now c.put_said.new.out in
+    let tells = says_by (codes "cell: ") (IsTold (told_text what book.core book.policy book.history cell)) c.told_of-told.result out c.put_said.result c.told_of-told.ensures.ok c.told_of-told.ensures.err c.put_said.ensures.says in
     inr (
       said_by c.args.cube.now (g.F.Folder.state c.args.files.now) guarded.core guarded.policy (seen g.S.Store.state c.args.store.now c.open_book.new.store) book
-          (λ core policy h. Tells (told_text what core policy h cell) out c.put_told.result × KeepsIf what core policy h)
+          (λ core policy h. SaysOne (codes "cell: ") (IsTold (told_text what core policy h cell)) out c.put_said.result × KeepsIf what core policy h)
           c.in-Ok.ensures.ok.1 y.begun y.held y.passed (tells, keeps_if what book y.begun.started.rules),
       c.in-Ok.ensures.behind,
     )
@@ -52,7 +53,7 @@ pub returns-in-Err-open_book-clause-causes : goal.returns-in-Err-open_book-claus
 returns-in-Err-open_book-clause-causes g c = wider (alone c.in-Ok.ensures.reads.steady) (λ e. e) same (alone refl) same (at_journals c.in-Ok.opened.value.core (under c.in-Ok.opened.value.policy) (seen g.S.Store.state c.args.store.now c.open_book.new.store) c.in-Err-open_book.report c.in-Err-open_book.ensures.err.unstarted)
 
 pub returns-clause-causes : goal.returns-clause-causes
-returns-clause-causes g c = wider (alone c.in-Ok.ensures.reads.steady) (never _) same same same c.put_told.ensures.causes
+returns-clause-causes g c = wider (alone c.in-Ok.ensures.reads.steady) (never _) same same same c.put_said.ensures.causes
 
 pub returns-in-Err-open_book-clause-complete : goal.returns-in-Err-open_book-clause-complete
 returns-in-Err-open_book-clause-complete g c = λ all kept can files store out.
@@ -69,5 +70,5 @@ returns-clause-complete g c = λ all kept can files store out.
     let text = λ (core : Core) (policy : Policy). told_text c.args.telling core policy book.history c.args.cell.now in
     let there = can guarded.core guarded.policy book.history c.in-Ok.ensures.ok.1 (begun.history kept.told) in
     let is_there = subst (λ (core : Core). IsOk (text core book.policy)) (sym begun.core_is) (subst (λ (policy : Policy). IsOk (text guarded.core policy)) (sym begun.policy) there) in
-    let w = c.put_told.ensures in
-    done_by c.put_told.result.status w.status (w.accepted (text book.core book.policy) c.told_of-told.ensures.err is_there) (λ six. out (w.causes.output six))
+    let w = c.put_said.ensures in
+    done_by c.put_said.result.status w.status (λ three. not_refused (IsTold (text book.core book.policy)) c.told_of-told.result c.told_of-told.ensures.err (not_untold (text book.core book.policy) is_there) (w.refused three)) (λ six. out (w.causes.output six))

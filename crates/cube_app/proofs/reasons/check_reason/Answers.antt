@@ -5,14 +5,13 @@ use Rattle.cube_opening.specs.Opening.{FileSays, names_of}
 use Rattle.cube_opening.proofs.Accepted.{all_accepted}
 use Rattle.cube_opening.proofs.Behind.{asked_then, ends_behind}
 use Rattle.cube_opening.proofs.Ended.{unasked}
-use Rattle.cube_app.specs.Reasons.{IsWhetherOf, SaysOfFile, reason_said}
+use Rattle.cube_app.specs.Reasons.{IsWhetherOf, SaysOfFile, of_query, reason_said}
 use Rattle.cube_app.proofs.Behind.{said_by}
-use Rattle.cube_app.proofs.Said.{says_by}
+use Rattle.cube_app.proofs.Said.{done_by, not_refused, not_unasked, says_by}
 use Rattle.cube_opening.proofs.Causes.{same, alone, later, never, wider, at_file, at_files, at_one}
 use Rattle.cube_serving.proofs.Causes.{at_journals}
 use Rattle.cube_serving.specs.OneCube.{under}
 use Rattle.cube_serving.proofs.Unstarted as unstarted
-use Rattle.cube_app.proofs.Handing.{done_by}
 use Rattle.cube_model.specs.Cores.{Core}
 use Rattle.cube_query.specs.Faults.{request_of}
 use Rattle.std.specs.Prelude.{IsOk}
@@ -70,7 +69,7 @@ returns-clause-answers g c =
           (SaysOfFile query c.args.reason.now files out c.put_said.result) x.ok.1 y.begun y.held y.passed (record {
             reason = reason;
             read = subst (λ (fs : Option (List (List ℕ × List ℕ))). IfSome fs (λ known. FileSays reason_said c.args.reason.now known (Ok reason))) x.reads.files z.ok.1;
-            says = says_by (IsWhetherOf book.core book.policy book.history query reason) book.core query c.whether_of-said.result out c.put_said.result (λ line is. is) c.whether_of-said.ensures.ok c.whether_of-said.ensures.err c.put_said.ensures.says;
+            says = says_by of_query (IsWhetherOf book.core book.policy book.history query reason) c.whether_of-said.result out c.put_said.result c.whether_of-said.ensures.ok c.whether_of-said.ensures.err c.put_said.ensures.says;
           }),
       record { asked = asked_then (names_of c.args.cube.now) (c.args.reason.now ∷ []) g.F.Folder.state c.args.files.now c.open_guarded.new.files c.open_reason.new.files x.behind.asked z.asks; steady = z.reads.steady ∙ x.behind.steady },
     ))
@@ -101,4 +100,5 @@ returns-clause-complete g c = λ all has kept asked files store out.
     let query = c.args.query.now in
     let is_there = subst (λ (core : Core). IsOk (request_of core.dims query)) (sym begun.core_is) (asked guarded.core guarded.policy c.in-Ok.ensures.ok.1) in
     let w = c.put_said.ensures in
-    done_by c.put_said.result.status w.status (w.accepted c.in-Ok-open_book.started.value.core query c.whether_of-said.ensures.err is_there) (λ six. out (w.causes.output six))
+    let book = c.in-Ok-open_book.started.value in
+    done_by c.put_said.result.status w.status (λ three. not_refused (IsWhetherOf book.core book.policy book.history query c.in-Ok-open_reason.read.value) c.whether_of-said.result c.whether_of-said.ensures.err (not_unasked book.core query is_there) (w.refused three)) (λ six. out (w.causes.output six))

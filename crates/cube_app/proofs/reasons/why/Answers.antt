@@ -2,14 +2,14 @@ use Rattle.std.proofs.Common.{inl, inr, refl, subst, sym}
 use Rattle.cube_io.specs.Seen.{seen}
 use Rattle.cube_opening.proofs.Accepted.{all_accepted}
 use Rattle.cube_opening.proofs.Ended.{unasked}
-use Rattle.cube_app.specs.Reasons.{IsWhyOf, SaysOne}
+use Rattle.cube_app.specs.Reasons.{IsWhyOf, of_query}
+use Rattle.cube_app.specs.Saying.{SaysOne}
 use Rattle.cube_app.proofs.Behind.{said_by}
-use Rattle.cube_app.proofs.Said.{says_by}
+use Rattle.cube_app.proofs.Said.{done_by, not_refused, not_unasked, says_by}
 use Rattle.cube_opening.proofs.Causes.{same, alone, never, wider, at_file, at_files}
 use Rattle.cube_serving.proofs.Causes.{at_journals}
 use Rattle.cube_serving.specs.OneCube.{under}
 use Rattle.cube_serving.proofs.Unstarted as unstarted
-use Rattle.cube_app.proofs.Handing.{done_by}
 use Rattle.cube_model.specs.Cores.{Core}
 use Rattle.cube_query.specs.Faults.{request_of}
 use Rattle.std.specs.Prelude.{IsOk}
@@ -24,8 +24,8 @@ returns-clause-answers g c =
     let out = seen g.O.Sink.state c.args.out.now c.put_said.new.out in
     inr (
       said_by c.args.cube.now (g.F.Folder.state c.args.files.now) guarded.core guarded.policy (seen g.S.Store.state c.args.store.now c.open_book.new.store) book
-          (λ core policy h. SaysOne (IsWhyOf core policy h query) out c.put_said.result) c.in-Ok.ensures.ok.1 y.begun y.held y.passed
-          (says_by (IsWhyOf book.core book.policy book.history query) book.core query c.why_of-said.result out c.put_said.result (λ line is. is) c.why_of-said.ensures.ok c.why_of-said.ensures.err c.put_said.ensures.says),
+          (λ core policy h. SaysOne of_query (IsWhyOf core policy h query) out c.put_said.result) c.in-Ok.ensures.ok.1 y.begun y.held y.passed
+          (says_by of_query (IsWhyOf book.core book.policy book.history query) c.why_of-said.result out c.put_said.result c.why_of-said.ensures.ok c.why_of-said.ensures.err c.put_said.ensures.says),
       c.in-Ok.ensures.behind,
     )
 
@@ -66,4 +66,5 @@ returns-clause-complete g c = λ all kept asked files store out.
     let query = c.args.query.now in
     let is_there = subst (λ (core : Core). IsOk (request_of core.dims query)) (sym begun.core_is) (asked guarded.core guarded.policy c.in-Ok.ensures.ok.1) in
     let w = c.put_said.ensures in
-    done_by c.put_said.result.status w.status (w.accepted c.in-Ok-open_book.started.value.core query c.why_of-said.ensures.err is_there) (λ six. out (w.causes.output six))
+    let book = c.in-Ok-open_book.started.value in
+    done_by c.put_said.result.status w.status (λ three. not_refused (IsWhyOf book.core book.policy book.history query) c.why_of-said.result c.why_of-said.ensures.err (not_unasked book.core query is_there) (w.refused three)) (λ six. out (w.causes.output six))
