@@ -104,12 +104,12 @@ third_of false false c is = is
 
 pub fails_sends : (script : List Arrival) (k : Kept) (len : ℕ) → IsReady script k → k.left.sends ≡ 0 → (k.overrun || passes_capacity_by k.most k.roll.log len) ≡ true
 fails_sends script k len r none =
-    let full : k.most.sends ≤ count_by is_sent k.roll.log = omega (arith, r.sends, none) in
+    let full : k.most.sends ≤ count_by is_sent k.roll.log = omega (arith, r.space.0, none) in
     second_of k.overrun (nat_le k.most.sends (count_by is_sent k.roll.log)) (nat_lt k.most.bytes (sum_by sent_size k.roll.log + len)) (le-leb k.most.sends (count_by is_sent k.roll.log) full)
 
 pub fails_bytes : (script : List Arrival) (k : Kept) (len : ℕ) → IsReady script k → k.left.bytes < len → (k.overrun || passes_capacity_by k.most k.roll.log len) ≡ true
 fails_bytes script k len r small =
-    let full : k.most.bytes + 1 ≤ sum_by sent_size k.roll.log + len = omega (arith, r.sent, small) in
+    let full : k.most.bytes + 1 ≤ sum_by sent_size k.roll.log + len = omega (arith, r.space.1, small) in
     third_of k.overrun (nat_le k.most.sends (count_by is_sent k.roll.log)) (nat_lt k.most.bytes (sum_by sent_size k.roll.log + len)) (le-leb (suc k.most.bytes) (sum_by sent_size k.roll.log + len) (omega (arith, full)))
 
 -- ---- the event that is played
@@ -175,8 +175,7 @@ ready_next script k e roll' r well at log entries bytes =
       entries = omega (arith, n, r.entries, entries);
       small = omega (arith, r.small, entries);
       bytes = omega (arith, b, r.bytes, bytes);
-      sends = rw (log, count) (omega (arith, r.sends));
-      sent = rw (log, size) (omega (arith, r.sent));
+      space = (rw (log, count) (omega (arith, r.space.0)), rw (log, size) (omega (arith, r.space.1)));
       torn = r.torn ∙ sym stays;
       steady = λ none dry more. r.steady (sym stays ∙ none) dry within;
     }
@@ -205,8 +204,7 @@ ready_sent script k c piece roll' r well some fits log entries bytes =
       entries = omega (arith, r.entries, entries, some);
       small = omega (arith, r.small, entries);
       bytes = omega (arith, r.bytes, bytes, fits);
-      sends = rw (log, count) (omega (arith, r.sends, some));
-      sent = rw (log, size) (omega (arith, r.sent, fits));
+      space = (rw (log, count) (omega (arith, r.space.0, some)), rw (log, size) (omega (arith, r.space.1, fits)));
       torn = r.torn ∙ sym stays;
       steady = λ none dry more. r.steady (sym stays ∙ none) dry more;
     }
@@ -241,8 +239,7 @@ ready_torn script k c len sf' roll' r sound fails rose log entries bytes =
       entries = omega (arith, r.entries, entries, pays, r.enough);
       small = omega (arith, r.small, entries);
       bytes = omega (arith, r.bytes, bytes);
-      sends = rw (log, count) (omega (arith, r.sends));
-      sent = rw (log, size) (omega (arith, r.sent));
+      space = (rw (log, count) (omega (arith, r.space.0)), rw (log, size) (omega (arith, r.space.1)));
       torn = sym now;
       steady = λ none dry more. absurd (no_way (sym now ∙ none));
     }
@@ -277,8 +274,7 @@ ready_shut script k c roll' r opens log entries bytes =
       entries = omega (arith, r.entries, entries, pays, r.enough);
       small = omega (arith, r.small, entries);
       bytes = omega (arith, r.bytes, bytes);
-      sends = rw (log, count) (omega (arith, r.sends));
-      sent = rw (log, size) (omega (arith, r.sent));
+      space = (rw (log, count) (omega (arith, r.space.0)), rw (log, size) (omega (arith, r.space.1)));
       torn = r.torn ∙ sym stays;
       steady = λ none dry more. r.steady (sym stays ∙ none) dry more;
     }
@@ -302,8 +298,7 @@ ready_fails script k f' r never = record {
   entries = r.entries;
   small = r.small;
   bytes = r.bytes;
-  sends = r.sends;
-  sent = r.sent;
+  space = (r.space.0, r.space.1);
   torn = r.torn;
   steady = λ none dry more. absurd (never (r.torn ∙ none) more);
 }
@@ -326,8 +321,7 @@ ready_spills script k f' r = record {
   entries = r.entries;
   small = r.small;
   bytes = r.bytes;
-  sends = r.sends;
-  sent = r.sent;
+  space = (r.space.0, r.space.1);
   torn = r.torn;
   steady = λ none dry more. absurd (no_way dry);
 }
@@ -373,8 +367,8 @@ playing script k heard r =
         broken = r.fails.broken;
       };
       events = (drop k.taken script, sym (take-append-drop k.taken script) ∙ ap (λ (l : List Arrival). l ++ drop k.taken script) (sym r.events));
-      sends = omega (arith, r.sends);
-      sent = omega (arith, r.sent);
+      sends = omega (arith, r.space.0);
+      sent = omega (arith, r.space.1);
       steady = λ none dry more. r.steady none dry (omega (arith, is, more));
     }
 
@@ -397,8 +391,7 @@ ready_start script events roll most is each none entries bytes small = record {
   entries = omega (arith, entries);
   small = small;
   bytes = omega (arith, bytes);
-  sends = rw none (omega arith);
-  sent = rw none (omega arith);
+  space = (rw none (omega arith), rw none (omega arith));
   torn = sym (ap has_torn none);
   steady = λ _ _ _. refl;
 }

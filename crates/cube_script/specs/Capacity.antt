@@ -59,8 +59,7 @@ pub record IsReady (script : List Arrival) (kept : Kept) : Type 0 where
   pub entries : sum_by entries_for (drop kept.taken script) + kept.left.sends + kept.owed ≤ kept.roll.entries_left
   pub small : kept.roll.entries_left < 2 ^ 64
   pub bytes : sum_by bytes_for (drop kept.taken script) + kept.left.bytes ≤ kept.roll.bytes_left
-  pub sends : count_by is_sent kept.roll.log + kept.left.sends ≡ kept.most.sends
-  pub sent : sum_by sent_size kept.roll.log + kept.left.bytes ≡ kept.most.bytes
+  pub space : (count_by is_sent kept.roll.log + kept.left.sends ≡ kept.most.sends) × (sum_by sent_size kept.roll.log + kept.left.bytes ≡ kept.most.bytes)
   pub torn : kept.overrun ≡ has_torn kept.roll.log
   pub steady : has_torn kept.roll.log ≡ false → kept.spilled ≡ false → kept.taken < length script → kept.faults ≡ 0
 
