@@ -17,3 +17,4 @@ pub mod Placed
 pub mod Lines
 pub mod Following
 pub mod Only
+pub mod Judged

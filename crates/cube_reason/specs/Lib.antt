@@ -1,5 +1,6 @@
 pub mod Views
 pub mod Given
+pub mod Cases
 pub mod Tied
 pub mod Stepped
 pub mod Made

@@ -8,11 +8,13 @@ ghost use Rattle.cube_model.specs.Protection as protection;
 ghost use Rattle.cube_model.specs.Reasons as said;
 ghost use Rattle.cube_model.specs.Requests.{grain, is_valid};
 ghost use Rattle.cube_model.specs.Verdicts.{narrowed, source};
+ghost use Rattle.cube_reason.specs.Cases.{public_of, IsCase};
 ghost use Rattle.cube_reason.specs.Given.{AreAllowed, RefusesWhere};
 ghost use Rattle.cube_reason.specs.Stepped.{ends_at};
 ghost use Rattle.cube_reason.specs.Views.{reason_view, steps_view, end_view};
 
-use crate::blocks::make_up;
+use crate::blocks::{are_same, blocks_of, is_protected};
+use crate::cases::Case;
 use crate::joints::joints_of;
 use crate::narrowing::next_source;
 use crate::stepping::{has_single, led};
@@ -20,42 +22,40 @@ use crate::ties::{Tie, ties};
 use crate::{End, Reason, WalkStep};
 use cube_core::Core;
 use cube_model::{Cell, Entry, Method, NoMemory, Policy, Request, What};
-use cube_source::guarded;
+use cube_source::{cutting_pair, guarded};
 use std::alloc::Global;
 
-/// Whether cells of the cuboid that the source would become make up the protected cell.
+/// Whether cells are those of the cuboid that the source would become, by key, that cover just the places of a protected cell.
 fn accept_blocks(
     alloc: Global,
-    core: &Core,
-    policy: &Policy,
-    history: &[Entry],
-    request: &Request,
+    case: &Case,
     measure: u32,
     cell: &Cell,
     blocks: &[Cell],
 ) -> Result<bool, NoMemory>
-    requires policy { IsPolicy core.now.dims policy.now }
-    requires measure { measure < length core.now.dims.measures }
-    requires allowed { AreAllowed (shown core.now policy.now) history.now }
-    requires valid { is_valid (shown core.now policy.now) request.now ≡ true }
-    ensures { IfOk result (λ taken. taken ≡ said.are_blocks (shown core.now policy.now) measure (narrowed (source history.now measure) (grain request.now)) cell.now blocks.now) }
+    requires case { IsCase case.now }
+    requires measure { measure < length case.now.core.now.dims.measures }
+    ensures { IfOk result (λ taken. taken ≡ said.are_blocks (public_of case.now) measure (narrowed (source case.now.history.now measure) (grain case.now.request.now)) cell.now blocks.now) }
 {
-    let levels = next_source(alloc, core, policy, history, request, measure)?;
-    make_up(alloc, core, policy, measure, &levels, cell, blocks)
+    if !is_protected(case.core, case.policy, measure, cell) {
+        return Ok(false);
+    }
+    let levels = next_source(alloc, case, measure)?;
+    match cutting_pair(alloc, case.core, &levels, cell)? {
+        Some(_) => Ok(false),
+        None => {
+            let own = blocks_of(alloc, case.core, &levels, cell)?;
+            Ok(are_same(own.as_slice(), blocks))
+        }
+    }
 }
 
 /// Whether a place is guarded.
-fn is_guarded(
-    alloc: Global,
-    core: &Core,
-    policy: &Policy,
-    measure: u32,
-    place: u32,
-) -> Result<bool, NoMemory>
-    requires policy { IsPolicy core.now.dims policy.now }
-    ensures { IfOk result (λ found. found ≡ protection.listed place (protection.guarded (shown core.now policy.now) measure)) }
+fn is_guarded(alloc: Global, case: &Case, measure: u32, place: u32) -> Result<bool, NoMemory>
+    requires case { IsCase case.now }
+    ensures { IfOk result (λ found. found ≡ protection.listed place (protection.guarded (public_of case.now) measure)) }
 {
-    let places = guarded(alloc, core, policy, measure)?;
+    let places = guarded(alloc, case.core, case.policy, measure)?;
     Ok(is_listed(places.as_slice(), place))
 }
 
@@ -86,25 +86,20 @@ fn ends(ties: &[Tie], start: u32, steps: &[WalkStep], end: Option<End>, at: u32)
 /// Whether steps and an end are a walk from a guarded place.
 fn accept_walk(
     alloc: Global,
-    core: &Core,
-    policy: &Policy,
-    history: &[Entry],
-    request: &Request,
+    case: &Case,
     measure: u32,
     place: u32,
     steps: &[WalkStep],
     end: Option<End>,
 ) -> Result<bool, NoMemory>
-    requires policy { IsPolicy core.now.dims policy.now }
-    requires allowed { AreAllowed (shown core.now policy.now) history.now }
-    requires valid { is_valid (shown core.now policy.now) request.now ≡ true }
-    ensures { IfOk result (λ taken. taken ≡ said.is_walk (shown core.now policy.now) history.now request.now measure place (steps_view steps.now) (end_view end)) }
+    requires case { IsCase case.now }
+    ensures { IfOk result (λ taken. taken ≡ said.is_walk (public_of case.now) case.now.history.now case.now.request.now measure place (steps_view steps.now) (end_view end)) }
 {
-    if !is_guarded(alloc, core, policy, measure, place)? {
+    if !is_guarded(alloc, case, measure, place)? {
         return Ok(false);
     }
-    let ties = ties(alloc, core, policy, history, request, measure)?;
-    let joints = joints_of(alloc, core.len(), ties.as_slice())?;
+    let ties = ties(alloc, case, measure)?;
+    let joints = joints_of(alloc, case.core.len(), ties.as_slice())?;
     match led(joints.as_slice(), place, steps) {
         None => Ok(false),
         Some(at) => Ok(ends(ties.as_slice(), place, steps, end, at)),
@@ -112,30 +107,17 @@ fn accept_walk(
 }
 
 /// Whether a reason is one for a request on a measure.
-fn accept_on(
-    alloc: Global,
-    core: &Core,
-    policy: &Policy,
-    history: &[Entry],
-    request: &Request,
-    measure: u32,
-    reason: &Reason,
-) -> Result<bool, NoMemory>
-    requires policy { IsPolicy core.now.dims policy.now }
-    requires measure { measure < length core.now.dims.measures }
-    requires allowed { AreAllowed (shown core.now policy.now) history.now }
-    requires valid { is_valid (shown core.now policy.now) request.now ≡ true }
-    ensures { IfOk result (λ taken. taken ≡ said.is_reason_by (protection.method (shown core.now policy.now) measure) (shown core.now policy.now) history.now request.now measure (reason_view reason.now)) }
+fn accept_on(alloc: Global, case: &Case, measure: u32, reason: &Reason) -> Result<bool, NoMemory>
+    requires case { IsCase case.now }
+    requires measure { measure < length case.now.core.now.dims.measures }
+    ensures { IfOk result (λ taken. taken ≡ said.is_reason_by (protection.method (public_of case.now) measure) (public_of case.now) case.now.history.now case.now.request.now measure (reason_view reason.now)) }
 {
-    match policy.method(measure) {
+    match case.policy.method(measure) {
         Method::Plain => Ok(false),
         Method::Lattice => match reason {
             Reason::Blocks { cell, blocks } => accept_blocks(
                 alloc,
-                core,
-                policy,
-                history,
-                request,
+                case,
                 measure,
                 cell,
                 blocks.as_slice(),
@@ -146,10 +128,7 @@ fn accept_on(
             Reason::Blocks { .. } => Ok(false),
             Reason::Walk { place, steps, end } => accept_walk(
                 alloc,
-                core,
-                policy,
-                history,
-                request,
+                case,
                 measure,
                 *place,
                 steps.as_slice(),
@@ -179,8 +158,14 @@ pub fn accept(
     ensures exact { IfOk result (λ taken. taken ≡ said.is_reason (shown core.now policy.now) history.now request.now (reason_view reason.now)) }
     ensures refuses { IfOk result (RefusesWhere (shown core.now policy.now) history.now request.now) }
 {
+    let case = Case {
+        core,
+        policy,
+        history,
+        request,
+    };
     match request.what {
         What::Count => Ok(false),
-        What::Measure(measure) => accept_on(alloc, core, policy, history, request, measure, reason),
+        What::Measure(measure) => accept_on(alloc, &case, measure, reason),
     }
 }

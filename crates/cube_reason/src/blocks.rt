@@ -38,7 +38,7 @@ fn all_same(a: &[Cell], b: &[Cell]) -> bool
 }
 
 /// Whether two lists of cells are one.
-fn are_same(a: &[Cell], b: &[Cell]) -> bool
+pub(crate) fn are_same(a: &[Cell], b: &[Cell]) -> bool
     ensures { result ≡ same_cells a.now b.now }
 {
     a.len() == b.len() && all_same(a, b)
@@ -109,38 +109,11 @@ pub(crate) fn blocks_of(
 }
 
 /// Whether a cell is a protected one of a measure. Its levels and its key may be any numbers.
-fn is_protected(core: &Core, policy: &Policy, measure: u32, cell: &Cell) -> bool
+pub(crate) fn is_protected(core: &Core, policy: &Policy, measure: u32, cell: &Cell) -> bool
     requires policy { IsPolicy core.now.dims policy.now }
     requires measure { measure < length core.now.dims.measures }
     ensures protected { result ≡ list_any (same_cell cell.now) (protected (shown core.now policy.now) measure) }
     ensures levels { result ≡ true → are_levels (plains core.now.dims) cell.now.levels ≡ true }
 {
     is_cuboid(core, cell.levels.as_slice()) && protects(core, policy, measure, cell)
-}
-
-/// Whether cells are those of a cuboid, by key, that cover just the places of a protected cell.
-pub(crate) fn make_up(
-    alloc: Global,
-    core: &Core,
-    policy: &Policy,
-    measure: u32,
-    levels: &Levels,
-    cell: &Cell,
-    blocks: &[Cell],
-) -> Result<bool, NoMemory>
-    requires policy { IsPolicy core.now.dims policy.now }
-    requires measure { measure < length core.now.dims.measures }
-    requires levels { are_levels (plains core.now.dims) levels.now ≡ true }
-    ensures { IfOk result (λ made. made ≡ said.are_blocks (shown core.now policy.now) measure levels.now cell.now blocks.now) }
-{
-    if !is_protected(core, policy, measure, cell) {
-        return Ok(false);
-    }
-    match cutting_pair(alloc, core, levels, cell)? {
-        Some(_) => Ok(false),
-        None => {
-            let own = blocks_of(alloc, core, levels, cell)?;
-            Ok(are_same(own.as_slice(), blocks))
-        }
-    }
 }

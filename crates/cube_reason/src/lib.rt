@@ -5,6 +5,7 @@
 
 mod accepting;
 mod blocks;
+mod cases;
 mod finding;
 mod joints;
 mod laws;

@@ -7,8 +7,10 @@ ghost use Rattle.cube_model.specs.Dims.{plains};
 ghost use Rattle.cube_model.specs.Entries.{is_allowed, levels_in};
 ghost use Rattle.cube_model.specs.Requests.{is_valid, grain as grain_of};
 ghost use Rattle.cube_model.specs.Verdicts as verdicts;
+ghost use Rattle.cube_reason.specs.Cases.{public_of, IsCase};
 ghost use Rattle.cube_reason.specs.Given.{AreAllowed, HasLevels};
 
+use crate::cases::Case;
 use cube_core::Core;
 use cube_lattice::{grain, narrow};
 use cube_model::{Entry, Levels, NoMemory, Policy, Request};
@@ -35,40 +37,26 @@ fn narrow_by(
 }
 
 /// The source that a history leaves of a measure.
-fn source_of(
-    alloc: Global,
-    core: &Core,
-    policy: &Policy,
-    history: &[Entry],
-    measure: u32,
-) -> Result<Option<Levels>, NoMemory>
-    requires allowed { AreAllowed (shown core.now policy.now) history.now }
-    ensures source { IfOk result (λ source. source ≡ verdicts.source history.now measure) }
-    ensures levels { IfOk result (λ source. HasLevels (plains core.now.dims) source) }
+fn source_of(alloc: Global, case: &Case, measure: u32) -> Result<Option<Levels>, NoMemory>
+    requires case { IsCase case.now }
+    ensures source { IfOk result (λ source. source ≡ verdicts.source case.now.history.now measure) }
+    ensures levels { IfOk result (λ source. HasLevels (plains case.now.core.now.dims) source) }
 {
     let mut source = None;
-    'entries: for entry in history {
+    'entries: for entry in case.history {
         if entry.is_on(measure) {
-            source = narrow_by(alloc, core, policy, source, entry)?;
+            source = narrow_by(alloc, case.core, case.policy, source, entry)?;
         }
     }
     Ok(source)
 }
 
 /// The cuboid that the source of a measure would become behind a history, by the grain of a request.
-pub(crate) fn next_source(
-    alloc: Global,
-    core: &Core,
-    policy: &Policy,
-    history: &[Entry],
-    request: &Request,
-    measure: u32,
-) -> Result<Levels, NoMemory>
-    requires allowed { AreAllowed (shown core.now policy.now) history.now }
-    requires valid { is_valid (shown core.now policy.now) request.now ≡ true }
-    ensures levels { IfOk result (λ levels. levels ≡ verdicts.narrowed (verdicts.source history.now measure) (grain_of request.now)) }
-    ensures there { IfOk result (λ levels. are_levels (plains core.now.dims) levels ≡ true) }
+pub(crate) fn next_source(alloc: Global, case: &Case, measure: u32) -> Result<Levels, NoMemory>
+    requires case { IsCase case.now }
+    ensures levels { IfOk result (λ levels. levels ≡ verdicts.narrowed (verdicts.source case.now.history.now measure) (grain_of case.now.request.now)) }
+    ensures there { IfOk result (λ levels. are_levels (plains case.now.core.now.dims) levels ≡ true) }
 {
-    let source = source_of(alloc, core, policy, history, measure)?;
-    Ok(narrow(source.as_ref(), grain(alloc, request)?))
+    let source = source_of(alloc, case, measure)?;
+    Ok(narrow(source.as_ref(), grain(alloc, case.request)?))
 }

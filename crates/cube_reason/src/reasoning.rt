@@ -8,6 +8,7 @@ ghost use Rattle.cube_model.specs.Reasons as said;
 ghost use Rattle.cube_model.specs.Requests.{grain, is_valid};
 ghost use Rattle.cube_model.specs.Verdicts.{narrowed, source, verdict as verdict_of, IsAdmissible};
 ghost use Rattle.cube_reason.specs.Found.{HasBlocks, WouldSource, Fixes, Refuses, IsAbout};
+ghost use Rattle.cube_reason.specs.Cases.{public_of, IsCase, IsJudged};
 ghost use Rattle.cube_reason.specs.Given.{AreAllowed};
 ghost use Rattle.cube_answers.specs.VerdictText.{CellFits};
 ghost use Rattle.cube_reason.specs.ReasonText.{CanBeTold};
@@ -15,6 +16,7 @@ ghost use Rattle.cube_reason.specs.Views.{reason_view};
 
 use crate::Reason;
 use crate::blocks::blocks_of;
+use crate::cases::Case;
 use crate::narrowing::next_source;
 use crate::walking::find_walk;
 use cube_core::Core;
@@ -32,50 +34,35 @@ fn copy_cell(alloc: Global, cell: &Cell) -> Result<Cell, NoMemory>
 }
 
 /// The cells of the cuboid that the source would become, which make up a cell.
-fn find_blocks(
-    alloc: Global,
-    core: &Core,
-    policy: &Policy,
-    history: &[Entry],
-    request: &Request,
-    measure: u32,
-    cell: &Cell,
-) -> Result<Cells, NoMemory>
-    requires policy { IsPolicy core.now.dims policy.now }
-    requires allowed { AreAllowed (shown core.now policy.now) history.now }
-    requires valid { is_valid (shown core.now policy.now) request.now ≡ true }
-    requires blocks { HasBlocks (shown core.now policy.now) history.now request.now measure cell.now }
-    ensures blocks { IfOk result (λ blocks. said.are_blocks (shown core.now policy.now) measure (narrowed (source history.now measure) (grain request.now)) cell.now blocks ≡ true) }
-    ensures told { IfOk result (All (CellFits core.now.dims)) }
+fn find_blocks(alloc: Global, case: &Case, measure: u32, cell: &Cell) -> Result<Cells, NoMemory>
+    requires case { IsCase case.now }
+    requires blocks { HasBlocks (public_of case.now) case.now.history.now case.now.request.now measure cell.now }
+    ensures blocks { IfOk result (λ blocks. said.are_blocks (public_of case.now) measure (narrowed (source case.now.history.now measure) (grain case.now.request.now)) cell.now blocks ≡ true) }
+    ensures told { IfOk result (All (CellFits case.now.core.now.dims)) }
 {
-    let _rules = core.dims();
-    let levels = next_source(alloc, core, policy, history, request, measure)?;
-    let blocks = blocks_of(alloc, core, &levels, cell)?;
+    let _rules = case.core.dims();
+    let levels = next_source(alloc, case, measure)?;
+    let blocks = blocks_of(alloc, case.core, &levels, cell)?;
     Ok(blocks)
 }
 
 /// The reason that blocks are.
 fn reason_by_blocks(
     alloc: Global,
-    core: &Core,
-    policy: &Policy,
-    history: &[Entry],
-    request: &Request,
+    case: &Case,
     measure: u32,
     verdict: &Verdict,
     cell: &Cell,
 ) -> Result<Reason, NoMemory>
-    requires policy { IsPolicy core.now.dims policy.now }
-    requires admissible { IsAdmissible (shown core.now policy.now) history.now }
-    requires valid { is_valid (shown core.now policy.now) request.now ≡ true }
-    requires what { request.now.what ≡ what.Measure measure }
-    requires verdict { verdict.now ≡ verdict_of (shown core.now policy.now) history.now request.now }
+    requires case { IsCase case.now }
+    requires what { case.now.request.now.what ≡ what.Measure measure }
+    requires judged { IsJudged case.now verdict.now }
     requires cell { WouldSource verdict.now cell.now }
-    ensures reason { IfOk result (λ reason. said.is_reason (shown core.now policy.now) history.now request.now (reason_view reason) ≡ true) }
+    ensures reason { IfOk result (λ reason. said.is_reason (public_of case.now) case.now.history.now case.now.request.now (reason_view reason) ≡ true) }
     ensures about { IfOk result (IsAbout verdict.now) }
-    ensures told { IfOk result (CanBeTold core.now) }
+    ensures told { IfOk result (CanBeTold case.now.core.now) }
 {
-    let blocks = find_blocks(alloc, core, policy, history, request, measure, cell)?;
+    let blocks = find_blocks(alloc, case, measure, cell)?;
     let cell = copy_cell(alloc, cell)?;
     Ok(Reason::Blocks { cell, blocks })
 }
@@ -83,25 +70,20 @@ fn reason_by_blocks(
 /// The reason that a walk is.
 fn reason_by_walk(
     alloc: Global,
-    core: &Core,
-    policy: &Policy,
-    history: &[Entry],
-    request: &Request,
+    case: &Case,
     measure: u32,
     verdict: &Verdict,
     place: u32,
 ) -> Result<Reason, NoMemory>
-    requires policy { IsPolicy core.now.dims policy.now }
-    requires admissible { IsAdmissible (shown core.now policy.now) history.now }
-    requires valid { is_valid (shown core.now policy.now) request.now ≡ true }
-    requires what { request.now.what ≡ what.Measure measure }
-    requires verdict { verdict.now ≡ verdict_of (shown core.now policy.now) history.now request.now }
+    requires case { IsCase case.now }
+    requires what { case.now.request.now.what ≡ what.Measure measure }
+    requires judged { IsJudged case.now verdict.now }
     requires place { Fixes verdict.now place }
-    ensures reason { IfOk result (λ reason. said.is_reason (shown core.now policy.now) history.now request.now (reason_view reason) ≡ true) }
+    ensures reason { IfOk result (λ reason. said.is_reason (public_of case.now) case.now.history.now case.now.request.now (reason_view reason) ≡ true) }
     ensures about { IfOk result (IsAbout verdict.now) }
-    ensures told { IfOk result (CanBeTold core.now) }
+    ensures told { IfOk result (CanBeTold case.now.core.now) }
 {
-    let found = find_walk(alloc, core, policy, history, request, measure, place)?;
+    let found = find_walk(alloc, case, measure, place)?;
     let (steps, end) = found;
     Ok(Reason::Walk { place, steps, end })
 }
@@ -109,34 +91,38 @@ fn reason_by_walk(
 /// The reason for the verdict on a request on a measure.
 fn reason_on(
     alloc: Global,
-    core: &Core,
-    policy: &Policy,
-    history: &[Entry],
-    request: &Request,
+    case: &Case,
     measure: u32,
     verdict: &Verdict,
 ) -> Result<Reason, NoMemory>
-    requires policy { IsPolicy core.now.dims policy.now }
-    requires admissible { IsAdmissible (shown core.now policy.now) history.now }
-    requires valid { is_valid (shown core.now policy.now) request.now ≡ true }
-    requires what { request.now.what ≡ what.Measure measure }
-    requires verdict { verdict.now ≡ verdict_of (shown core.now policy.now) history.now request.now }
+    requires case { IsCase case.now }
+    requires what { case.now.request.now.what ≡ what.Measure measure }
+    requires judged { IsJudged case.now verdict.now }
     requires refuses { Refuses verdict.now }
-    ensures reason { IfOk result (λ reason. said.is_reason (shown core.now policy.now) history.now request.now (reason_view reason) ≡ true) }
+    ensures reason { IfOk result (λ reason. said.is_reason (public_of case.now) case.now.history.now case.now.request.now (reason_view reason) ≡ true) }
     ensures about { IfOk result (IsAbout verdict.now) }
-    ensures told { IfOk result (CanBeTold core.now) }
+    ensures told { IfOk result (CanBeTold case.now.core.now) }
 {
     match verdict {
         Verdict::Answer { .. } | Verdict::Full { .. } => unreachable!(),
-        Verdict::SourceWould { cell, .. } => reason_by_blocks(
-            alloc, core, policy, history, request, measure, verdict, cell,
-        ),
-        Verdict::Pair { cell, .. } => reason_by_walk(
-            alloc, core, policy, history, request, measure, verdict, *cell,
-        ),
-        Verdict::Single { cell, .. } => reason_by_walk(
-            alloc, core, policy, history, request, measure, verdict, *cell,
-        ),
+        Verdict::SourceWould { cell, .. } => reason_by_blocks(alloc, case, measure, verdict, cell),
+        Verdict::Pair { cell, .. } => reason_by_walk(alloc, case, measure, verdict, *cell),
+        Verdict::Single { cell, .. } => reason_by_walk(alloc, case, measure, verdict, *cell),
+    }
+}
+
+/// The reason for a verdict that refuses a case, other than for want of room.
+pub(crate) fn find_reason(alloc: Global, case: &Case, verdict: &Verdict) -> Result<Reason, NoMemory>
+    requires case { IsCase case.now }
+    requires judged { IsJudged case.now verdict.now }
+    requires refuses { Refuses verdict.now }
+    ensures reason { IfOk result (λ reason. said.is_reason (public_of case.now) case.now.history.now case.now.request.now (reason_view reason) ≡ true) }
+    ensures about { IfOk result (IsAbout verdict.now) }
+    ensures told { IfOk result (CanBeTold case.now.core.now) }
+{
+    match case.request.what {
+        What::Count => unreachable!(),
+        What::Measure(measure) => reason_on(alloc, case, measure, verdict),
     }
 }
 
@@ -161,10 +147,11 @@ pub fn reason(
     ensures about { IfOk result (IsAbout verdict.now) }
     ensures told { IfOk result (CanBeTold core.now) }
 {
-    match request.what {
-        What::Count => unreachable!(),
-        What::Measure(measure) => reason_on(
-            alloc, core, policy, history, request, measure, verdict,
-        ),
-    }
+    let case = Case {
+        core,
+        policy,
+        history,
+        request,
+    };
+    find_reason(alloc, &case, verdict)
 }

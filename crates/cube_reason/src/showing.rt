@@ -6,12 +6,14 @@ ghost use Rattle.cube_model.specs.Policies.{IsPolicy};
 ghost use Rattle.cube_model.specs.Requests.{is_valid};
 ghost use Rattle.cube_model.specs.Verdicts.{verdict as verdict_of, IsAdmissible};
 ghost use Rattle.cube_answers.specs.VerdictText.{verdict_text as verdict_words, IsVerdict};
+ghost use Rattle.cube_reason.specs.Cases.{public_of, IsCase, IsJudged};
 ghost use Rattle.cube_reason.specs.Found.{Fixes, Refuses};
 ghost use Rattle.cube_reason.specs.Showing.{HasLines, Shows, IsSource, IsWhy};
 
+use crate::cases::Case;
 use crate::joints::joints_of;
 use crate::reading::reads_walk;
-use crate::reasoning::reason;
+use crate::reasoning::find_reason;
 use crate::texts::reason_text;
 use crate::ties::ties;
 use cube_answers::verdict_text;
@@ -20,45 +22,27 @@ use cube_model::{Entry, NoMemory, Policy, Request, Text, Verdict, What};
 use std::alloc::Global;
 
 /// The lines of a reason for a verdict that refuses a request, other than for want of room.
-fn reason_lines(
-    alloc: Global,
-    core: &Core,
-    policy: &Policy,
-    history: &[Entry],
-    request: &Request,
-    verdict: &Verdict,
-) -> Result<Text, NoMemory>
-    requires policy { IsPolicy core.now.dims policy.now }
-    requires admissible { IsAdmissible (shown core.now policy.now) history.now }
-    requires valid { is_valid (shown core.now policy.now) request.now ≡ true }
-    requires verdict { verdict.now ≡ verdict_of (shown core.now policy.now) history.now request.now }
+fn reason_lines(alloc: Global, case: &Case, verdict: &Verdict) -> Result<Text, NoMemory>
+    requires case { IsCase case.now }
+    requires judged { IsJudged case.now verdict.now }
     requires refuses { Refuses verdict.now }
-    ensures { IfOk result (λ lines. HasLines core.now.dims (shown core.now policy.now) history.now request.now verdict.now lines) }
+    ensures { IfOk result (λ lines. HasLines case.now.core.now.dims (public_of case.now) case.now.history.now case.now.request.now verdict.now lines) }
 {
-    let reason = reason(alloc, core, policy, history, request, verdict)?;
-    let lines = reason_text(alloc, core, &reason)?;
+    let reason = find_reason(alloc, case, verdict)?;
+    let lines = reason_text(alloc, case.core, &reason)?;
     Ok(lines)
 }
 
 /// The line of a refusal, and behind it the lines of a reason.
-fn shown_text(
-    alloc: Global,
-    core: &Core,
-    policy: &Policy,
-    history: &[Entry],
-    request: &Request,
-    verdict: &Verdict,
-) -> Result<Text, NoMemory>
-    requires policy { IsPolicy core.now.dims policy.now }
-    requires admissible { IsAdmissible (shown core.now policy.now) history.now }
-    requires valid { is_valid (shown core.now policy.now) request.now ≡ true }
-    requires verdict { verdict.now ≡ verdict_of (shown core.now policy.now) history.now request.now }
-    requires there { IsVerdict core.now verdict.now }
+fn shown_text(alloc: Global, case: &Case, verdict: &Verdict) -> Result<Text, NoMemory>
+    requires case { IsCase case.now }
+    requires judged { IsJudged case.now verdict.now }
+    requires there { IsVerdict case.now.core.now verdict.now }
     requires refuses { Refuses verdict.now }
-    ensures { IfOk result (λ text. Shows core.now.dims (shown core.now policy.now) history.now request.now verdict.now text) }
+    ensures { IfOk result (λ text. Shows case.now.core.now.dims (public_of case.now) case.now.history.now case.now.request.now verdict.now text) }
 {
-    let lines = reason_lines(alloc, core, policy, history, request, verdict)?;
-    let mut text = verdict_text(alloc, core, verdict)?;
+    let lines = reason_lines(alloc, case, verdict)?;
+    let mut text = verdict_text(alloc, case.core, verdict)?;
     text.extend(lines.as_slice())?;
     Ok(text)
 }
@@ -80,35 +64,34 @@ pub fn why_text(
     requires there { IsVerdict core.now verdict.now }
     ensures { IfOk result (λ text. IsWhy core.now.dims (shown core.now policy.now) history.now request.now verdict.now text) }
 {
+    let case = Case {
+        core,
+        policy,
+        history,
+        request,
+    };
     match verdict {
         Verdict::Answer { .. } => Text::from_bytes(alloc, b"admitted\n"),
         Verdict::Full { .. } => verdict_text(alloc, core, verdict),
-        Verdict::SourceWould { .. } => {
-            shown_text(alloc, core, policy, history, request, verdict)
-        }
-        Verdict::Pair { .. } => shown_text(alloc, core, policy, history, request, verdict),
-        Verdict::Single { .. } => shown_text(alloc, core, policy, history, request, verdict),
+        Verdict::SourceWould { .. } => shown_text(alloc, &case, verdict),
+        Verdict::Pair { .. } => shown_text(alloc, &case, verdict),
+        Verdict::Single { .. } => shown_text(alloc, &case, verdict),
     }
 }
 
 /// Whether lines are those of the blocks that make up the cell of a verdict: there is only one such reason.
 fn accept_blocks(
     alloc: Global,
-    core: &Core,
-    policy: &Policy,
-    history: &[Entry],
-    request: &Request,
+    case: &Case,
     verdict: &Verdict,
     lines: &[u8],
 ) -> Result<bool, NoMemory>
-    requires policy { IsPolicy core.now.dims policy.now }
-    requires admissible { IsAdmissible (shown core.now policy.now) history.now }
-    requires valid { is_valid (shown core.now policy.now) request.now ≡ true }
-    requires verdict { verdict.now ≡ verdict_of (shown core.now policy.now) history.now request.now }
+    requires case { IsCase case.now }
+    requires judged { IsJudged case.now verdict.now }
     requires source { IsSource verdict.now }
-    ensures { IfOk result (λ taken. (taken ≡ true) ↔ HasLines core.now.dims (shown core.now policy.now) history.now request.now verdict.now lines.now) }
+    ensures { IfOk result (λ taken. (taken ≡ true) ↔ HasLines case.now.core.now.dims (public_of case.now) case.now.history.now case.now.request.now verdict.now lines.now) }
 {
-    let own = reason_lines(alloc, core, policy, history, request, verdict)?;
+    let own = reason_lines(alloc, case, verdict)?;
     Ok(own.as_slice() == lines)
 }
 
@@ -122,59 +105,43 @@ fn count(history: &[Entry]) -> usize
 /// Whether lines are those of a walk from the place of a verdict on a measure.
 fn accept_walk(
     alloc: Global,
-    core: &Core,
-    policy: &Policy,
-    history: &[Entry],
-    request: &Request,
+    case: &Case,
     measure: u32,
     verdict: &Verdict,
     place: u32,
     lines: &[u8],
 ) -> Result<bool, NoMemory>
-    requires policy { IsPolicy core.now.dims policy.now }
-    requires admissible { IsAdmissible (shown core.now policy.now) history.now }
-    requires valid { is_valid (shown core.now policy.now) request.now ≡ true }
-    requires what { request.now.what ≡ what.Measure measure }
-    requires verdict { verdict.now ≡ verdict_of (shown core.now policy.now) history.now request.now }
+    requires case { IsCase case.now }
+    requires what { case.now.request.now.what ≡ what.Measure measure }
+    requires judged { IsJudged case.now verdict.now }
     requires place { Fixes verdict.now place }
-    ensures { IfOk result (λ taken. (taken ≡ true) ↔ HasLines core.now.dims (shown core.now policy.now) history.now request.now verdict.now lines.now) }
+    ensures { IfOk result (λ taken. (taken ≡ true) ↔ HasLines case.now.core.now.dims (public_of case.now) case.now.history.now case.now.request.now verdict.now lines.now) }
 {
-    let _many = count(history);
-    let ties = ties(alloc, core, policy, history, request, measure)?;
+    let _many = count(case.history);
+    let ties = ties(alloc, case, measure)?;
     let all = ties.as_slice();
-    let joints = joints_of(alloc, core.len(), all)?;
-    reads_walk(alloc, core, all, joints.as_slice(), place, lines)
+    let joints = joints_of(alloc, case.core.len(), all)?;
+    reads_walk(alloc, case.core, all, joints.as_slice(), place, lines)
 }
 
 /// Whether lines are those of a reason for a verdict on a measure.
 fn accept_lines(
     alloc: Global,
-    core: &Core,
-    policy: &Policy,
-    history: &[Entry],
-    request: &Request,
+    case: &Case,
     measure: u32,
     verdict: &Verdict,
     lines: &[u8],
 ) -> Result<bool, NoMemory>
-    requires policy { IsPolicy core.now.dims policy.now }
-    requires admissible { IsAdmissible (shown core.now policy.now) history.now }
-    requires valid { is_valid (shown core.now policy.now) request.now ≡ true }
-    requires what { request.now.what ≡ what.Measure measure }
-    requires verdict { verdict.now ≡ verdict_of (shown core.now policy.now) history.now request.now }
-    ensures { IfOk result (λ taken. (taken ≡ true) ↔ HasLines core.now.dims (shown core.now policy.now) history.now request.now verdict.now lines.now) }
+    requires case { IsCase case.now }
+    requires what { case.now.request.now.what ≡ what.Measure measure }
+    requires judged { IsJudged case.now verdict.now }
+    ensures { IfOk result (λ taken. (taken ≡ true) ↔ HasLines case.now.core.now.dims (public_of case.now) case.now.history.now case.now.request.now verdict.now lines.now) }
 {
     match verdict {
         Verdict::Answer { .. } | Verdict::Full { .. } => Ok(false),
-        Verdict::SourceWould { .. } => {
-            accept_blocks(alloc, core, policy, history, request, verdict, lines)
-        }
-        Verdict::Pair { cell, .. } => accept_walk(
-            alloc, core, policy, history, request, measure, verdict, *cell, lines,
-        ),
-        Verdict::Single { cell, .. } => accept_walk(
-            alloc, core, policy, history, request, measure, verdict, *cell, lines,
-        ),
+        Verdict::SourceWould { .. } => { accept_blocks(alloc, case, verdict, lines) }
+        Verdict::Pair { cell, .. } => accept_walk(alloc, case, measure, verdict, *cell, lines),
+        Verdict::Single { cell, .. } => accept_walk(alloc, case, measure, verdict, *cell, lines),
     }
 }
 
@@ -214,7 +181,11 @@ pub fn accept_text(
     let Some(lines) = behind(text, line.as_slice()) else {
         return Ok(false);
     };
-    accept_lines(
-        alloc, core, policy, history, request, measure, verdict, lines,
-    )
+    let case = Case {
+        core,
+        policy,
+        history,
+        request,
+    };
+    accept_lines(alloc, &case, measure, verdict, lines)
 }

@@ -8,9 +8,11 @@ ghost use Rattle.cube_model.specs.Links as said;
 ghost use Rattle.cube_model.specs.LinkLaws.{AreOfPlaces};
 ghost use Rattle.cube_model.specs.Reasons.{links_by};
 ghost use Rattle.cube_model.specs.Requests.{is_valid};
+ghost use Rattle.cube_reason.specs.Cases.{public_of, IsCase};
 ghost use Rattle.cube_reason.specs.Given.{AreAllowed};
 ghost use Rattle.cube_reason.specs.Tied.{AreTies, OfPlaces, EntriesTied, OwnTied, tied};
 
+use crate::cases::Case;
 use cube_core::Core;
 use cube_model::{Entry, Link, LinkList, NoMemory, Policy, Request};
 use cube_pairs::links;
@@ -85,19 +87,17 @@ fn tie_all(ties: &mut Vec<Tie>, links: &[Link], by: Bringer) -> Result<(), NoMem
 /// Puts the links of the entries of a history on a measure, each with its entry's number.
 fn tie_history(
     alloc: Global,
-    core: &Core,
-    policy: &Policy,
-    history: &[Entry],
+    case: &Case,
     measure: u32,
     ties: &mut Vec<Tie>,
 ) -> Result<(), NoMemory>
-    requires allowed { AreAllowed (shown core.now policy.now) history.now }
+    requires case { IsCase case.now }
     requires empty { ties.old.items ≡ [] }
-    ensures { OnOk result (EntriesTied (shown core.now policy.now) history.now measure (length history.now) ties.new.items) }
+    ensures { OnOk result (EntriesTied (public_of case.now) case.now.history.now measure (length case.now.history.now) ties.new.items) }
 {
-    'entries: for (index, entry) in history.iter().enumerate() {
+    'entries: for (index, entry) in case.history.iter().enumerate() {
         if entry.is_on(measure) {
-            let links = links_of_entry(alloc, core, policy, entry)?;
+            let links = links_of_entry(alloc, case.core, case.policy, entry)?;
             tie_all(ties, links.as_slice(), Bringer::Entry(index as u64 + 1))?;
         }
     }
@@ -116,22 +116,14 @@ fn tie_own(links: &[Link], ties: &mut Vec<Tie>) -> Result<(), NoMemory>
 }
 
 /// The links of a history on a measure and of a request, each with where it comes from.
-pub(crate) fn ties(
-    alloc: Global,
-    core: &Core,
-    policy: &Policy,
-    history: &[Entry],
-    request: &Request,
-    measure: u32,
-) -> Result<Vec<Tie>, NoMemory>
-    requires allowed { AreAllowed (shown core.now policy.now) history.now }
-    requires valid { is_valid (shown core.now policy.now) request.now ≡ true }
-    ensures ties { IfOk result (λ ties. AreTies (links_by (shown core.now policy.now) history.now request.now measure) ties.items) }
-    ensures places { IfOk result (λ ties. OfPlaces (length core.now.shape.points) ties.items) }
+pub(crate) fn ties(alloc: Global, case: &Case, measure: u32) -> Result<Vec<Tie>, NoMemory>
+    requires case { IsCase case.now }
+    ensures ties { IfOk result (λ ties. AreTies (links_by (public_of case.now) case.now.history.now case.now.request.now measure) ties.items) }
+    ensures places { IfOk result (λ ties. OfPlaces (length case.now.core.now.shape.points) ties.items) }
 {
     let mut ties = Vec::new(alloc);
-    tie_history(alloc, core, policy, history, measure, &mut ties)?;
-    let links = links_of(alloc, core, policy, request)?;
+    tie_history(alloc, case, measure, &mut ties)?;
+    let links = links_of(alloc, case.core, case.policy, case.request)?;
     tie_own(links.as_slice(), &mut ties)?;
     Ok(ties)
 }

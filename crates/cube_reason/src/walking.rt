@@ -4,9 +4,11 @@ ghost use Rattle.cube_model.specs.Cores.{shown};
 ghost use Rattle.cube_model.specs.Reasons as said;
 ghost use Rattle.cube_model.specs.Requests.{is_valid};
 ghost use Rattle.cube_reason.specs.Found.{HasWalk, CanWalk, WalksTo};
+ghost use Rattle.cube_reason.specs.Cases.{public_of, IsCase};
 ghost use Rattle.cube_reason.specs.Given.{AreAllowed};
 ghost use Rattle.cube_reason.specs.Views.{steps_view, end_view};
 
+use crate::cases::Case;
 use crate::finding::{end_at, first_end, singles_of};
 use crate::joints::joints_of;
 use crate::searching::{Visit, search, visit_with};
@@ -42,20 +44,16 @@ fn walk_by(
 /// request have links.
 pub(crate) fn find_walk(
     alloc: Global,
-    core: &Core,
-    policy: &Policy,
-    history: &[Entry],
-    request: &Request,
+    case: &Case,
     measure: u32,
     place: u32,
 ) -> Result<(StepList, Option<End>), NoMemory>
-    requires allowed { AreAllowed (shown core.now policy.now) history.now }
-    requires valid { is_valid (shown core.now policy.now) request.now ≡ true }
-    requires walk { HasWalk (shown core.now policy.now) history.now request.now measure place }
-    ensures { IfOk result (λ found. said.is_walk (shown core.now policy.now) history.now request.now measure place (steps_view found.0) (end_view found.1) ≡ true) }
+    requires case { IsCase case.now }
+    requires walk { HasWalk (public_of case.now) case.now.history.now case.now.request.now measure place }
+    ensures { IfOk result (λ found. said.is_walk (public_of case.now) case.now.history.now case.now.request.now measure place (steps_view found.0) (end_view found.1) ≡ true) }
 {
-    let many = core.len();
-    let ties = ties(alloc, core, policy, history, request, measure)?;
+    let many = case.core.len();
+    let ties = ties(alloc, case, measure)?;
     let all = ties.as_slice();
     let joints = joints_of(alloc, many, all)?;
     let pairs = joints.as_slice();

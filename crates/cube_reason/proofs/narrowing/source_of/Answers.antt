@@ -11,11 +11,11 @@ entries-init c = record { source = sym (source_start c.args.measure); levels = t
 pub entries-preserved : goal.entries-preserved
 entries-preserved c = elim c.if-is_on.branch [
   | then-is_on+in_ok-source w ↦ record {
-    source = w.source-is ∙ source_more c.args.history.now c.args.measure c.entries.entry-index c.entry-item.result c.entries.source w.in_ok-source.source c.entries-test.true c.entry-item.is (sym c.is_on.ensures ∙ w.if-is_on.true) c.entries.invariant.source w.in_ok-source.ensures.narrowed;
-    levels = subst (HasLevels (plains c.args.core.now.dims)) (sym w.source-is) w.in_ok-source.ensures.levels;
+    source = w.source-is ∙ source_more c.args.case.now.history.now c.args.measure c.entries.entry-index c.entry-item.result c.entries.source w.in_ok-source.source c.entries-test.true c.entry-item.is (sym c.is_on.ensures ∙ w.if-is_on.true) c.entries.invariant.source w.in_ok-source.ensures.narrowed;
+    levels = subst (HasLevels (plains c.args.case.now.core.now.dims)) (sym w.source-is) w.in_ok-source.ensures.levels;
   }
   | else-is_on w ↦ record {
-    source = w.source-is ∙ source_same c.args.history.now c.args.measure c.entries.entry-index c.entry-item.result c.entries.source c.entries-test.true c.entry-item.is (sym c.is_on.ensures ∙ w.if-is_on.false) c.entries.invariant.source;
-    levels = subst (HasLevels (plains c.args.core.now.dims)) (sym w.source-is) c.entries.invariant.levels;
+    source = w.source-is ∙ source_same c.args.case.now.history.now c.args.measure c.entries.entry-index c.entry-item.result c.entries.source c.entries-test.true c.entry-item.is (sym c.is_on.ensures ∙ w.if-is_on.false) c.entries.invariant.source;
+    levels = subst (HasLevels (plains c.args.case.now.core.now.dims)) (sym w.source-is) c.entries.invariant.levels;
   }
 ]

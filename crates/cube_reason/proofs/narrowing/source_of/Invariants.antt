@@ -6,6 +6,6 @@ use Rattle.cube_reason.proofs.narrowing.source_of.Given as goal
 
 abbrev pub invariant-entries : goal.invariant-entries
 invariant-entries l = record {
-  source : l.source ≡ verdicts.source (take l.entry-index l.history) l.measure;
-  levels : HasLevels (plains l.core.dims) l.source;
+  source : l.source ≡ verdicts.source (take l.entry-index l.case.history.now) l.measure;
+  levels : HasLevels (plains l.case.core.now.dims) l.source;
 }

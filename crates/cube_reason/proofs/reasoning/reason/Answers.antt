@@ -1,6 +1,8 @@
-use Rattle.cube_model.specs.Cores.{shown}
-use Rattle.cube_reason.proofs.Refusals.{count_refused}
+use Rattle.cube_reason.proofs.Judged.{judged_case}
 use Rattle.cube_reason.proofs.reasoning.reason.Goals as goal
 
-pub unreachable-requires : goal.unreachable-requires
-unreachable-requires c = count_refused (shown c.args.core.now c.args.policy.now) c.args.history.now c.args.request.now c.args.verdict.now c.in-Count.is c.requires.verdict c.requires.refuses
+pub find_reason-requires-clause-case : goal.find_reason-requires-clause-case
+find_reason-requires-clause-case c = judged_case _ c.requires.policy c.requires.admissible c.requires.valid
+
+pub find_reason-requires-clause-judged : goal.find_reason-requires-clause-judged
+find_reason-requires-clause-judged c = record { admissible = c.requires.admissible; verdict = c.requires.verdict }

@@ -3,6 +3,7 @@ use Rattle.std.proofs.lemmas.Result.{IfOk-weaker}
 use Rattle.cube_model.specs.Cores.{shown}
 use Rattle.cube_answers.specs.VerdictText.{verdict_text}
 use Rattle.cube_reason.specs.Showing.{HasLines, Shows}
+use Rattle.cube_reason.proofs.Judged.{judged_case}
 use Rattle.cube_reason.proofs.Only.{lines_show, shows_lines}
 use Rattle.cube_reason.proofs.showing.accept_text.Goals as goal
 
@@ -19,3 +20,6 @@ returns-clause-exact c =
     (λ (taken : Bool). (taken ≡ true) ↔ HasLines s g h r v rest)
     (λ (taken : Bool). (taken ≡ true) ↔ Shows s g h r v c.args.text.now)
     (λ taken f. (λ t. lines_show s g h r v c.args.text.now rest is (f.0 t), λ w. f.1 (shows_lines s g h r v c.args.text.now rest is w))) c.accept_lines.ensures
+
+pub accept_lines-requires-clause-case : goal.accept_lines-requires-clause-case
+accept_lines-requires-clause-case c = judged_case _ c.requires.policy c.requires.admissible c.requires.valid

@@ -17,22 +17,22 @@ joints_of-requires c = λ t k. subst (λ n. IsOfPlaces n t.link) (sym c.len-many
 
 pub search-requires-clause-within : goal.search-requires-clause-within
 search-requires-clause-within c =
-    let g = shown c.args.core.now c.args.policy.now in
-    gathered_within g c.args.history.now c.args.request.now c.args.measure _ _ (gathered g c.args.history.now c.args.request.now c.args.measure _ _ _ _ _ c.in_ok-ties.ensures.ties c.in_ok-ties.ensures.places c.len-many.ensures.len c.as_slice-all.ensures.value c.in_ok-joints.ensures c.as_slice-pairs.ensures.value)
+    let g = shown c.args.case.now.core.now c.args.case.now.policy.now in
+    gathered_within g c.args.case.now.history.now c.args.case.now.request.now c.args.measure _ _ (gathered g c.args.case.now.history.now c.args.case.now.request.now c.args.measure _ _ _ _ _ c.in_ok-ties.ensures.ties c.in_ok-ties.ensures.places c.len-many.ensures.len c.as_slice-all.ensures.value c.in_ok-joints.ensures c.as_slice-pairs.ensures.value)
 
 pub search-requires-clause-start : goal.search-requires-clause-start
 search-requires-clause-start c =
-    let g = shown c.args.core.now c.args.policy.now in
-    gathered_start g c.args.history.now c.args.request.now c.args.measure c.args.place _ _ (gathered g c.args.history.now c.args.request.now c.args.measure _ _ _ _ _ c.in_ok-ties.ensures.ties c.in_ok-ties.ensures.places c.len-many.ensures.len c.as_slice-all.ensures.value c.in_ok-joints.ensures c.as_slice-pairs.ensures.value) c.requires.walk
+    let g = shown c.args.case.now.core.now c.args.case.now.policy.now in
+    gathered_start g c.args.case.now.history.now c.args.case.now.request.now c.args.measure c.args.place _ _ (gathered g c.args.case.now.history.now c.args.case.now.request.now c.args.measure _ _ _ _ _ c.in_ok-ties.ensures.ties c.in_ok-ties.ensures.places c.len-many.ensures.len c.as_slice-all.ensures.value c.in_ok-joints.ensures c.as_slice-pairs.ensures.value) c.requires.walk
 
 pub singles_of-requires : goal.singles_of-requires
 singles_of-requires c = λ t k. subst (λ n. IsOfPlaces n t.link) (sym c.len-many.ensures.len) (c.in_ok-ties.ensures.places t (subst (IsIn t) c.as_slice-all.ensures.value k))
 
 pub walk_by-requires : goal.walk_by-requires
 walk_by-requires c =
-    let g = shown c.args.core.now c.args.policy.now in
-    let h = c.args.history.now in
-    let r = c.args.request.now in
+    let g = shown c.args.case.now.core.now c.args.case.now.policy.now in
+    let h = c.args.case.now.history.now in
+    let r = c.args.case.now.request.now in
     let m = c.args.measure in
     let a = gathered g h r m _ _ _ _ _ c.in_ok-ties.ensures.ties c.in_ok-ties.ensures.places c.len-many.ensures.len c.as_slice-all.ensures.value c.in_ok-joints.ensures c.as_slice-pairs.ensures.value in
     let alone : AreSingles (length g.shape.points) c.as_slice-all.result.now c.as_slice-2.result.now = subst (AreSingles (length g.shape.points) c.as_slice-all.result.now) (sym c.as_slice-2.ensures.value) (subst (λ n. AreSingles n c.as_slice-all.result.now c.in_ok-singles.singles.items) c.len-many.ensures.len c.in_ok-singles.ensures) in
@@ -41,9 +41,9 @@ walk_by-requires c =
 
 pub returns : goal.returns
 returns c =
-    let g = shown c.args.core.now c.args.policy.now in
-    let h = c.args.history.now in
-    let r = c.args.request.now in
+    let g = shown c.args.case.now.core.now c.args.case.now.policy.now in
+    let h = c.args.case.now.history.now in
+    let r = c.args.case.now.request.now in
     let m = c.args.measure in
     let a = gathered g h r m _ _ _ _ _ c.in_ok-ties.ensures.ties c.in_ok-ties.ensures.places c.len-many.ensures.len c.as_slice-all.ensures.value c.in_ok-joints.ensures c.as_slice-pairs.ensures.value in
     let alone : AreSingles (length g.shape.points) c.as_slice-all.result.now c.as_slice-2.result.now = subst (AreSingles (length g.shape.points) c.as_slice-all.result.now) (sym c.as_slice-2.ensures.value) (subst (λ n. AreSingles n c.as_slice-all.result.now c.in_ok-singles.singles.items) c.len-many.ensures.len c.in_ok-singles.ensures) in
