@@ -10,3 +10,4 @@ pub mod KeptCells
 pub mod Standing
 pub mod Links
 pub mod Given
+pub mod Crossings

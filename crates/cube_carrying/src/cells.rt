@@ -11,6 +11,7 @@ ghost use Rattle.cube_carrying.specs.Firsts.{first_with};
 ghost use Rattle.cube_carrying.specs.Exposed.{HasParts};
 ghost use Rattle.cube_carrying.specs.Places.{carried_places};
 
+use crate::crossings::Crossing;
 use crate::measures::measure_in;
 use crate::unkept::{unkept_lattice, unkept_parity};
 use cube_core::Core;
@@ -39,14 +40,18 @@ fn unprotected_on(
     let number = measure_in(old_dims, new_dims, measure) as u32;
     let objects = old_policy.objects.as_slice();
     let places = places.as_slice();
+    let crossing = Crossing {
+        old,
+        old_policy,
+        new,
+        new_policy,
+        places,
+        measure: number,
+    };
     match old_policy.method(measure) {
         Method::Plain => Ok(None),
-        Method::Lattice => unkept_lattice(
-            alloc, old, objects, measure, new, new_policy, number, places,
-        ),
-        Method::Parity => unkept_parity(
-            alloc, old, old_policy, measure, new, new_policy, number, places,
-        ),
+        Method::Lattice => unkept_lattice(alloc, &crossing, objects, measure),
+        Method::Parity => unkept_parity(alloc, &crossing, measure),
     }
 }
 

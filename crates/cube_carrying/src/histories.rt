@@ -12,20 +12,22 @@ ghost use Rattle.cube_admit.specs.States.{IsStateOf};
 ghost use Rattle.cube_carry.specs.Carrying as carrying;
 ghost use Rattle.cube_carry.specs.Continues.{Continues};
 ghost use Rattle.cube_carry.specs.Names.{named, carried_levels};
-ghost use Rattle.cube_carrying.specs.Given.{IsGiven, Puts};
+ghost use Rattle.cube_carrying.specs.Crossings.{IsCarrying};
+ghost use Rattle.cube_carrying.specs.Given.{Puts};
 ghost use Rattle.cube_carrying.specs.Histories.{IsCarriedBy};
 ghost use Rattle.cube_carrying.specs.Places.{carried_places};
 ghost use Rattle.cube_carrying.specs.Standing as standing;
 ghost use Rattle.cube_source.specs.Blocks.{AreFlags};
 
 use crate::apart::flags_of;
+use crate::crossings::Crossing;
 use crate::held::{kept_colouring, kept_source};
 use crate::links::{fixed_cell, links_by};
 use crate::measures::measure_in;
 use crate::sources::stand_in;
 use cube_admit::State;
 use cube_core::Core;
-use cube_model::{Cell, Dims, Entry, History, Levels, LinkList, Method, NoMemory, Places, Policy};
+use cube_model::{Cell, Entry, History, Levels, LinkList, Method, NoMemory, Places, Policy};
 use std::alloc::Global;
 
 /// Why a history is not carried over. The measure and the cell are those of the new cube.
@@ -50,23 +52,21 @@ pub enum Carried {
 fn put_source(
     history: &mut History,
     alloc: Global,
-    old: &Dims,
-    new: &Core,
-    new_policy: &Policy,
+    crossing: &Crossing,
     flags: &[bool],
-    measure: u32,
     source: &Levels,
 ) -> Result<Option<Stop>, NoMemory>
-    requires policy { IsPolicy new.now.dims new_policy.now }
-    requires flags { length flags.now ≡ length new.now.shape.points }
-    requires measure { measure < length new.now.dims.measures }
-    requires source { are_levels (plains new.now.dims) (carried_levels old.now new.now.dims source.now) ≡ true }
+    requires policy { IsPolicy crossing.now.new.now.dims crossing.now.new_policy.now }
+    requires measure { crossing.now.measure < length crossing.now.new.now.dims.measures }
+    requires flags { length flags.now ≡ length crossing.now.new.now.shape.points }
+    requires source { are_levels (plains crossing.now.new.now.dims) (carried_levels crossing.now.old.now.dims crossing.now.new.now.dims source.now) ≡ true }
     ensures { IfOk result (Puts
-        (carrying.unless_found measure (Some source.now) (standing.last_standing (shown new.now new_policy.now) flags.now measure (cuboids_below (carried_levels old.now new.now.dims source.now))))
-        (source_entry measure (standing.last_standing (shown new.now new_policy.now) flags.now measure (cuboids_below (carried_levels old.now new.now.dims source.now))))
+        (carrying.unless_found crossing.now.measure (Some source.now) (standing.last_standing (shown crossing.now.new.now crossing.now.new_policy.now) flags.now crossing.now.measure (cuboids_below (carried_levels crossing.now.old.now.dims crossing.now.new.now.dims source.now))))
+        (source_entry crossing.now.measure (standing.last_standing (shown crossing.now.new.now crossing.now.new_policy.now) flags.now crossing.now.measure (cuboids_below (carried_levels crossing.now.old.now.dims crossing.now.new.now.dims source.now))))
         history.old history.new) }
 {
-    match stand_in(alloc, old, new, new_policy, flags, measure, source)? {
+    let measure = crossing.measure;
+    match stand_in(alloc, crossing, flags, source)? {
         None => Ok(Some(Stop::NoSource(measure))),
         Some(levels) => {
             history.push(Entry::Source { measure, levels })?;
@@ -79,60 +79,35 @@ fn put_source(
 fn carry_source(
     history: &mut History,
     alloc: Global,
-    old: &Core,
-    old_policy: &Policy,
+    crossing: &Crossing,
     state: &State,
-    new: &Core,
-    new_policy: &Policy,
     flags: &[bool],
-    measure: u32,
 ) -> Result<Option<Stop>, NoMemory>
-    requires given { IsGiven old.now old_policy.now state.now new.now new_policy.now }
-    requires flags { AreFlags (length new.now.shape.points) (λ k. listed k (carried_places old.now new.now)) flags.now }
-    requires measure { measure < length new.now.dims.measures }
-    requires lattice { method (shown new.now new_policy.now) measure ≡ methods.Lattice }
+    requires crossing { IsCarrying crossing.now state.now }
+    requires flags { AreFlags (length crossing.now.new.now.shape.points) (λ k. listed k (carried_places crossing.now.old.now crossing.now.new.now)) flags.now }
+    requires lattice { method (shown crossing.now.new.now crossing.now.new_policy.now) crossing.now.measure ≡ methods.Lattice }
     ensures { IfOk result (Puts
-        (carrying.stops_by methods.Lattice (named old.now old_policy.now) (named new.now new_policy.now) state.now.history measure)
-        (carrying.carried_by methods.Lattice (named old.now old_policy.now) (named new.now new_policy.now) state.now.history measure)
+        (carrying.stops_by methods.Lattice (named crossing.now.old.now crossing.now.old_policy.now) (named crossing.now.new.now crossing.now.new_policy.now) state.now.history crossing.now.measure)
+        (carrying.carried_by methods.Lattice (named crossing.now.old.now crossing.now.old_policy.now) (named crossing.now.new.now crossing.now.new_policy.now) state.now.history crossing.now.measure)
         history.old history.new) }
 {
-    let number = measure_in(new.dims(), old.dims(), measure);
-    match kept_source(old, old_policy, state, number) {
+    let number = measure_in(crossing.new.dims(), crossing.old.dims(), crossing.measure);
+    match kept_source(crossing.old, crossing.old_policy, state, number) {
         None => Ok(None),
-        Some(source) => put_source(
-            history,
-            alloc,
-            old.dims(),
-            new,
-            new_policy,
-            flags,
-            measure,
-            source,
-        ),
+        Some(source) => put_source(history, alloc, crossing, flags, source),
     }
 }
 
 /// The links that are kept of a parity measure of the new cube in the old one, with the places of the new cube.
-fn carried_links(
-    alloc: Global,
-    old: &Core,
-    old_policy: &Policy,
-    state: &State,
-    new: &Core,
-    new_policy: &Policy,
-    places: &Places,
-    measure: u32,
-) -> Result<LinkList, NoMemory>
-    requires given { IsGiven old.now old_policy.now state.now new.now new_policy.now }
-    requires table { places.now ≡ carried_places old.now new.now }
-    requires measure { measure < length new.now.dims.measures }
-    requires parity { method (shown new.now new_policy.now) measure ≡ methods.Parity }
-    ensures { IfOk result (λ links. links ≡ carrying.carried_links (named old.now old_policy.now) (named new.now new_policy.now) state.now.history measure) }
+fn carried_links(alloc: Global, crossing: &Crossing, state: &State) -> Result<LinkList, NoMemory>
+    requires crossing { IsCarrying crossing.now state.now }
+    requires parity { method (shown crossing.now.new.now crossing.now.new_policy.now) crossing.now.measure ≡ methods.Parity }
+    ensures { IfOk result (λ links. links ≡ carrying.carried_links (named crossing.now.old.now crossing.now.old_policy.now) (named crossing.now.new.now crossing.now.new_policy.now) state.now.history crossing.now.measure) }
 {
-    let number = measure_in(new.dims(), old.dims(), measure);
-    match kept_colouring(old, old_policy, state, number) {
+    let number = measure_in(crossing.new.dims(), crossing.old.dims(), crossing.measure);
+    match kept_colouring(crossing.old, crossing.old_policy, state, number) {
         None => Ok(LinkList::new(alloc)),
-        Some(colouring) => links_by(alloc, places.as_slice(), colouring),
+        Some(colouring) => links_by(alloc, crossing.places, colouring),
     }
 }
 
@@ -153,29 +128,21 @@ fn put_links(history: &mut History, measure: u32, links: &LinkList) -> Result<()
 fn carry_links(
     history: &mut History,
     alloc: Global,
-    old: &Core,
-    old_policy: &Policy,
+    crossing: &Crossing,
     state: &State,
-    new: &Core,
-    new_policy: &Policy,
-    places: &Places,
-    measure: u32,
 ) -> Result<Option<Stop>, NoMemory>
-    requires given { IsGiven old.now old_policy.now state.now new.now new_policy.now }
-    requires table { places.now ≡ carried_places old.now new.now }
-    requires measure { measure < length new.now.dims.measures }
-    requires parity { method (shown new.now new_policy.now) measure ≡ methods.Parity }
+    requires crossing { IsCarrying crossing.now state.now }
+    requires parity { method (shown crossing.now.new.now crossing.now.new_policy.now) crossing.now.measure ≡ methods.Parity }
     ensures { IfOk result (Puts
-        (carrying.stops_by methods.Parity (named old.now old_policy.now) (named new.now new_policy.now) state.now.history measure)
-        (carrying.carried_by methods.Parity (named old.now old_policy.now) (named new.now new_policy.now) state.now.history measure)
+        (carrying.stops_by methods.Parity (named crossing.now.old.now crossing.now.old_policy.now) (named crossing.now.new.now crossing.now.new_policy.now) state.now.history crossing.now.measure)
+        (carrying.carried_by methods.Parity (named crossing.now.old.now crossing.now.old_policy.now) (named crossing.now.new.now crossing.now.new_policy.now) state.now.history crossing.now.measure)
         history.old history.new) }
 {
-    let _old = old.dims();
-    let _new = new.dims();
-    let links = carried_links(
-        alloc, old, old_policy, state, new, new_policy, places, measure,
-    )?;
-    match fixed_cell(alloc, new, new_policy, measure, &links)? {
+    let _old = crossing.old.dims();
+    let _new = crossing.new.dims();
+    let measure = crossing.measure;
+    let links = carried_links(alloc, crossing, state)?;
+    match fixed_cell(alloc, crossing.new, crossing.new_policy, measure, &links)? {
         Some(cell) => Ok(Some(Stop::Fixes(measure, cell))),
         None => {
             put_links(history, measure, &links)?;
@@ -188,32 +155,21 @@ fn carry_links(
 fn carry_measure(
     history: &mut History,
     alloc: Global,
-    old: &Core,
-    old_policy: &Policy,
+    crossing: &Crossing,
     state: &State,
-    new: &Core,
-    new_policy: &Policy,
-    places: &Places,
     flags: &[bool],
-    measure: u32,
 ) -> Result<Option<Stop>, NoMemory>
-    requires given { IsGiven old.now old_policy.now state.now new.now new_policy.now }
-    requires table { places.now ≡ carried_places old.now new.now }
-    requires flags { AreFlags (length new.now.shape.points) (λ k. listed k (carried_places old.now new.now)) flags.now }
-    requires measure { measure < length new.now.dims.measures }
+    requires crossing { IsCarrying crossing.now state.now }
+    requires flags { AreFlags (length crossing.now.new.now.shape.points) (λ k. listed k (carried_places crossing.now.old.now crossing.now.new.now)) flags.now }
     ensures { IfOk result (Puts
-        (carrying.stops_by (method (shown new.now new_policy.now) measure) (named old.now old_policy.now) (named new.now new_policy.now) state.now.history measure)
-        (carrying.carried_on (named old.now old_policy.now) (named new.now new_policy.now) state.now.history measure)
+        (carrying.stops_by (method (shown crossing.now.new.now crossing.now.new_policy.now) crossing.now.measure) (named crossing.now.old.now crossing.now.old_policy.now) (named crossing.now.new.now crossing.now.new_policy.now) state.now.history crossing.now.measure)
+        (carrying.carried_on (named crossing.now.old.now crossing.now.old_policy.now) (named crossing.now.new.now crossing.now.new_policy.now) state.now.history crossing.now.measure)
         history.old history.new) }
 {
-    match new_policy.method(measure) {
+    match crossing.new_policy.method(crossing.measure) {
         Method::Plain => Ok(None),
-        Method::Lattice => carry_source(
-            history, alloc, old, old_policy, state, new, new_policy, flags, measure,
-        ),
-        Method::Parity => carry_links(
-            history, alloc, old, old_policy, state, new, new_policy, places, measure,
-        ),
+        Method::Lattice => carry_source(history, alloc, crossing, state, flags),
+        Method::Parity => carry_links(history, alloc, crossing, state),
     }
 }
 
@@ -236,21 +192,19 @@ pub fn carry(
     ensures { IfOk result (IsCarriedBy (named old.now old_policy.now) (named new.now new_policy.now) state.now.history) }
 {
     let _rules = old.dims();
-    let flags = flags_of(alloc, new.len() as usize, places.as_slice())?;
+    let places = places.as_slice();
+    let flags = flags_of(alloc, new.len() as usize, places)?;
     let mut history = History::new(alloc);
     'measures: for measure in 0..new_policy.methods.len() as u32 {
-        match carry_measure(
-            &mut history,
-            alloc,
+        let crossing = Crossing {
             old,
             old_policy,
-            state,
             new,
             new_policy,
             places,
-            flags.as_slice(),
             measure,
-        )? {
+        };
+        match carry_measure(&mut history, alloc, &crossing, state, flags.as_slice())? {
             None => {}
             Some(stop) => return Ok(Carried::Stopped(stop)),
         }

@@ -9,6 +9,7 @@ mod apart;
 mod breach;
 mod carried_cells;
 mod cells;
+mod crossings;
 mod dimensions;
 mod exposed;
 mod held;

@@ -1,59 +1,54 @@
 // Whether a new cube protects a cell of an old one, under the same names.
 ghost use Rattle.std.specs.Prelude.{◌≡◌, ◌<◌, true, length, slice_index_or, IfOk};
-ghost use Rattle.std.specs.List.{list_all, list_any, All};
+ghost use Rattle.std.specs.List.{list_any, All};
 ghost use Rattle.cube_model.specs.Cubes as cubes;
 ghost use Rattle.cube_model.specs.Cubes.{are_levels};
 ghost use Rattle.cube_model.specs.Dims.{plains};
-ghost use Rattle.cube_model.specs.Policies.{IsPolicy};
 ghost use Rattle.cube_source.specs.Blocks.{bare};
 ghost use Rattle.cube_source.specs.Objects as objects;
-ghost use Rattle.cube_carry.specs.Continues as continues;
 ghost use Rattle.cube_carry.specs.Names as names;
-ghost use Rattle.cube_carrying.specs.KeptCells as said;
-ghost use Rattle.cube_carrying.specs.KeptCells.{Carries, StandsSuffice};
+ghost use Rattle.cube_carrying.specs.Crossings.{keeps, Crosses, StandsAreEnough};
 
 use crate::carried_cells::carried_cell;
+use crate::crossings::Crossing;
 use crate::slices::stands_over;
-use cube_core::Core;
-use cube_model::{Cell, Levels, NoMemory, Policy};
+use cube_model::{Cell, Levels, NoMemory};
 use cube_source::protects;
 use std::alloc::Global;
 
 /// Whether the new cube protects a cell of the old one. It looks at each place of the new cube.
 pub(crate) fn is_protected(
     alloc: Global,
-    old: &Core,
-    new: &Core,
-    policy: &Policy,
-    measure: u32,
+    crossing: &Crossing,
     cell: &Cell,
 ) -> Result<bool, NoMemory>
-    requires policy { IsPolicy new.now.dims policy.now }
-    requires measure { measure < length new.now.dims.measures }
-    requires no_other { list_all (continues.has_dimension old.now.dims) new.now.dims.dimensions ≡ true }
-    requires cell { are_levels (plains new.now.dims) (names.carried_levels old.now.dims new.now.dims cell.now.levels) ≡ true }
-    ensures { IfOk result (λ kept. kept ≡ said.is_kept old.now new.now policy.now measure cell.now) }
+    requires carries { Crosses crossing.now }
+    requires cell { are_levels (plains crossing.now.new.now.dims) (names.carried_levels crossing.now.old.now.dims crossing.now.new.now.dims cell.now.levels) ≡ true }
+    ensures { IfOk result (λ kept. kept ≡ keeps crossing.now cell.now) }
 {
-    let carried = carried_cell(alloc, old.dims(), new.dims(), cell)?;
-    Ok(protects(new, policy, measure, &carried))
+    let carried = carried_cell(alloc, crossing.old.dims(), crossing.new.dims(), cell)?;
+    Ok(protects(
+        crossing.new,
+        crossing.new_policy,
+        crossing.measure,
+        &carried,
+    ))
 }
 
 /// Whether the new place of one of the places is in the slice of an object of the measure at or above the levels.
-fn any_under(
-    new: &Core,
-    policy: &Policy,
-    measure: u32,
-    levels: &Levels,
-    places: &[u32],
-    covered: &[u32],
-) -> bool
-    requires policy { IsPolicy new.now.dims policy.now }
-    requires places { All (λ place. place < length new.now.shape.points) places.now }
-    requires covered { All (λ place. place < length places.now) covered.now }
-    ensures { result ≡ list_any (λ place. objects.stands_over (bare new.now) policy.now.objects measure levels.now (slice_index_or places.now place 0)) covered.now }
+fn any_under(crossing: &Crossing, levels: &Levels, covered: &[u32]) -> bool
+    requires carries { Crosses crossing.now }
+    requires covered { All (λ place. place < length crossing.now.places.now) covered.now }
+    ensures { result ≡ list_any (λ place. objects.stands_over (bare crossing.now.new.now) crossing.now.new_policy.now.objects crossing.now.measure levels.now (slice_index_or crossing.now.places.now place 0)) covered.now }
 {
     'covered: for place in covered {
-        if stands_over(new, policy, measure, levels, places[*place as usize]) {
+        if stands_over(
+            crossing.new,
+            crossing.new_policy,
+            crossing.measure,
+            levels,
+            crossing.places[*place as usize],
+        ) {
             return true;
         }
     }
@@ -64,25 +59,21 @@ fn any_under(
 /// new object at or above the cell it looks at each place of the new cube.
 pub(crate) fn is_kept(
     alloc: Global,
-    old: &Core,
-    new: &Core,
-    policy: &Policy,
-    measure: u32,
-    places: &[u32],
+    crossing: &Crossing,
     levels: &Levels,
     cell: &Cell,
     covered: &[u32],
 ) -> Result<bool, NoMemory>
-    requires carries { Carries old.now new.now policy.now measure places.now }
-    requires suffice { StandsSuffice old.now new.now policy.now measure places.now }
-    requires cell { are_levels (plains old.now.dims) cell.now.levels ≡ true }
-    requires levels { levels.now ≡ names.carried_levels old.now.dims new.now.dims cell.now.levels }
-    requires below { All (λ place. place < length old.now.shape.points) covered.now }
-    requires covered { All (λ place. cubes.covers (bare old.now) cell.now place ≡ true) covered.now }
-    ensures { IfOk result (λ kept. kept ≡ said.is_kept old.now new.now policy.now measure cell.now) }
+    requires carries { Crosses crossing.now }
+    requires suffice { StandsAreEnough crossing.now }
+    requires cell { are_levels (plains crossing.now.old.now.dims) cell.now.levels ≡ true }
+    requires levels { levels.now ≡ names.carried_levels crossing.now.old.now.dims crossing.now.new.now.dims cell.now.levels }
+    requires below { All (λ place. place < length crossing.now.old.now.shape.points) covered.now }
+    requires covered { All (λ place. cubes.covers (bare crossing.now.old.now) cell.now place ≡ true) covered.now }
+    ensures { IfOk result (λ kept. kept ≡ keeps crossing.now cell.now) }
 {
-    if any_under(new, policy, measure, levels, places, covered) {
+    if any_under(crossing, levels, covered) {
         return Ok(true);
     }
-    is_protected(alloc, old, new, policy, measure, cell)
+    is_protected(alloc, crossing, cell)
 }

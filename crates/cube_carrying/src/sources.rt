@@ -11,9 +11,10 @@ ghost use Rattle.cube_carrying.specs.Standing as said;
 
 use crate::apart::stays_apart;
 use crate::carried_cells::carried_levels;
+use crate::crossings::Crossing;
 use cube_core::Core;
 use cube_lattice::cuboids_below;
-use cube_model::{Dims, Levels, NoMemory, Policy};
+use cube_model::{Levels, NoMemory, Policy};
 use cube_source::{Judged, judge};
 use std::alloc::Global;
 
@@ -84,20 +85,25 @@ fn last_standing(
 /// What stands for an old source: the last of the cuboids as fine as it that can.
 pub(crate) fn stand_in(
     alloc: Global,
-    old: &Dims,
-    core: &Core,
-    policy: &Policy,
+    crossing: &Crossing,
     flags: &[bool],
-    measure: u32,
     source: &Levels,
 ) -> Result<Option<Levels>, NoMemory>
-    requires policy { IsPolicy core.now.dims policy.now }
-    requires flags { length flags.now ≡ length core.now.shape.points }
-    requires measure { measure < length core.now.dims.measures }
-    requires source { are_levels (plains core.now.dims) (names.carried_levels old.now core.now.dims source.now) ≡ true }
-    ensures { IfOk result (λ found. found ≡ said.last_standing (shown core.now policy.now) flags.now measure (cubes.cuboids_below (names.carried_levels old.now core.now.dims source.now))) }
+    requires policy { IsPolicy crossing.now.new.now.dims crossing.now.new_policy.now }
+    requires measure { crossing.now.measure < length crossing.now.new.now.dims.measures }
+    requires flags { length flags.now ≡ length crossing.now.new.now.shape.points }
+    requires source { are_levels (plains crossing.now.new.now.dims) (names.carried_levels crossing.now.old.now.dims crossing.now.new.now.dims source.now) ≡ true }
+    ensures { IfOk result (λ found. found ≡ said.last_standing (shown crossing.now.new.now crossing.now.new_policy.now) flags.now crossing.now.measure (cubes.cuboids_below (names.carried_levels crossing.now.old.now.dims crossing.now.new.now.dims source.now))) }
 {
-    let levels = carried_levels(alloc, old, core.dims(), source.as_slice())?;
+    let new = crossing.new;
+    let levels = carried_levels(alloc, crossing.old.dims(), new.dims(), source.as_slice())?;
     let cuboids = cuboids_below(alloc, &levels)?;
-    last_standing(alloc, core, policy, flags, measure, cuboids.as_slice())
+    last_standing(
+        alloc,
+        new,
+        crossing.new_policy,
+        flags,
+        crossing.measure,
+        cuboids.as_slice(),
+    )
 }

@@ -12,16 +12,16 @@ ghost use Rattle.cube_model.specs.Requests as requests;
 ghost use Rattle.cube_source.specs.Blocks.{bare, whole, row_cell, AreBlocks};
 ghost use Rattle.cube_source.specs.Objects.{IsPlaced, of_measure};
 ghost use Rattle.cube_carry.specs.Names as names;
-ghost use Rattle.cube_carrying.specs.KeptCells as said;
-ghost use Rattle.cube_carrying.specs.KeptCells.{Carries, StandsSuffice, GuardsSuffice};
+ghost use Rattle.cube_carrying.specs.Crossings.{keeps, Crosses, StandsAreEnough, GuardsAreEnough};
 
 use crate::carried_cells::carried_levels;
+use crate::crossings::Crossing;
 use crate::exposed::{is_exposed, is_exposed_somewhere, is_unguarded_at};
 use crate::protecting::{is_kept, is_protected};
 use crate::slices::touches;
 use cube_core::Core;
 use cube_lattice::cuboids_below;
-use cube_model::{Cell, Key, Levels, NoMemory, Object, Policy, Request, Row, Rows, What};
+use cube_model::{Cell, Key, Levels, NoMemory, Object, Request, Row, Rows, What};
 use std::alloc::Global;
 
 /// The rows of all places at a cuboid, in the order of their keys.
@@ -47,33 +47,27 @@ fn make_cell(alloc: Global, levels: &Levels, key: &Key) -> Result<Cell, NoMemory
 /// The cell of a row, where a place of it is in the slice of an old object and the new cube does not protect it.
 fn unkept_cell(
     alloc: Global,
-    old: &Core,
+    crossing: &Crossing,
     object: &Object,
     levels: &Levels,
-    new: &Core,
-    policy: &Policy,
-    measure: u32,
-    places: &[u32],
     carried: &Levels,
     row: &Row,
 ) -> Result<Option<Cell>, NoMemory>
-    requires carries { Carries old.now new.now policy.now measure places.now }
-    requires suffice { StandsSuffice old.now new.now policy.now measure places.now }
-    requires slice { Each (IsWithin old.now.dims) object.now.slice }
-    requires levels { are_levels (plains old.now.dims) levels.now ≡ true }
-    requires carried { carried.now ≡ names.carried_levels old.now.dims new.now.dims levels.now }
-    requires below { All (λ place. place < length old.now.shape.points) row.now.places }
-    requires covered { All (λ place. cubes.covers (bare old.now) (row_cell levels.now row.now) place ≡ true) row.now.places }
-    ensures { IfOk result (λ found. found ≡ (if list_any (in_slice (bare old.now) object.now) row.now.places && not (said.is_kept old.now new.now policy.now measure (row_cell levels.now row.now)) then Some (row_cell levels.now row.now) else None)) }
+    requires carries { Crosses crossing.now }
+    requires suffice { StandsAreEnough crossing.now }
+    requires slice { Each (IsWithin crossing.now.old.now.dims) object.now.slice }
+    requires levels { are_levels (plains crossing.now.old.now.dims) levels.now ≡ true }
+    requires carried { carried.now ≡ names.carried_levels crossing.now.old.now.dims crossing.now.new.now.dims levels.now }
+    requires below { All (λ place. place < length crossing.now.old.now.shape.points) row.now.places }
+    requires covered { All (λ place. cubes.covers (bare crossing.now.old.now) (row_cell levels.now row.now) place ≡ true) row.now.places }
+    ensures { IfOk result (λ found. found ≡ (if list_any (in_slice (bare crossing.now.old.now) object.now) row.now.places && not (keeps crossing.now (row_cell levels.now row.now)) then Some (row_cell levels.now row.now) else None)) }
 {
     let covered = row.places.as_slice();
-    if !touches(old, object, covered) {
+    if !touches(crossing.old, object, covered) {
         return Ok(None);
     }
     let cell = make_cell(alloc, levels, &row.key)?;
-    if is_kept(
-        alloc, old, new, policy, measure, places, carried, &cell, covered,
-    )? {
+    if is_kept(alloc, crossing, carried, &cell, covered)? {
         return Ok(None);
     }
     Ok(Some(cell))
@@ -82,29 +76,23 @@ fn unkept_cell(
 /// The first such cell of the rows of a cuboid.
 fn unkept_row(
     alloc: Global,
-    old: &Core,
+    crossing: &Crossing,
     object: &Object,
     levels: &Levels,
-    new: &Core,
-    policy: &Policy,
-    measure: u32,
-    places: &[u32],
     carried: &Levels,
     rows: &[Row],
 ) -> Result<Option<Cell>, NoMemory>
-    requires carries { Carries old.now new.now policy.now measure places.now }
-    requires suffice { StandsSuffice old.now new.now policy.now measure places.now }
-    requires slice { Each (IsWithin old.now.dims) object.now.slice }
-    requires levels { are_levels (plains old.now.dims) levels.now ≡ true }
-    requires carried { carried.now ≡ names.carried_levels old.now.dims new.now.dims levels.now }
-    requires rows { rows.now ≡ requests.rows (bare old.now) (whole levels.now) }
-    requires below { AreBlocks (length old.now.shape.points) rows.now }
-    ensures { IfOk result (λ found. found ≡ option_map (row_cell levels.now) (find (λ row. list_any (in_slice (bare old.now) object.now) row.places && not (said.is_kept old.now new.now policy.now measure (row_cell levels.now row))) rows.now)) }
+    requires carries { Crosses crossing.now }
+    requires suffice { StandsAreEnough crossing.now }
+    requires slice { Each (IsWithin crossing.now.old.now.dims) object.now.slice }
+    requires levels { are_levels (plains crossing.now.old.now.dims) levels.now ≡ true }
+    requires carried { carried.now ≡ names.carried_levels crossing.now.old.now.dims crossing.now.new.now.dims levels.now }
+    requires rows { rows.now ≡ requests.rows (bare crossing.now.old.now) (whole levels.now) }
+    requires below { AreBlocks (length crossing.now.old.now.shape.points) rows.now }
+    ensures { IfOk result (λ found. found ≡ option_map (row_cell levels.now) (find (λ row. list_any (in_slice (bare crossing.now.old.now) object.now) row.places && not (keeps crossing.now (row_cell levels.now row))) rows.now)) }
 {
     'rows: for row in rows {
-        let found = unkept_cell(
-            alloc, old, object, levels, new, policy, measure, places, carried, row,
-        )?;
+        let found = unkept_cell(alloc, crossing, object, levels, carried, row)?;
         if let Some(cell) = found {
             return Ok(Some(cell));
         }
@@ -116,58 +104,44 @@ fn unkept_row(
 /// keys only where one in the slice stands under no new object at or above the cuboid.
 fn unkept_at(
     alloc: Global,
-    old: &Core,
+    crossing: &Crossing,
     object: &Object,
     levels: &Levels,
-    new: &Core,
-    policy: &Policy,
-    measure: u32,
-    places: &[u32],
 ) -> Result<Option<Cell>, NoMemory>
-    requires carries { Carries old.now new.now policy.now measure places.now }
-    requires suffice { StandsSuffice old.now new.now policy.now measure places.now }
-    requires slice { Each (IsWithin old.now.dims) object.now.slice }
-    requires levels { are_levels (plains old.now.dims) levels.now ≡ true }
-    ensures { IfOk result (λ found. found ≡ find (λ cell. not (said.is_kept old.now new.now policy.now measure cell)) (touched (bare old.now) object.now levels.now)) }
+    requires carries { Crosses crossing.now }
+    requires suffice { StandsAreEnough crossing.now }
+    requires slice { Each (IsWithin crossing.now.old.now.dims) object.now.slice }
+    requires levels { are_levels (plains crossing.now.old.now.dims) levels.now ≡ true }
+    ensures { IfOk result (λ found. found ≡ find (λ cell. not (keeps crossing.now cell)) (touched (bare crossing.now.old.now) object.now levels.now)) }
 {
-    let carried = carried_levels(alloc, old.dims(), new.dims(), levels.as_slice())?;
-    if !is_exposed_somewhere(old, object, new, policy, measure, &carried, places) {
+    let carried = carried_levels(
+        alloc,
+        crossing.old.dims(),
+        crossing.new.dims(),
+        levels.as_slice(),
+    )?;
+    if !is_exposed_somewhere(crossing, object, &carried) {
         return Ok(None);
     }
-    let rows = rows_at(alloc, old, levels)?;
-    unkept_row(
-        alloc,
-        old,
-        object,
-        levels,
-        new,
-        policy,
-        measure,
-        places,
-        &carried,
-        rows.as_slice(),
-    )
+    let rows = rows_at(alloc, crossing.old, levels)?;
+    unkept_row(alloc, crossing, object, levels, &carried, rows.as_slice())
 }
 
 /// The first cell that an old object protects and the new cube does not, cuboid by cuboid.
 fn unkept_below(
     alloc: Global,
-    old: &Core,
+    crossing: &Crossing,
     object: &Object,
-    new: &Core,
-    policy: &Policy,
-    measure: u32,
-    places: &[u32],
 ) -> Result<Option<Cell>, NoMemory>
-    requires carries { Carries old.now new.now policy.now measure places.now }
-    requires suffice { StandsSuffice old.now new.now policy.now measure places.now }
-    requires slice { Each (IsWithin old.now.dims) object.now.slice }
-    requires levels { are_levels (plains old.now.dims) object.now.levels ≡ true }
-    ensures { IfOk result (λ found. found ≡ find (λ cell. not (said.is_kept old.now new.now policy.now measure cell)) (under (bare old.now) object.now)) }
+    requires carries { Crosses crossing.now }
+    requires suffice { StandsAreEnough crossing.now }
+    requires slice { Each (IsWithin crossing.now.old.now.dims) object.now.slice }
+    requires levels { are_levels (plains crossing.now.old.now.dims) object.now.levels ≡ true }
+    ensures { IfOk result (λ found. found ≡ find (λ cell. not (keeps crossing.now cell)) (under (bare crossing.now.old.now) object.now)) }
 {
     let cuboids = cuboids_below(alloc, &object.levels)?;
     'levels: for levels in cuboids.as_slice() {
-        let found = unkept_at(alloc, old, object, levels, new, policy, measure, places)?;
+        let found = unkept_at(alloc, crossing, object, levels)?;
         if let Some(cell) = found {
             return Ok(Some(cell));
         }
@@ -178,44 +152,36 @@ fn unkept_below(
 /// The same. An object is passed over where each place of its slice stands under a new object at or above it.
 fn unkept_under(
     alloc: Global,
-    old: &Core,
+    crossing: &Crossing,
     object: &Object,
-    new: &Core,
-    policy: &Policy,
-    measure: u32,
-    places: &[u32],
 ) -> Result<Option<Cell>, NoMemory>
-    requires carries { Carries old.now new.now policy.now measure places.now }
-    requires suffice { StandsSuffice old.now new.now policy.now measure places.now }
-    requires slice { Each (IsWithin old.now.dims) object.now.slice }
-    requires levels { are_levels (plains old.now.dims) object.now.levels ≡ true }
-    ensures { IfOk result (λ found. found ≡ find (λ cell. not (said.is_kept old.now new.now policy.now measure cell)) (under (bare old.now) object.now)) }
+    requires carries { Crosses crossing.now }
+    requires suffice { StandsAreEnough crossing.now }
+    requires slice { Each (IsWithin crossing.now.old.now.dims) object.now.slice }
+    requires levels { are_levels (plains crossing.now.old.now.dims) object.now.levels ≡ true }
+    ensures { IfOk result (λ found. found ≡ find (λ cell. not (keeps crossing.now cell)) (under (bare crossing.now.old.now) object.now)) }
 {
-    if !is_exposed(alloc, old, object, new, policy, measure, places)? {
+    if !is_exposed(alloc, crossing, object)? {
         return Ok(None);
     }
-    unkept_below(alloc, old, object, new, policy, measure, places)
+    unkept_below(alloc, crossing, object)
 }
 
 /// The first cell that objects of a measure of the old cube protect and the new one does not.
 pub(crate) fn unkept_lattice(
     alloc: Global,
-    old: &Core,
+    crossing: &Crossing,
     objects: &[Object],
     old_measure: u32,
-    new: &Core,
-    policy: &Policy,
-    measure: u32,
-    places: &[u32],
 ) -> Result<Option<Cell>, NoMemory>
-    requires carries { Carries old.now new.now policy.now measure places.now }
-    requires suffice { StandsSuffice old.now new.now policy.now measure places.now }
-    requires objects { Each (IsPlaced old.now.dims) objects.now }
-    ensures { IfOk result (λ found. found ≡ find (λ cell. not (said.is_kept old.now new.now policy.now measure cell)) (flat_map (under (bare old.now)) (of_measure old_measure objects.now))) }
+    requires carries { Crosses crossing.now }
+    requires suffice { StandsAreEnough crossing.now }
+    requires objects { Each (IsPlaced crossing.now.old.now.dims) objects.now }
+    ensures { IfOk result (λ found. found ≡ find (λ cell. not (keeps crossing.now cell)) (flat_map (under (bare crossing.now.old.now)) (of_measure old_measure objects.now))) }
 {
     'objects: for object in objects {
         if object.measure == old_measure {
-            let found = unkept_under(alloc, old, object, new, policy, measure, places)?;
+            let found = unkept_under(alloc, crossing, object)?;
             if let Some(cell) = found {
                 return Ok(Some(cell));
             }
@@ -250,35 +216,21 @@ fn core_cell(alloc: Global, core: &Core, place: u32) -> Result<Cell, NoMemory>
 /// looked for where the new place is not guarded.
 fn unkept_core(
     alloc: Global,
-    old: &Core,
-    old_policy: &Policy,
+    crossing: &Crossing,
     old_measure: u32,
-    new: &Core,
-    policy: &Policy,
-    measure: u32,
-    places: &[u32],
     place: u32,
 ) -> Result<Option<Cell>, NoMemory>
-    requires old_policy { IsPolicy old.now.dims old_policy.now }
-    requires carries { Carries old.now new.now policy.now measure places.now }
-    requires suffice { GuardsSuffice old.now new.now policy.now measure places.now }
-    requires place { place < length old.now.shape.points }
-    ensures { IfOk result (λ found. found ≡ (if protection.is_guarded (bare old.now) (of_measure old_measure old_policy.now.objects) place && not (said.is_kept old.now new.now policy.now measure (protection.core_cell (bare old.now) place)) then Some (protection.core_cell (bare old.now) place) else None)) }
+    requires old_policy { IsPolicy crossing.now.old.now.dims crossing.now.old_policy.now }
+    requires carries { Crosses crossing.now }
+    requires suffice { GuardsAreEnough crossing.now }
+    requires place { place < length crossing.now.old.now.shape.points }
+    ensures { IfOk result (λ found. found ≡ (if protection.is_guarded (bare crossing.now.old.now) (of_measure old_measure crossing.now.old_policy.now.objects) place && not (keeps crossing.now (protection.core_cell (bare crossing.now.old.now) place)) then Some (protection.core_cell (bare crossing.now.old.now) place) else None)) }
 {
-    if !is_unguarded_at(
-        old,
-        old_policy,
-        old_measure,
-        new,
-        policy,
-        measure,
-        places,
-        place,
-    ) {
+    if !is_unguarded_at(crossing, old_measure, place) {
         return Ok(None);
     }
-    let cell = core_cell(alloc, old, place)?;
-    if is_protected(alloc, old, new, policy, measure, &cell)? {
+    let cell = core_cell(alloc, crossing.old, place)?;
+    if is_protected(alloc, crossing, &cell)? {
         return Ok(None);
     }
     Ok(Some(cell))
@@ -287,31 +239,16 @@ fn unkept_core(
 /// The first guarded core cell of the old cube that the new one does not protect.
 pub(crate) fn unkept_parity(
     alloc: Global,
-    old: &Core,
-    old_policy: &Policy,
+    crossing: &Crossing,
     old_measure: u32,
-    new: &Core,
-    policy: &Policy,
-    measure: u32,
-    places: &[u32],
 ) -> Result<Option<Cell>, NoMemory>
-    requires old_policy { IsPolicy old.now.dims old_policy.now }
-    requires carries { Carries old.now new.now policy.now measure places.now }
-    requires suffice { GuardsSuffice old.now new.now policy.now measure places.now }
-    ensures { IfOk result (λ found. found ≡ find (λ cell. not (said.is_kept old.now new.now policy.now measure cell)) (map (protection.core_cell (bare old.now)) (filter (protection.is_guarded (bare old.now) (of_measure old_measure old_policy.now.objects)) (places_of (bare old.now))))) }
+    requires old_policy { IsPolicy crossing.now.old.now.dims crossing.now.old_policy.now }
+    requires carries { Crosses crossing.now }
+    requires suffice { GuardsAreEnough crossing.now }
+    ensures { IfOk result (λ found. found ≡ find (λ cell. not (keeps crossing.now cell)) (map (protection.core_cell (bare crossing.now.old.now)) (filter (protection.is_guarded (bare crossing.now.old.now) (of_measure old_measure crossing.now.old_policy.now.objects)) (places_of (bare crossing.now.old.now))))) }
 {
-    'places: for place in 0..old.len() {
-        let found = unkept_core(
-            alloc,
-            old,
-            old_policy,
-            old_measure,
-            new,
-            policy,
-            measure,
-            places,
-            place,
-        )?;
+    'places: for place in 0..crossing.old.len() {
+        let found = unkept_core(alloc, crossing, old_measure, place)?;
         if let Some(cell) = found {
             return Ok(Some(cell));
         }

@@ -16,8 +16,19 @@ use Rattle.cube_carrying.proofs.histories.carry.Goals as goal
 pub flags_of-requires : goal.flags_of-requires
 flags_of-requires c =
     let given : IsGiven c.args.old.now c.args.old_policy.now c.args.state.now c.args.new.now c.args.new_policy.now = record { old_rules = c.requires.old_policy; new_rules = c.requires.new_policy; continues = c.requires.continues; stands = c.requires.stands; none = c.requires.none } in
-    subst (λ (n : ℕ). All (λ i. i < n) c.as_slice.result.now) (sym c.len.ensures.len) (subst (λ (is : List ℕ). All (λ i. i < length c.args.new.now.shape.points) is) (sym (c.as_slice.ensures ∙ c.requires.places))
+    subst (λ (n : ℕ). All (λ i. i < n) c.as_slice-places.result.now) (sym c.len.ensures.len) (subst (λ (is : List ℕ). All (λ i. i < length c.args.new.now.shape.points) is) (sym (c.as_slice-places.ensures ∙ c.requires.places))
     (places_within c.args.old.now c.args.new.now c.args.old_policy.now c.args.new_policy.now c.args.state.now given c.dims-rules.ensures.rules c.len.ensures.rules))
+
+pub carry_measure-requires-clause-crossing : goal.carry_measure-requires-clause-crossing
+carry_measure-requires-clause-crossing c =
+    let test = c.measures-test.true in
+    let end = c.measures.invariant.2 in
+    let all = c.requires.new_policy.methods in
+    record {
+      given = record { old_rules = c.requires.old_policy; new_rules = c.requires.new_policy; continues = c.requires.continues; stands = c.requires.stands; none = c.requires.none };
+      table = c.as_slice-places.ensures ∙ c.requires.places;
+      measure = omega (arith, test, end, all);
+    }
 
 pub returns-in-Some : goal.returns-in-Some
 returns-in-Some c =

@@ -2,8 +2,7 @@ use Rattle.std.proofs.Common.{◌≡◌, ◌<◌, ℕ, List, Option, Some, lengt
 use Rattle.std.proofs.lemmas.Result.{IfOk-weaker}
 use Rattle.cube_model.specs.Compaction.{source_entry}
 use Rattle.cube_model.specs.Cores.{shown}
-use Rattle.cube_model.specs.Cubes.{are_levels, cuboids_below}
-use Rattle.cube_model.specs.Dims.{Dims, plains}
+use Rattle.cube_model.specs.Cubes.{cuboids_below}
 use Rattle.cube_model.specs.Protection.{method}
 use Rattle.cube_model.specs.Verdicts.{source}
 use Rattle.cube_carry.specs.Carrying as carrying
@@ -16,33 +15,31 @@ use Rattle.cube_carrying.proofs.histories.carry_source.Goals as goal
 
 pub kept_source-requires-clause-lattice : goal.kept_source-requires-clause-lattice
 kept_source-requires-clause-lattice c = λ l.
-    let is : c.measure_in-number.result ≡ measure_in c.args.new.now.dims c.args.old.now.dims c.args.measure = c.measure_in-number.ensures ∙ ap₂ (λ s z. measure_in s z c.args.measure) c.dims.ensures.dims c.dims-2.ensures.dims in
-    ap (method (shown c.args.old.now c.args.old_policy.now)) is
-    ∙ method_back c.args.old.now c.args.new.now c.args.old_policy.now c.args.new_policy.now c.args.state.now c.requires.given c.dims-2.ensures.rules c.dims.ensures.rules c.args.measure c.requires.measure (subst (λ k. k < length c.args.old.now.dims.measures) is l)
+    let is : c.measure_in-number.result ≡ measure_in c.args.crossing.now.new.now.dims c.args.crossing.now.old.now.dims c.args.crossing.now.measure = c.measure_in-number.ensures ∙ ap₂ (λ s z. measure_in s z c.args.crossing.now.measure) c.dims.ensures.dims c.dims-2.ensures.dims in
+    ap (method (shown c.args.crossing.now.old.now c.args.crossing.now.old_policy.now)) is
+    ∙ method_back c.args.crossing.now.old.now c.args.crossing.now.new.now c.args.crossing.now.old_policy.now c.args.crossing.now.new_policy.now c.args.state.now c.requires.crossing.given c.dims-2.ensures.rules c.dims.ensures.rules c.args.crossing.now.measure c.requires.crossing.measure (subst (λ k. k < length c.args.crossing.now.old.now.dims.measures) is l)
     ∙ c.requires.lattice
 
 pub put_source-requires-clause-source : goal.put_source-requires-clause-source
 put_source-requires-clause-source c =
-    ap (λ (s : Dims). are_levels (plains c.args.new.now.dims) (carried_levels s c.args.new.now.dims c.in-Some.source.now)) c.dims-in-Some.ensures.dims
-    ∙ source_levels c.args.old.now c.args.new.now c.args.old_policy.now c.args.new_policy.now c.args.state.now c.requires.given c.dims-2.ensures.rules c.dims.ensures.rules c.measure_in-number.result c.in-Some.source.now c.in-Some.ensures
+    source_levels c.args.crossing.now.old.now c.args.crossing.now.new.now c.args.crossing.now.old_policy.now c.args.crossing.now.new_policy.now c.args.state.now c.requires.crossing.given c.dims-2.ensures.rules c.dims.ensures.rules c.measure_in-number.result c.in-Some.source.now c.in-Some.ensures
 
 pub returns-in-Some : goal.returns-in-Some
 returns-in-Some c =
-    let a = named c.args.old.now c.args.old_policy.now in
-    let b = named c.args.new.now c.args.new_policy.now in
-    let g = shown c.args.new.now c.args.new_policy.now in
+    let a = named c.args.crossing.now.old.now c.args.crossing.now.old_policy.now in
+    let b = named c.args.crossing.now.new.now c.args.crossing.now.new_policy.now in
+    let g = shown c.args.crossing.now.new.now c.args.crossing.now.new_policy.now in
     let h = c.args.state.now.history in
-    let m = c.args.measure in
-    let is : c.measure_in-number.result ≡ measure_in c.args.new.now.dims c.args.old.now.dims m = c.measure_in-number.ensures ∙ ap₂ (λ s z. measure_in s z m) c.dims.ensures.dims c.dims-2.ensures.dims in
-    let old : Some c.in-Some.source.now ≡ source h (measure_in c.args.new.now.dims c.args.old.now.dims m) = c.in-Some.ensures ∙ ap (source h) is in
-    let found = last_standing g c.args.flags.now m (cuboids_below (carried_levels c.dims-in-Some.result.now c.args.new.now.dims c.in-Some.source.now)) in
+    let m = c.args.crossing.now.measure in
+    let is : c.measure_in-number.result ≡ measure_in c.args.crossing.now.new.now.dims c.args.crossing.now.old.now.dims m = c.measure_in-number.ensures ∙ ap₂ (λ s z. measure_in s z m) c.dims.ensures.dims c.dims-2.ensures.dims in
+    let old : Some c.in-Some.source.now ≡ source h (measure_in c.args.crossing.now.new.now.dims c.args.crossing.now.old.now.dims m) = c.in-Some.ensures ∙ ap (source h) is in
+    let found = last_standing g c.args.flags.now m (cuboids_below (carried_levels c.args.crossing.now.old.now.dims c.args.crossing.now.new.now.dims c.in-Some.source.now)) in
     let stands : found ≡ carrying.carried_source a b h m =
-    ap (λ (s : Dims). last_standing g c.args.flags.now m (cuboids_below (carried_levels s c.args.new.now.dims c.in-Some.source.now))) c.dims-in-Some.ensures.dims
-    ∙ standing_is c.args.old.now c.args.new.now c.args.old_policy.now c.args.new_policy.now c.args.state.now c.requires.given c.dims-2.ensures.rules c.dims.ensures.rules c.args.flags.now m (cuboids_below (carried_levels c.args.old.now.dims c.args.new.now.dims c.in-Some.source.now)) c.requires.flags
+    standing_is c.args.crossing.now.old.now c.args.crossing.now.new.now c.args.crossing.now.old_policy.now c.args.crossing.now.new_policy.now c.args.state.now c.requires.crossing.given c.dims-2.ensures.rules c.dims.ensures.rules c.args.flags.now m (cuboids_below (carried_levels c.args.crossing.now.old.now.dims c.args.crossing.now.new.now.dims c.in-Some.source.now)) c.requires.flags
     ∙ ap (carrying.source_for a b m) old in
     IfOk-weaker c.put_source.result
     (λ (stop : Option Stop). Puts (carrying.unless_found m (Some c.in-Some.source.now) found) (source_entry m found) c.args.history.now c.put_source.new.history stop)
-    (λ (stop : Option Stop). Puts (carrying.unless_found m (source h (measure_in c.args.new.now.dims c.args.old.now.dims m)) (carrying.carried_source a b h m)) (source_entry m (carrying.carried_source a b h m)) c.args.history.now c.put_source.new.history stop)
+    (λ (stop : Option Stop). Puts (carrying.unless_found m (source h (measure_in c.args.crossing.now.new.now.dims c.args.crossing.now.old.now.dims m)) (carrying.carried_source a b h m)) (source_entry m (carrying.carried_source a b h m)) c.args.history.now c.put_source.new.history stop)
     (λ stop k.
     subst (λ (o : Option (List ℕ)). Puts (carrying.unless_found m o (carrying.carried_source a b h m)) (source_entry m (carrying.carried_source a b h m)) c.args.history.now c.put_source.new.history stop) old
     (subst (λ (o : Option (List ℕ)). Puts (carrying.unless_found m (Some c.in-Some.source.now) o) (source_entry m o) c.args.history.now c.put_source.new.history stop) stands k))

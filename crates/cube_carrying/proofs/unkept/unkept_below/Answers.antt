@@ -9,14 +9,14 @@ use Rattle.cube_carrying.specs.KeptCells as said
 use Rattle.cube_carrying.proofs.unkept.unkept_below.Goals as goal
 
 pub unkept_at-requires-clause-levels : goal.unkept_at-requires-clause-levels
-unkept_at-requires-clause-levels c = below_levels (plains c.args.old.now.dims) c.args.object.now.levels c.as_slice-levels-items.result.now c.levels.levels-index c.levels-item.result c.requires.levels (c.as_slice-levels-items.ensures ∙ c.in_ok-cuboids.ensures) c.levels-test.true c.levels-item.is
+unkept_at-requires-clause-levels c = below_levels (plains c.args.crossing.now.old.now.dims) c.args.object.now.levels c.as_slice-levels-items.result.now c.levels.levels-index c.levels-item.result c.requires.levels (c.as_slice-levels-items.ensures ∙ c.in_ok-cuboids.ensures) c.levels-test.true c.levels-item.is
 
 pub returns-in-Some : goal.returns-in-Some
 returns-in-Some c =
-    let unkept = λ (t : Cell). not (said.is_kept c.args.old.now c.args.new.now c.args.policy.now c.args.measure t) in
-    walk_hit unkept (touched (bare c.args.old.now) c.args.object.now) c.as_slice-levels-items.result.now c.levels.levels-index c.levels-item.result c.in-Some.cell (find unkept (under (bare c.args.old.now) c.args.object.now)) c.levels-test.true c.levels-item.is (sym c.in_ok-found.ensures ∙ c.in-Some.is) c.levels.invariant
+    let unkept = λ (t : Cell). not (said.is_kept c.args.crossing.now.old.now c.args.crossing.now.new.now c.args.crossing.now.new_policy.now c.args.crossing.now.measure t) in
+    walk_hit unkept (touched (bare c.args.crossing.now.old.now) c.args.object.now) c.as_slice-levels-items.result.now c.levels.levels-index c.levels-item.result c.in-Some.cell (find unkept (under (bare c.args.crossing.now.old.now) c.args.object.now)) c.levels-test.true c.levels-item.is (sym c.in_ok-found.ensures ∙ c.in-Some.is) c.levels.invariant
 
 pub levels-preserved : goal.levels-preserved
 levels-preserved c =
-    let unkept = λ (t : Cell). not (said.is_kept c.args.old.now c.args.new.now c.args.policy.now c.args.measure t) in
-    walk_skip unkept (touched (bare c.args.old.now) c.args.object.now) c.as_slice-levels-items.result.now c.levels.levels-index c.levels-item.result (find unkept (under (bare c.args.old.now) c.args.object.now)) c.levels-test.true c.levels-item.is (sym c.in_ok-found.ensures ∙ c.in_default.is) c.levels.invariant
+    let unkept = λ (t : Cell). not (said.is_kept c.args.crossing.now.old.now c.args.crossing.now.new.now c.args.crossing.now.new_policy.now c.args.crossing.now.measure t) in
+    walk_skip unkept (touched (bare c.args.crossing.now.old.now) c.args.object.now) c.as_slice-levels-items.result.now c.levels.levels-index c.levels-item.result (find unkept (under (bare c.args.crossing.now.old.now) c.args.object.now)) c.levels-test.true c.levels-item.is (sym c.in_ok-found.ensures ∙ c.in_default.is) c.levels.invariant

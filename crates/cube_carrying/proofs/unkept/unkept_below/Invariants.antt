@@ -7,5 +7,5 @@ use Rattle.cube_carrying.proofs.unkept.unkept_below.Given as goal
 
 abbrev pub invariant-levels : goal.invariant-levels
 invariant-levels l =
-    find (λ t. not (said.is_kept l.old l.new l.policy l.measure t)) (flat_map (touched (bare l.old) l.object) (drop l.levels-index l.levels-items))
-    ≡ find (λ t. not (said.is_kept l.old l.new l.policy l.measure t)) (under (bare l.old) l.object)
+    find (λ t. not (said.is_kept l.crossing.old.now l.crossing.new.now l.crossing.new_policy.now l.crossing.measure t)) (flat_map (touched (bare l.crossing.old.now) l.object) (drop l.levels-index l.levels-items))
+    ≡ find (λ t. not (said.is_kept l.crossing.old.now l.crossing.new.now l.crossing.new_policy.now l.crossing.measure t)) (under (bare l.crossing.old.now) l.object)

@@ -8,14 +8,14 @@ use Rattle.cube_carrying.proofs.unkept.unkept_cell.Goals as goal
 
 pub returns-then-branch : goal.returns-then-branch
 returns-then-branch c =
-    let kept = said.is_kept c.args.old.now c.args.new.now c.args.policy.now c.args.measure in
-    passed_over (list_any (in_slice (bare c.args.old.now) c.args.object.now) c.args.row.now.places) (kept (row_cell c.args.levels.now c.args.row.now)) (row_cell c.args.levels.now c.args.row.now)
+    let kept = said.is_kept c.args.crossing.now.old.now c.args.crossing.now.new.now c.args.crossing.now.new_policy.now c.args.crossing.now.measure in
+    passed_over (list_any (in_slice (bare c.args.crossing.now.old.now) c.args.object.now) c.args.row.now.places) (kept (row_cell c.args.levels.now c.args.row.now)) (row_cell c.args.levels.now c.args.row.now)
     (sym (c.in_ok-is_kept.ensures ∙ ap kept c.in_ok-cell.ensures) ∙ c.if-branch.true)
 
 pub returns : goal.returns
 returns c =
-    let kept = said.is_kept c.args.old.now c.args.new.now c.args.policy.now c.args.measure in
-    taken (list_any (in_slice (bare c.args.old.now) c.args.object.now) c.args.row.now.places) (kept (row_cell c.args.levels.now c.args.row.now)) (row_cell c.args.levels.now c.args.row.now) c.in_ok-cell.cell
-    (sym (c.touches.ensures ∙ ap (λ (is : List ℕ). list_any (in_slice (bare c.args.old.now) c.args.object.now) is) c.as_slice-covered.ensures) ∙ c.if-not-touches.false)
+    let kept = said.is_kept c.args.crossing.now.old.now c.args.crossing.now.new.now c.args.crossing.now.new_policy.now c.args.crossing.now.measure in
+    taken (list_any (in_slice (bare c.args.crossing.now.old.now) c.args.object.now) c.args.row.now.places) (kept (row_cell c.args.levels.now c.args.row.now)) (row_cell c.args.levels.now c.args.row.now) c.in_ok-cell.cell
+    (sym (c.touches.ensures ∙ ap (λ (is : List ℕ). list_any (in_slice (bare c.args.crossing.now.old.now) c.args.object.now) is) c.as_slice-covered.ensures) ∙ c.if-not-touches.false)
     (sym (c.in_ok-is_kept.ensures ∙ ap kept c.in_ok-cell.ensures) ∙ c.if-branch.false)
     c.in_ok-cell.ensures

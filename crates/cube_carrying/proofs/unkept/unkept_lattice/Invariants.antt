@@ -8,5 +8,5 @@ use Rattle.cube_carrying.proofs.unkept.unkept_lattice.Given as goal
 
 abbrev pub invariant-objects : goal.invariant-objects
 invariant-objects l =
-    find (λ t. not (said.is_kept l.old l.new l.policy l.measure t)) (flat_map (under (bare l.old)) (of_measure l.old_measure (drop l.object-index l.objects)))
-    ≡ find (λ t. not (said.is_kept l.old l.new l.policy l.measure t)) (flat_map (under (bare l.old)) (of_measure l.old_measure l.objects))
+    find (λ t. not (said.is_kept l.crossing.old.now l.crossing.new.now l.crossing.new_policy.now l.crossing.measure t)) (flat_map (under (bare l.crossing.old.now)) (of_measure l.old_measure (drop l.object-index l.objects)))
+    ≡ find (λ t. not (said.is_kept l.crossing.old.now l.crossing.new.now l.crossing.new_policy.now l.crossing.measure t)) (flat_map (under (bare l.crossing.old.now)) (of_measure l.old_measure l.objects))

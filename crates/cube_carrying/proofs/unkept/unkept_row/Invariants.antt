@@ -7,5 +7,5 @@ use Rattle.cube_carrying.proofs.unkept.unkept_row.Given as goal
 
 abbrev pub invariant-rows : goal.invariant-rows
 invariant-rows l =
-    find (λ row. list_any (in_slice (bare l.old) l.object) row.places && not (said.is_kept l.old l.new l.policy l.measure (row_cell l.levels row))) (drop l.row-index l.rows)
-    ≡ find (λ row. list_any (in_slice (bare l.old) l.object) row.places && not (said.is_kept l.old l.new l.policy l.measure (row_cell l.levels row))) l.rows
+    find (λ row. list_any (in_slice (bare l.crossing.old.now) l.object) row.places && not (said.is_kept l.crossing.old.now l.crossing.new.now l.crossing.new_policy.now l.crossing.measure (row_cell l.levels row))) (drop l.row-index l.rows)
+    ≡ find (λ row. list_any (in_slice (bare l.crossing.old.now) l.object) row.places && not (said.is_kept l.crossing.old.now l.crossing.new.now l.crossing.new_policy.now l.crossing.measure (row_cell l.levels row))) l.rows
