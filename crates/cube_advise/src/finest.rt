@@ -16,6 +16,15 @@ use cube_model::{Cuboids, Levels, NoMemory, Policy};
 use cube_source::{JudgeTable, Judged};
 use std::alloc::Global;
 
+// A measure of a core under a policy, and the source that it has there, if it has one.
+#[derive(Drop)]
+struct Sourced<'a> {
+    core: &'a Core,
+    policy: &'a Policy,
+    source: Option<&'a Levels>,
+    measure: u32,
+}
+
 // Whether a cuboid was judged to cut each protected cell.
 fn is_safe(judged: &Judged) -> bool
     ensures { (found : Option Cell) → judged.now ≡ judged_of found → result ≡ is_none found }
@@ -29,23 +38,26 @@ fn is_safe(judged: &Judged) -> bool
 // Whether a cuboid is open under a source.
 fn is_open(
     alloc: Global,
-    core: &Core,
-    policy: &Policy,
+    sourced: &Sourced,
     table: &mut JudgeTable,
-    source: Option<&Levels>,
-    measure: u32,
     levels: &Levels,
 ) -> Result<bool, NoMemory>
-    requires policy { IsPolicy core.now.dims policy.now }
-    requires measure { measure < length core.now.dims.measures }
-    requires source { InRange (plains core.now.dims) (option_copied source) }
-    requires levels { are_levels (plains core.now.dims) levels.now ≡ true }
-    requires stands { TableStands core.now policy.now table.old }
-    ensures is { IfOk result (λ open_now. open_now ≡ is_open_by (shown core.now policy.now) (option_copied source.entry) measure levels.now) }
-    ensures stands { TableStands core.now policy.now table.new }
+    requires policy { IsPolicy sourced.now.core.now.dims sourced.now.policy.now }
+    requires measure { sourced.now.measure < length sourced.now.core.now.dims.measures }
+    requires source { InRange (plains sourced.now.core.now.dims) (option_copied sourced.now.source) }
+    requires levels { are_levels (plains sourced.now.core.now.dims) levels.now ≡ true }
+    requires stands { TableStands sourced.now.core.now sourced.now.policy.now table.old }
+    ensures is { IfOk result (λ open_now. open_now ≡ is_open_by (shown sourced.now.core.now sourced.now.policy.now) (option_copied sourced.now.source) sourced.now.measure levels.now) }
+    ensures stands { TableStands sourced.now.core.now sourced.now.policy.now table.new }
 {
-    let narrowed = narrow(source, levels.copied(alloc)?);
-    let judged = table.judge(alloc, core, policy, measure, &narrowed)?;
+    let narrowed = narrow(sourced.source, levels.copied(alloc)?);
+    let judged = table.judge(
+        alloc,
+        sourced.core,
+        sourced.policy,
+        sourced.measure,
+        &narrowed,
+    )?;
     Ok(is_safe(&judged))
 }
 
@@ -68,26 +80,23 @@ fn has_finer(cuboids: &[Levels], levels: &Levels) -> bool
 // Whether a cuboid is open under a source and above none that is known to be open. One that is above such a one is not judged.
 fn is_news(
     alloc: Global,
-    core: &Core,
-    policy: &Policy,
+    sourced: &Sourced,
     table: &mut JudgeTable,
-    source: Option<&Levels>,
-    measure: u32,
     known: &[Levels],
     levels: &Levels,
 ) -> Result<bool, NoMemory>
-    requires policy { IsPolicy core.now.dims policy.now }
-    requires measure { measure < length core.now.dims.measures }
-    requires source { InRange (plains core.now.dims) (option_copied source) }
-    requires levels { are_levels (plains core.now.dims) levels.now ≡ true }
-    requires stands { TableStands core.now policy.now table.old }
-    ensures news { IfOk result (λ news. news ≡ (not (finer_test known.now levels.now) && is_open_by (shown core.now policy.now) (option_copied source.entry) measure levels.now)) }
-    ensures stands { TableStands core.now policy.now table.new }
+    requires policy { IsPolicy sourced.now.core.now.dims sourced.now.policy.now }
+    requires measure { sourced.now.measure < length sourced.now.core.now.dims.measures }
+    requires source { InRange (plains sourced.now.core.now.dims) (option_copied sourced.now.source) }
+    requires levels { are_levels (plains sourced.now.core.now.dims) levels.now ≡ true }
+    requires stands { TableStands sourced.now.core.now sourced.now.policy.now table.old }
+    ensures news { IfOk result (λ news. news ≡ (not (finer_test known.now levels.now) && is_open_by (shown sourced.now.core.now sourced.now.policy.now) (option_copied sourced.now.source) sourced.now.measure levels.now)) }
+    ensures stands { TableStands sourced.now.core.now sourced.now.policy.now table.new }
 {
     if has_finer(known, levels) {
         return Ok(false);
     }
-    is_open(alloc, core, policy, table, source, measure, levels)
+    is_open(alloc, sourced, table, levels)
 }
 
 // Puts a cuboid behind others, or leaves it out.
@@ -106,26 +115,18 @@ fn push_if(
 }
 
 // Cuboids that are open under a source, among them each that no other open one is finer than.
-fn open_cuboids(
-    alloc: Global,
-    core: &Core,
-    policy: &Policy,
-    source: Option<&Levels>,
-    measure: u32,
-) -> Result<Cuboids, NoMemory>
-    requires policy { IsPolicy core.now.dims policy.now }
-    requires measure { measure < length core.now.dims.measures }
-    requires source { InRange (plains core.now.dims) (option_copied source) }
-    ensures { IfOk result (λ found. filter (λ c. not (finer_test found c)) found ≡ finest_by (shown core.now policy.now) (option_copied source.entry) measure) }
+fn open_cuboids(alloc: Global, sourced: &Sourced) -> Result<Cuboids, NoMemory>
+    requires policy { IsPolicy sourced.now.core.now.dims sourced.now.policy.now }
+    requires measure { sourced.now.measure < length sourced.now.core.now.dims.measures }
+    requires source { InRange (plains sourced.now.core.now.dims) (option_copied sourced.now.source) }
+    ensures { IfOk result (λ found. filter (λ c. not (finer_test found c)) found ≡ finest_by (shown sourced.now.core.now sourced.now.policy.now) (option_copied sourced.now.source) sourced.now.measure) }
 {
-    let all = cuboids(alloc, core.dims())?;
-    let mut table = JudgeTable::new(alloc, core.dims(), policy)?;
+    let all = cuboids(alloc, sourced.core.dims())?;
+    let mut table = JudgeTable::new(alloc, sourced.core.dims(), sourced.policy)?;
     let mut found = Cuboids::new(alloc);
     'cuboids: for levels in all.as_slice() {
         let known = found.as_slice();
-        let is_wanted = is_news(
-            alloc, core, policy, &mut table, source, measure, known, levels,
-        )?;
+        let is_wanted = is_news(alloc, sourced, &mut table, known, levels)?;
         push_if(alloc, &mut found, levels, is_wanted)?;
     }
     Ok(found)
@@ -159,6 +160,12 @@ pub fn finest_behind(
     ensures finest { IfOk result (λ listed. listed ≡ finest_by (shown core.now policy.now) (option_copied source.entry) measure) }
     ensures safe { option_copied source.entry ≡ None → IfOk result (λ listed. listed ≡ finest (shown core.now policy.now) measure) }
 {
-    let found = open_cuboids(alloc, core, policy, source, measure)?;
+    let sourced = Sourced {
+        core,
+        policy,
+        source,
+        measure,
+    };
+    let found = open_cuboids(alloc, &sourced)?;
     finest_of(alloc, found.as_slice())
 }

@@ -13,13 +13,13 @@ use Rattle.cube_advise.proofs.finest.open_cuboids.Goals as goal
 pub is_news-requires-clause-levels : goal.is_news-requires-clause-levels
 is_news-requires-clause-levels c =
     let items = c.as_slice-levels-items.result.now in
-    cuboid_levels (plains c.args.core.now.dims) c.levels-item.result
+    cuboid_levels (plains c.args.sourced.now.core.now.dims) c.levels-item.result
     (subst (IsIn c.levels-item.result) (c.as_slice-levels-items.ensures ∙ c.in_ok-all.ensures ∙ ap (λ (s : Dims). cuboids_below (map (λ d. d.levels) (plains s))) c.dims.ensures.dims)
     (subst (λ (x : List ℕ). IsIn x items) (sym c.levels-item.is) (get_or_in items c.cuboids.levels-index c.levels-item.result c.cuboids-test.true)))
 
 pub cuboids-preserved : goal.cuboids-preserved
 cuboids-preserved c =
-    let p = is_open_by (shown c.args.core.now c.args.policy.now) (option_copied c.args.source) c.args.measure in
+    let p = is_open_by (shown c.args.sourced.now.core.now c.args.sourced.now.policy.now) (option_copied c.args.sourced.now.source) c.args.sourced.now.measure in
     let items = c.as_slice-levels-items.result.now in
     let i = c.cuboids.levels-index in
     let x = c.levels-item.result in
@@ -32,7 +32,7 @@ cuboids-preserved c =
 
 pub returns : goal.returns
 returns c =
-    let p = is_open_by (shown c.args.core.now c.args.policy.now) (option_copied c.args.source) c.args.measure in
+    let p = is_open_by (shown c.args.sourced.now.core.now c.args.sourced.now.policy.now) (option_copied c.args.sourced.now.source) c.args.sourced.now.measure in
     let items = c.as_slice-levels-items.result.now in
     let all = c.as_slice-levels-items.ensures ∙ c.in_ok-all.ensures ∙ ap (λ (s : Dims). cuboids_below (map (λ d. d.levels) (plains s))) c.dims.ensures.dims in
     let known = subst (λ (xs : List (List ℕ)). Known (is_least p items) (filter p xs) c.cuboids.found) (take_all c.cuboids.levels-index items c.cuboids-test.false) c.cuboids.invariant.known in

@@ -8,7 +8,7 @@ use Rattle.cube_advise.proofs.finest.open_cuboids.Given as goal
 
 abbrev pub invariant-cuboids : goal.invariant-cuboids
 invariant-cuboids l = record {
-  stands : TableStands l.core l.policy l.table;
-  known : Known (is_least (is_open_by (shown l.core l.policy) (option_copied l.source) l.measure) l.levels-items)
-      (filter (is_open_by (shown l.core l.policy) (option_copied l.source) l.measure) (take l.levels-index l.levels-items)) l.found;
+  stands : TableStands l.sourced.core.now l.sourced.policy.now l.table;
+  known : Known (is_least (is_open_by (shown l.sourced.core.now l.sourced.policy.now) (option_copied l.sourced.source) l.sourced.measure) l.levels-items)
+      (filter (is_open_by (shown l.sourced.core.now l.sourced.policy.now) (option_copied l.sourced.source) l.sourced.measure) (take l.levels-index l.levels-items)) l.found;
 }
