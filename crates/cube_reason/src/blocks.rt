@@ -13,7 +13,7 @@ ghost use Rattle.cube_reason.specs.Made.{AreRows, same_cells};
 
 use cube_core::Core;
 use cube_model::{Cell, Cells, Dimension, Levels, NoMemory, Policy, Request, Rows, What};
-use cube_source::{covers, cutting_pair, protects};
+use cube_source::{covers, protects};
 use std::alloc::Global;
 
 /// Whether two lists of numbers are one.

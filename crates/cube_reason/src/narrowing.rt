@@ -5,15 +5,15 @@ ghost use Rattle.cube_model.specs.Cores.{shown};
 ghost use Rattle.cube_model.specs.Cubes.{are_levels};
 ghost use Rattle.cube_model.specs.Dims.{plains};
 ghost use Rattle.cube_model.specs.Entries.{is_allowed, levels_in};
-ghost use Rattle.cube_model.specs.Requests.{is_valid, grain as grain_of};
+ghost use Rattle.cube_model.specs.Requests.{grain as grain_of};
 ghost use Rattle.cube_model.specs.Verdicts as verdicts;
-ghost use Rattle.cube_reason.specs.Cases.{public_of, IsCase};
-ghost use Rattle.cube_reason.specs.Given.{AreAllowed, HasLevels};
+ghost use Rattle.cube_reason.specs.Cases.{IsCase};
+ghost use Rattle.cube_reason.specs.Given.{HasLevels};
 
 use crate::cases::Case;
 use cube_core::Core;
 use cube_lattice::{grain, narrow};
-use cube_model::{Entry, Levels, NoMemory, Policy, Request};
+use cube_model::{Entry, Levels, NoMemory, Policy};
 use std::alloc::Global;
 
 /// A source under what an entry brings.

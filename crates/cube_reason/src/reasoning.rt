@@ -9,7 +9,6 @@ ghost use Rattle.cube_model.specs.Requests.{grain, is_valid};
 ghost use Rattle.cube_model.specs.Verdicts.{narrowed, source, verdict as verdict_of, IsAdmissible};
 ghost use Rattle.cube_reason.specs.Found.{HasBlocks, WouldSource, Fixes, Refuses, IsAbout};
 ghost use Rattle.cube_reason.specs.Cases.{public_of, IsCase, IsJudged};
-ghost use Rattle.cube_reason.specs.Given.{AreAllowed};
 ghost use Rattle.cube_answers.specs.VerdictText.{CellFits};
 ghost use Rattle.cube_reason.specs.ReasonText.{CanBeTold};
 ghost use Rattle.cube_reason.specs.Views.{reason_view};

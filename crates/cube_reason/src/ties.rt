@@ -9,7 +9,6 @@ ghost use Rattle.cube_model.specs.LinkLaws.{AreOfPlaces};
 ghost use Rattle.cube_model.specs.Reasons.{links_by};
 ghost use Rattle.cube_model.specs.Requests.{is_valid};
 ghost use Rattle.cube_reason.specs.Cases.{public_of, IsCase};
-ghost use Rattle.cube_reason.specs.Given.{AreAllowed};
 ghost use Rattle.cube_reason.specs.Tied.{AreTies, OfPlaces, EntriesTied, OwnTied, tied};
 
 use crate::cases::Case;

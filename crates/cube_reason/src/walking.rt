@@ -1,11 +1,8 @@
 // A walk that shows why a place is fixed.
 ghost use Rattle.std.specs.Prelude.{◌≡◌, true, IfOk};
-ghost use Rattle.cube_model.specs.Cores.{shown};
 ghost use Rattle.cube_model.specs.Reasons as said;
-ghost use Rattle.cube_model.specs.Requests.{is_valid};
 ghost use Rattle.cube_reason.specs.Found.{HasWalk, CanWalk, WalksTo};
 ghost use Rattle.cube_reason.specs.Cases.{public_of, IsCase};
-ghost use Rattle.cube_reason.specs.Given.{AreAllowed};
 ghost use Rattle.cube_reason.specs.Views.{steps_view, end_view};
 
 use crate::cases::Case;
@@ -15,8 +12,7 @@ use crate::searching::{Visit, search, visit_with};
 use crate::ties::{Bringer, ties};
 use crate::trails::steps_to;
 use crate::{End, StepList};
-use cube_core::Core;
-use cube_model::{Entry, NoMemory, Policy, Request};
+use cube_model::NoMemory;
 use std::alloc::Global;
 
 /// The walk to the first visit that one ends at.
