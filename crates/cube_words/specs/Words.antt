@@ -232,6 +232,14 @@ plain_drafting words = record { facts = value_of Facts words; policy = false; ch
 
 -- ---- the orders
 
+-- a server, whose users are ruled so
+abbrev pub served : Rules → List (List ℕ) → Orders
+served r words = orders.Serve (ruled_files_of r words) (value_of Journal words) (value_of Address words) (stated MAX_REQUESTS words) (idle words)
+
+-- a script that is played to users who are ruled so
+abbrev pub replayed : Rules → List (List ℕ) → Orders
+replayed r words = orders.Replay (ruled_files_of r words) (value_of Journal words) (value_of Script words) (stated USUAL_REQUESTS words)
+
 -- the orders of a command by the words behind it, of which none is wrong and none is missing
 abbrev pub orders_with : Command → List (List ℕ) → Orders
 orders_with command.Help words = orders.Help None
@@ -247,10 +255,10 @@ orders_with command.Carry words = orders.Carry (files_of words) (older_files_of 
 orders_with command.Why words = orders.Why (files_of words) (value_of Journal words) (value_of Query words) (value_behind (option_word Reason) words)
 orders_with command.Audit words = orders.Audit (files_of words) (value_of Transcript words)
 orders_with command.Advise words = orders.Advise (files_of words) (value_behind (option_word Journal) words) (value_behind (option_word Workload) words)
-orders_with command.Serve words = orders.Serve (ruled_files_of (one_policy words) words) (value_of Journal words) (value_of Address words) (stated MAX_REQUESTS words) (idle words)
-orders_with command.ServeGroups words = orders.Serve (ruled_files_of (own_policies words) words) (value_of Journal words) (value_of Address words) (stated MAX_REQUESTS words) (idle words)
-orders_with command.Replay words = orders.Replay (ruled_files_of (one_policy words) words) (value_of Journal words) (value_of Script words) (stated USUAL_REQUESTS words)
-orders_with command.ReplayGroups words = orders.Replay (ruled_files_of (own_policies words) words) (value_of Journal words) (value_of Script words) (stated USUAL_REQUESTS words)
+orders_with command.Serve words = served (one_policy words) words
+orders_with command.ServeGroups words = served (own_policies words) words
+orders_with command.Replay words = replayed (one_policy words) words
+orders_with command.ReplayGroups words = replayed (own_policies words) words
 orders_with command.Demo words = orders.Demo (making_of words)
 
 abbrev pub unless_missing : Command → List (List ℕ) → Option Setting → Result Orders Usage

@@ -5,7 +5,7 @@ ghost use Rattle.cube_model.specs.Cubes.{IsIn};
 ghost use Rattle.cube_words.specs.declared.words.Command.TheVariants as command;
 ghost use Rattle.cube_words.specs.declared.words.Setting.TheVariants as setting;
 ghost use Rattle.cube_words.specs.declared.words.TheConstants.{MAX_REQUESTS, MAX_SIZE};
-ghost use Rattle.cube_words.specs.Words.{option_word, needed as needed_by, value_behind as value_in, value_of, files_of as files_in, older_files_of as older_files_in, ruled_files_of as ruled_files_in, one_policy as one_policy_in, own_policies as own_policies_in, stated as stated_in, idle as idle_in_words, making_of as making_in, plain_drafting as plain_drafting_in, orders_with as orders_behind, out_of, cube_of, IsRight, IsMade, Fits};
+ghost use Rattle.cube_words.specs.Words.{option_word, needed as needed_by, value_behind as value_in, value_of, files_of as files_in, older_files_of as older_files_in, ruled_files_of as ruled_files_in, one_policy as one_policy_in, own_policies as own_policies_in, stated as stated_in, idle as idle_in_words, making_of as making_in, plain_drafting as plain_drafting_in, served, replayed, orders_with as orders_behind, out_of, cube_of, IsRight, IsMade, Fits};
 
 use crate::drafting::Drafting;
 use crate::words::{
@@ -439,13 +439,21 @@ fn advise_with(alloc: Global, words: &[Text]) -> Result<Orders, NoMemory>
     })
 }
 
-fn serve_with(alloc: Global, words: &[Text]) -> Result<Orders, NoMemory>
-    requires { IsRight command.Serve words.now }
-    ensures orders { IfOk result (λ orders. orders ≡ orders_behind command.Serve words.now) }
+// The orders of a server whose users are ruled so.
+fn serve_with(
+    alloc: Global,
+    words: &[Text],
+    command: Command,
+    rules: Rules,
+) -> Result<Orders, NoMemory>
+    requires right { IsRight command words.now }
+    requires dims { IsIn setting.Dims (needed_by command) }
+    requires facts { IsIn setting.Facts (needed_by command) }
+    requires journal { IsIn setting.Journal (needed_by command) }
+    requires address { IsIn setting.Address (needed_by command) }
+    ensures orders { IfOk result (λ orders. orders ≡ served rules words.now) }
     ensures fits { IfOk result Fits }
 {
-    let command = Command::Serve;
-    let rules = one_policy(alloc, words, command)?;
     Ok(Orders::Serve {
         files: ruled_files_of(alloc, words, command, rules)?,
         journal: needed_text(alloc, words, command, Setting::Journal)?,
@@ -455,44 +463,21 @@ fn serve_with(alloc: Global, words: &[Text]) -> Result<Orders, NoMemory>
     })
 }
 
-fn serve_groups_with(alloc: Global, words: &[Text]) -> Result<Orders, NoMemory>
-    requires { IsRight command.ServeGroups words.now }
-    ensures orders { IfOk result (λ orders. orders ≡ orders_behind command.ServeGroups words.now) }
+// The orders to play a script to users who are ruled so.
+fn replay_with(
+    alloc: Global,
+    words: &[Text],
+    command: Command,
+    rules: Rules,
+) -> Result<Orders, NoMemory>
+    requires right { IsRight command words.now }
+    requires dims { IsIn setting.Dims (needed_by command) }
+    requires facts { IsIn setting.Facts (needed_by command) }
+    requires journal { IsIn setting.Journal (needed_by command) }
+    requires script { IsIn setting.Script (needed_by command) }
+    ensures orders { IfOk result (λ orders. orders ≡ replayed rules words.now) }
     ensures fits { IfOk result Fits }
 {
-    let command = Command::ServeGroups;
-    let rules = own_policies(alloc, words, command)?;
-    Ok(Orders::Serve {
-        files: ruled_files_of(alloc, words, command, rules)?,
-        journal: needed_text(alloc, words, command, Setting::Journal)?,
-        address: needed_text(alloc, words, command, Setting::Address)?,
-        stated: stated_to_serve(words, command),
-        idle: idle_of(words, command),
-    })
-}
-
-fn replay_with(alloc: Global, words: &[Text]) -> Result<Orders, NoMemory>
-    requires { IsRight command.Replay words.now }
-    ensures orders { IfOk result (λ orders. orders ≡ orders_behind command.Replay words.now) }
-    ensures fits { IfOk result Fits }
-{
-    let command = Command::Replay;
-    let rules = one_policy(alloc, words, command)?;
-    Ok(Orders::Replay {
-        files: ruled_files_of(alloc, words, command, rules)?,
-        journal: needed_text(alloc, words, command, Setting::Journal)?,
-        script: needed_text(alloc, words, command, Setting::Script)?,
-        stated: stated(words, command, USUAL_REQUESTS),
-    })
-}
-
-fn replay_groups_with(alloc: Global, words: &[Text]) -> Result<Orders, NoMemory>
-    requires { IsRight command.ReplayGroups words.now }
-    ensures orders { IfOk result (λ orders. orders ≡ orders_behind command.ReplayGroups words.now) }
-    ensures fits { IfOk result Fits }
-{
-    let command = Command::ReplayGroups;
-    let rules = own_policies(alloc, words, command)?;
     Ok(Orders::Replay {
         files: ruled_files_of(alloc, words, command, rules)?,
         journal: needed_text(alloc, words, command, Setting::Journal)?,
@@ -542,10 +527,20 @@ pub fn orders_with(alloc: Global, command: Command, words: &[Text]) -> Result<Or
         Command::Why => why_with(alloc, words),
         Command::Audit => audit_with(alloc, words),
         Command::Advise => advise_with(alloc, words),
-        Command::Serve => serve_with(alloc, words),
-        Command::ServeGroups => serve_groups_with(alloc, words),
-        Command::Replay => replay_with(alloc, words),
-        Command::ReplayGroups => replay_groups_with(alloc, words),
+        Command::Serve => serve_with(alloc, words, command, one_policy(alloc, words, command)?),
+        Command::ServeGroups => serve_with(
+            alloc,
+            words,
+            command,
+            own_policies(alloc, words, command)?,
+        ),
+        Command::Replay => replay_with(alloc, words, command, one_policy(alloc, words, command)?),
+        Command::ReplayGroups => replay_with(
+            alloc,
+            words,
+            command,
+            own_policies(alloc, words, command)?,
+        ),
         Command::Demo => Ok(Orders::Demo {
             making: making_of(words),
         }),

@@ -9,20 +9,8 @@ witness_with-requires c = subst (λ (x : Command). IsRight x c.args.words.now) c
 pub twin_with-requires : goal.twin_with-requires
 twin_with-requires c = subst (λ (x : Command). IsRight x c.args.words.now) c.in-Twin.is c.requires
 
-pub serve_with-requires : goal.serve_with-requires
-serve_with-requires c = subst (λ (x : Command). IsRight x c.args.words.now) c.in-Serve.is c.requires
-
-pub replay_with-requires : goal.replay_with-requires
-replay_with-requires c = subst (λ (x : Command). IsRight x c.args.words.now) c.in-Replay.is c.requires
-
 pub compact_with-requires : goal.compact_with-requires
 compact_with-requires c = subst (λ (x : Command). IsRight x c.args.words.now) c.in-Compact.is c.requires
-
-pub serve_groups_with-requires : goal.serve_groups_with-requires
-serve_groups_with-requires c = subst (λ (x : Command). IsRight x c.args.words.now) c.in-ServeGroups.is c.requires
-
-pub replay_groups_with-requires : goal.replay_groups_with-requires
-replay_groups_with-requires c = subst (λ (x : Command). IsRight x c.args.words.now) c.in-ReplayGroups.is c.requires
 
 pub why_with-requires : goal.why_with-requires
 why_with-requires c = subst (λ (x : Command). IsRight x c.args.words.now) c.in-Why.is c.requires
