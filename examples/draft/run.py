@@ -14,8 +14,8 @@ import tempfile
 HERE = os.path.dirname(os.path.abspath(__file__))
 PAY = os.path.join(HERE, "..", "pay")
 CUBE = os.environ.get("CUBE", os.path.join(HERE, "..", "..", "cube"))
-# a note on a limit
-NOTE = re.compile(rb"\Alimit [a-z]+: .+\n")
+# the notes on a limit and on the columns
+NOTES = re.compile(rb'\A(?:limit [a-z]+: .+\n)?(?:.+ line \d+: the columns are parted by .+\n)?(?:".*: .+\n)*(?:\.\.\n)?')
 
 
 def cube(*words, given=""):
@@ -23,10 +23,11 @@ def cube(*words, given=""):
 
 
 def draft(facts, *words):
-    """The drafted text, or what is said on standard error behind a note on a limit."""
+    """The drafted text, or what is said on standard error behind the notes."""
     ran = cube("draft", "--facts", facts, *words)
-    assert (ran.returncode == 0) == (ran.stderr == b""), ran
-    return ran.returncode, (ran.stdout if ran.returncode == 0 else NOTE.sub(b"", ran.stderr)).decode()
+    said = NOTES.sub(b"", ran.stderr)
+    assert (ran.returncode == 0) == (said == b""), ran
+    return ran.returncode, (ran.stdout if ran.returncode == 0 else said).decode()
 
 
 def written(folder, name, text):
@@ -273,6 +274,55 @@ def texts_are_read_as_they_are(folder):
     assert held["points"] == str(len(fields)) and held["protected"] == str(len(fields)), held
 
 
+def columns_are_left_out(folder):
+    facts = written(folder, "skip.csv", LEVELS)
+    status, text = draft(facts, "--skip", "year", "--skip", "age", "--skip", "area")
+    assert status == 0 and text.count("[[measure]]") == 1 and 'levels = ["branch"]' in text and "area" not in text, text
+    dims = written(folder, "skip.toml", text)
+    assert rows(folder, dims, facts, "slice pay by month.month") == ["Feb,12.25", "Jan,30.50"]
+    policy = written(folder, "skip-policy.toml", draft(facts, "--policy", "--skip", "year", "--skip", "age", "--skip", "area")[1])
+    assert summary(dims, facts, policy)["facts"] == "4"
+    # Fields that no member may be named by, and more columns than a draft has room for.
+    odd = written(folder, "skip-odd.csv", 'a,b,v\nx,"1\n2",1\ny,,2\n')
+    assert draft(odd)[0] == 3
+    status, text = draft(odd, "--skip", "b")
+    assert status == 0 and text.count("[[dimension]]") == 1, text
+    many = written(folder, "skip-many.csv", ",".join(["a", "v", *(f"c{n}" for n in range(60))]) + "\nx,1" + ",y" * 60 + "\n")
+    assert draft(many) == (3, "draft: limit columns 56\n")
+    status, text = draft(many, *(word for n in range(60) for word in ("--skip", f"c{n}")))
+    assert status == 0 and text.count("[[dimension]]") == 1, text
+    for words, said in ((["--skip", "none"], "missing column none"), (["--skip", "age", "--skip", "age"], "column age stated twice"), (["--members", "age", "--skip", "age"], "column age stated twice"), (["--skip", "pay", "--skip", "age", "--skip", "year"], "no measure column")):
+        assert draft(facts, *words) == (3, f"draft: {said}\n"), words
+
+
+# A file, and how many decimals its measure has.
+WRITTEN = [("a,v\nx,1234.50\ny,1\n", 2), ("a,v\nx,1\ny,2.000\nz,1.5\n", 3), ("a,v\nx,1.00000000\n", 6), ("a,v\nx,10\n", 0), (f"a,v\n" + "x,1.5\n" * 2_000 + "y,2.500\n", 3)]
+
+
+def decimals_are_those_that_are_written(folder):
+    for facts, decimals in WRITTEN:
+        status, text = draft(written(folder, "written.csv", facts))
+        assert status == 0 and text.endswith(f"decimals = {decimals}\n"), (facts[:40], text)
+
+
+# A file, what is stated of it, and the levels of its dimensions.
+CONSTANT = [
+    ("branch,month,land,v\nLyon,Jan,FR,1\nNice,Jan,FR,2\nLyon,Feb,FR,3\n", (), ["branch", "month", "land"]),
+    ("branch,month,year,v\nLyon,2026-01,2026,1\nNice,2026-01,2026,2\nLyon,2026-02,2026,3\n", ("--members", "year"), ["branch", "month year"]),
+    ("day,branch,month,year,v\n2026-01-01,Lyon,2026-01,2026,1\n2026-01-01,Nice,2026-01,2026,2\n2026-01-02,Nice,2026-01,2026,3\n", ("--members", "year"), ["day month year", "branch"]),
+    ("a,b,v\nx,y,1\n", (), ["a", "b"]),
+    ("land,part,v\nFR,FR-69,1\n", (), ["part land"]),
+    ("branch,land,v\nLyon,FR,1\nNice,FR,2\n", ("--levels", "place=branch,land"), ["branch land"]),
+]
+
+
+def what_is_constant_stands_by_itself(folder):
+    for facts, words, wanted in CONSTANT:
+        status, text = draft(written(folder, "constant.csv", facts), *words)
+        found = [" ".join(json.loads(line.removeprefix("levels = "))) for line in text.splitlines() if line.startswith("levels = ")]
+        assert status == 0 and sorted(found) == sorted(wanted), (wanted, text)
+
+
 REFUSED = [
     ("", "no header"),
     ("a,b\n", "no record"),
@@ -349,7 +399,8 @@ def what_comes_late_is_found(folder):
 def main():
     with tempfile.TemporaryDirectory() as folder:
         checks = (the_pay_of_an_office, levels_are_found, members_stand_in_their_order, hierarchies_stand_in_one_order, a_range_sums_what_it_says,
-                  a_person_is_protected_over_time, texts_are_read_as_they_are, what_cannot_be_drafted_is_told, what_comes_late_is_found)
+                  a_person_is_protected_over_time, texts_are_read_as_they_are, columns_are_left_out, decimals_are_those_that_are_written,
+                  what_is_constant_stands_by_itself, what_cannot_be_drafted_is_told, what_comes_late_is_found)
         for check in checks:
             check(folder)
             print("draft:", check.__name__.replace("_", " "))

@@ -65,8 +65,8 @@ COMPLETIONS = {
     ("cube", "draft", "--levels", "time", "=", ""): "",
     ("cube", "serve", "--address", ""): "",
     ("cube", "why", "--query", ""): "",
-    ("cube", "draft", "--levels", "time", "=", "month", "--"): "--facts --levels --members --policy",
-    ("cube", "draft", "--policy", ""): "--facts --levels --members",
+    ("cube", "draft", "--levels", "time", "=", "month", "--"): "--facts --levels --members --policy --skip",
+    ("cube", "draft", "--policy", ""): "--facts --levels --members --skip",
 }
 # What is typed, and what stands there then.
 TYPED = {"cube ser\t": "cube serve ", "cube carry --from-j\t": "cube carry --from-journal ", "cube check --dims di\t": "cube check --dims dims.toml "}

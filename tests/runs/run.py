@@ -110,8 +110,8 @@ def wrong_words_are_named():
         ("serve --groups g --policy p", "--policy"), ("replay --policy p --groups g", "--groups"), ("replay --dims d --facts f", "missing --policy"),
         ("serve --groups g --dims d", "missing --facts"), ("serve --idle 86401", "86401"), ("demo --size 21", "21"), ("demo --number 18446744073709551616", "18446744073709551616"),
         ("demo --number 18446744073709551615", "missing --size"), ("demo --size 0", "0"),
-        ("draft", "missing --facts"), ("draft --levels x", "x"), ("draft --levels", "--levels"), ("draft --policy --policy", "--policy"), ("draft --facts f --facts g", "--facts"),
-        ("draft --policy --members a --levels a=b,c --members d --policy x", "--policy"),
+        ("draft", "missing --facts"), ("draft --levels x", "x"), ("draft --levels", "--levels"), ("draft --skip", "--skip"), ("draft --policy --policy", "--policy"), ("draft --facts f --facts g", "--facts"),
+        ("draft --policy --members a --skip s --levels a=b,c --skip t --members d --policy x", "--policy"),
     ):
         expect(room.run(words), 2, "", f"usage: {text}\n", words)
 

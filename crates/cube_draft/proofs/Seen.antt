@@ -28,7 +28,7 @@ use Rattle.cube_facts.proofs.Adding.{count_long}
 use Rattle.cube_facts.proofs.Filled.{start_unmarked}
 use Rattle.cube_facts.proofs.Recent.{found_there}
 use Rattle.cube_facts.proofs.Recorded.{no_faults, no_own_faults}
-use Rattle.cube_draft.specs.Drafts.{field_of, path_of, IsMade, AreTrue, IsFilled}
+use Rattle.cube_draft.specs.Drafts.{field_of, path_of, written_decimals, IsMade, AreTrue, AreFine, IsFilled}
 use Rattle.cube_draft.specs.Kept.{Shown, AreNumbers, IsMarked, IsMeasured, AreFew, HasFewPoints, leaf_points, kept_path}
 use Rattle.cube_draft.proofs.Steps.{same_path}
 
@@ -180,7 +180,24 @@ pub number_there : (header : List (List ℕ)) (members : List Bool) (decimals : 
     → is_ok (units_of m.decimals (field_in header x m.column)) ≡ true
 number_there header members decimals x m is numbers =
     let here = numbers is.place is.within is.unmarked in
-    ap (λ (o : Option ℕ). is_ok (units_of m.decimals (field_of (unwrap_or o 0) x))) is.stands ∙ ap (λ (n : ℕ). is_ok (units_of n (field_of is.place x))) (sym is.same) ∙ here
+    ap (λ (o : Option ℕ). is_ok (units_of m.decimals (field_of (unwrap_or o 0) x))) is.stands ∙ ap (λ (n : ℕ). is_ok (units_of n (field_of is.place x))) (sym is.same) ∙ here.0
+
+-- it is written with no more decimals than the measure has
+pub written_there : (header : List (List ℕ)) (members : List Bool) (decimals : List ℕ) (x : List (List ℕ)) (m : NamedMeasure) → IsMeasured header members decimals m → AreNumbers members decimals x
+    → written_decimals (field_in header x m.column) ≤ m.decimals
+written_there header members decimals x m is numbers =
+    let here = numbers is.place is.within is.unmarked in
+    subst (λ (o : Option ℕ). written_decimals (field_of (unwrap_or o 0) x) ≤ m.decimals) (sym is.stands) (subst (λ (n : ℕ). written_decimals (field_of is.place x) ≤ n) is.same here.1)
+
+-- so all measures have the decimals that are written
+pub are_fine : (s : Dims) (bytes : List ℕ) (header : List (List ℕ)) (members : List Bool) (fields : List (List (List ℕ))) (many : ℕ) (decimals : List ℕ)
+    → Shown bytes header members fields many decimals → ((k : ℕ) → k < length s.measures → IsMeasured header members decimals (measure_at s k)) → AreFine bytes s
+are_fine s bytes header members fields many decimals shown measured = record {
+  header = header;
+  rows = shown.holds.rows;
+  records = shown.holds.records;
+  each = λ m k lm lk. written_there header members decimals (get_or shown.holds.rows k []) (measure_at s m) (measured m lm) (shown.seen.numbers k lk);
+}
 
 all_some : {X : Type 0} (f : X → Option ℕ) (xs : List X) (d : X) → ((k : ℕ) → k < length xs → (l : ℕ) × (f (get_or xs k d) ≡ Some l)) → map f xs ≡ map Some (map (λ x. unwrap_or (f x) 0) xs)
 all_some f [] d h = refl

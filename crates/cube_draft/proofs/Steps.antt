@@ -1,13 +1,12 @@
 -- The columns of a fact file, record by record, and dimensions made of them.
 use Rattle.std.proofs.Common.{true, ◌≡◌, ◌<◌, ◌≤◌, ℕ, suc, ◌+◌, Bool, false, List, [], ◌∷◌, ◌++◌, length, map, take, get_or, slice_set, refl, sym, ap, ap₂, subst, ◌∙◌, arith, ltb, length-append}
-use Rattle.std.specs.List.{list_all}
 use Rattle.std.proofs.Math.ListN.{get_or-append}
 use Rattle.std.proofs.lemmas.List.{take_more, map_more, take_all, get_or-map, get_or_default, map-append, append_assoc, append-nil, get_or-set_same, get_or-set_other, get_or-append-add}
 use Rattle.std.proofs.lemmas.Bool.{ltb-true, ltb-false}
 use Rattle.cube_model.proofs.Members.{tested}
 use Rattle.cube_facts.specs.Records.{records_of}
 use Rattle.cube_model.specs.Dims.{Dims, NamedDimension, dimension_at}
-use Rattle.cube_draft.specs.Drafts.{field_of, path_of, is_used, IsAmong, IsMade, AreTrue}
+use Rattle.cube_draft.specs.Drafts.{field_of, path_of, IsAmong, IsMade, AreTrue}
 use Rattle.cube_draft.specs.Kept.{Begins, Holds, Scanned, Shown, AreNumbers, IsNumber, IsMarked, Grows, IsKept, kept_path}
 
 -- ---- lists that are compared item by item
@@ -187,12 +186,11 @@ module _ (header : List (List ℕ)) (members : List Bool) (fields : List (List (
 
 -- the dimensions of which each is made of columns that are kept
 pub true_of : (s : Dims) (bytes : List ℕ) (header : List (List ℕ)) (members : List Bool) (fields : List (List (List ℕ))) (many n : ℕ)
-    → Holds bytes header members fields many → list_all (is_used s) header ≡ true → length s.dimensions ≤ n → ((k : ℕ) → k < n → IsKept header members fields many (dimension_at s k)) → AreTrue bytes s
-true_of s bytes header members fields many n holds used long kept = record {
+    → Holds bytes header members fields many → length s.dimensions ≤ n → ((k : ℕ) → k < n → IsKept header members fields many (dimension_at s k)) → AreTrue bytes s
+true_of s bytes header members fields many n holds long kept = record {
   header = header;
   rows = holds.rows;
   records = holds.records;
-  used = used;
   each = λ i l. made header members fields holds.rows holds.held (dimension_at s i) many holds.counted (kept i (omega (arith, l, long)));
 }
 

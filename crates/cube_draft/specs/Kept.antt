@@ -4,7 +4,7 @@ use Rattle.std.specs.List.{fold}
 use Rattle.cube_model.specs.Dims.{NamedDimension, NamedMeasure, found}
 use Rattle.cube_text.specs.Units.{units_of}
 use Rattle.cube_facts.specs.Records.{records_of}
-use Rattle.cube_draft.specs.Drafts.{field_of, level_name, IsAmong}
+use Rattle.cube_draft.specs.Drafts.{field_of, level_name, written_decimals, IsAmong}
 
 -- a file begins with a header
 pub record Begins (bytes : List ℕ) (header : List (List ℕ)) : Type 0 where
@@ -26,9 +26,9 @@ pub record Holds (bytes : List ℕ) (header : List (List ℕ)) (members : List B
   pub counted : many ≡ length rows
   pub held : (k : ℕ) → k < length members → IsMarked members k → slice_index_or fields k [] ≡ map (field_of k) rows
 
--- a field is a number of so many decimals
+-- a field is a number of so many decimals, and is written with no more
 abbrev pub IsNumber : ℕ → List ℕ → Type 0
-IsNumber decimals field = is_ok (units_of decimals field) ≡ true
+IsNumber decimals field = (is_ok (units_of decimals field) ≡ true) × (written_decimals field ≤ decimals)
 
 -- the fields of a record are such numbers in the columns without members
 abbrev pub AreNumbers : List Bool → List ℕ → List (List ℕ) → Type 0

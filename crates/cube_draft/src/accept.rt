@@ -82,8 +82,8 @@ fn is_controlled(methods: &[Method], measure: usize) -> bool
     }
 }
 
-// Whether an object protects a measure.
-fn has_object(objects: &[Object], measure: usize) -> bool
+/// Whether an object protects a measure.
+pub fn has_object(objects: &[Object], measure: usize) -> bool
     ensures { result ≡ list_any (λ o. o.measure == measure) objects.now }
 {
     objects

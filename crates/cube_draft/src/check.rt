@@ -3,7 +3,7 @@ ghost use Rattle.std.specs.Prelude.{◌≡◌, ◌<◌, ℕ, List, [], length, t
 ghost use Rattle.std.specs.List.{list_all, list_any};
 ghost use Rattle.std.specs.Str.{bytes_eq};
 ghost use Rattle.cube_model.specs.Dims.{IsDims};
-ghost use Rattle.cube_draft.specs.Drafts.{IsAmong, AreTrue, is_used};
+ghost use Rattle.cube_draft.specs.Drafts.{IsAmong, AreTrue, IsCovered, is_used, is_covered};
 ghost use Rattle.cube_draft.specs.Kept.{IsMarked, Holds, IsKept, kept_path, level_names};
 
 use crate::columns::{finest_of, name_at};
@@ -196,28 +196,40 @@ fn has_measure(measures: &[Measure], column: &[u8]) -> bool
     measures.iter().any(|m| column == m.column())
 }
 
-// Whether a column is a level of a dimension, or that of a measure.
-fn is_used(dims: &Dims, column: &[u8]) -> bool
+/// Whether a column is a level of a dimension, or that of a measure.
+pub(crate) fn is_used(dims: &Dims, column: &[u8]) -> bool
     ensures { result ≡ is_used dims.now column.now }
 {
     has_level(dims.dimensions(), level_name(column)) || has_measure(dims.measures(), column)
 }
 
-// Whether all columns are.
-fn are_used(dims: &Dims, header: &[Text]) -> bool
-    ensures { result ≡ list_all (is_used dims.now) header.now }
+// Whether a column is used, or is one of those that are left out.
+fn is_covered(dims: &Dims, skipped: &[Text], column: &[u8]) -> bool
+    ensures { result ≡ is_covered skipped.now dims.now column.now }
 {
-    header.iter().all(|column| is_used(dims, column.as_slice()))
+    is_used(dims, column) || is_among(skipped, column)
 }
 
-/// Whether the dimensions are made of the columns that were planned for them, and no column is
-/// left out.
+// Whether all columns are.
+fn are_covered(dims: &Dims, skipped: &[Text], header: &[Text]) -> bool
+    ensures { result ≡ list_all (is_covered skipped.now dims.now) header.now }
+{
+    header
+        .iter()
+        .all(|column| is_covered(dims, skipped, column.as_slice()))
+}
+
+/// Whether no column is left out but these.
+pub(crate) fn covers(dims: &Dims, table: &Table, skipped: &[Text]) -> bool
+    ensures { (bytes : List ℕ) → Holds bytes table.now.header table.now.members.items table.now.fields.items table.now.rows → result ≡ true → IsCovered skipped.now bytes dims.now }
+{
+    are_covered(dims, skipped, table.header.as_slice())
+}
+
+/// Whether the dimensions are made of the columns that were planned for them.
 pub(crate) fn are_true(dims: &Dims, table: &Table, planned: &[Planned]) -> bool
     ensures { (bytes : List ℕ) → Holds bytes table.now.header table.now.members.items table.now.fields.items table.now.rows → result ≡ true → AreTrue bytes dims.now }
 {
-    if !are_used(dims, table.header.as_slice()) {
-        return false;
-    }
     let dimensions = dims.dimensions();
     if dimensions.len() != planned.len() {
         return false;

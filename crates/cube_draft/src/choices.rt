@@ -15,4 +15,6 @@ pub struct Choices {
     pub dimensions: Items<Stated>,
     /// Columns that have members even where all their fields are numbers.
     pub members: Texts,
+    /// Columns that are left out: they are no level and no measure.
+    pub skipped: Texts,
 }

@@ -15,7 +15,7 @@ use cube_facts::{FactsFault, has_second_mark, open_records};
 use cube_model::{Items, NoMemory, NumberedNames, Text, Texts};
 use std::alloc::Global;
 
-/// The most columns: one for each level of each dimension, and one for each measure.
+/// The most columns that are not left out: one for each level of each dimension, and one for each measure.
 pub(crate) const MAX_COLUMNS: usize = 56;
 
 /// The place of the finest of some columns.
@@ -93,8 +93,8 @@ fn check_once(alloc: Global, header: &[Text]) -> Result<(), DraftFault> {
     Ok(())
 }
 
-/// The names of the columns of a fact file.
-pub(crate) fn read_header(alloc: Global, bytes: &[u8]) -> Result<Texts, DraftFault>
+/// The names of the columns of a fact file, of which so many are left out.
+pub(crate) fn read_header(alloc: Global, bytes: &[u8], skipped: usize) -> Result<Texts, DraftFault>
     ensures begins { IfOk result (λ header. Begins bytes.now header) }
     ensures unmarked { OnOk result (begins_with_mark (strip_bom bytes.now) ≡ false) }
 {
@@ -108,7 +108,7 @@ pub(crate) fn read_header(alloc: Global, bytes: &[u8]) -> Result<Texts, DraftFau
         Ok(false) => return Err(no_header()),
         Err(_) => return Err(DraftFault::NoMemory),
     }
-    if row.len() > MAX_COLUMNS {
+    if row.len() > MAX_COLUMNS.saturating_add(skipped) {
         return Err(DraftFault::Columns {
             number: MAX_COLUMNS as u64,
         });
@@ -148,7 +148,7 @@ fn add_stated(
     Ok(())
 }
 
-/// The places of the columns that are stated, each of them once.
+/// The places of the columns that are stated, each of them once: those that are left out too.
 pub(crate) fn stated_places(
     alloc: Global,
     header: &[Text],
@@ -159,6 +159,7 @@ pub(crate) fn stated_places(
         add_stated(alloc, header, stated.columns.as_slice(), &mut places)?;
     }
     add_stated(alloc, header, choices.members.as_slice(), &mut places)?;
+    add_stated(alloc, header, choices.skipped.as_slice(), &mut places)?;
     Ok(places)
 }
 

@@ -3,6 +3,7 @@ ghost use Rattle.std.specs.Prelude.{◌≡◌, ◌<◌, [], length, not, slice_i
 ghost use Rattle.std.specs.Str.{bytes_eq};
 ghost use Rattle.cube_model.specs.Cubes.{place_of};
 
+use crate::apart::is_under;
 use crate::table::Table;
 use cube_model::{Items, NoMemory, NumberedNames};
 use std::alloc::Global;
@@ -32,7 +33,7 @@ pub(crate) fn determines(below: &NumberedNames, above: &NumberedNames) -> bool {
     true
 }
 
-/// For each column which others it determines.
+/// For each column which others it determines. What is constant is determined by each, and is noted only where it is plainly above.
 #[derive(Drop)]
 pub(crate) struct Determined {
     rows: Items<Items<bool>>,
@@ -47,9 +48,32 @@ fn determined_by(
 ) -> Result<Items<bool>, NoMemory> {
     let mut row = Items::new(alloc);
     for above in 0..marks.len() {
-        row.push(has_mark(marks, below) && marks[above] && column_determines(table, below, above))?;
+        row.push(
+            has_mark(marks, below)
+                && marks[above]
+                && may_be_above(table, below, above)
+                && column_determines(table, below, above),
+        )?;
     }
     Ok(row)
+}
+
+// Whether each name of a column begins with the one of another, that is constant.
+fn are_under(lower: &NumberedNames, upper: &NumberedNames) -> bool {
+    for number in 0..lower.count() {
+        if upper.count() != 1 || !is_under(upper.name(0), lower.name(number)) {
+            return false;
+        }
+    }
+    true
+}
+
+// Whether a column may be a level above another one: it is not constant, or it is plainly above.
+fn may_be_above(table: &Table, below: usize, above: usize) -> bool {
+    match (table.fields.get(below), table.fields.get(above)) {
+        (Some(lower), Some(upper)) => upper.count() > 1 || are_under(lower, upper),
+        _ => false,
+    }
 }
 
 // Whether there are both columns, and one determines the other.

@@ -1,9 +1,9 @@
 // Whether what was stated of the columns is kept in dimensions that were read.
 ghost use Rattle.std.specs.Prelude.{◌≡◌, length};
 ghost use Rattle.std.specs.List.{list_all};
-ghost use Rattle.cube_draft.specs.Drafts.{are_columns as are_columns_in, has_level as has_level_in, is_stated as is_stated_in, stand_first as stand_first_in, keeps as keeps_in};
+ghost use Rattle.cube_draft.specs.Drafts.{are_columns as are_columns_in, has_level as has_level_in, is_left_out as is_left_out_of, is_stated as is_stated_in, stand_first as stand_first_in, keeps as keeps_in};
 
-use crate::check::has_level;
+use crate::check::{has_level, is_used};
 use crate::choices::{Choices, Stated};
 use crate::text::level_name;
 use cube_model::{Dimension, Dims, Text};
@@ -53,6 +53,15 @@ fn are_levels(dimensions: &[Dimension], columns: &[Text]) -> bool
     columns.iter().all(|column| has_level(dimensions, level_name(column.as_slice())))
 }
 
+// Whether some columns are left out.
+fn are_left_out(dims: &Dims, columns: &[Text]) -> bool
+    ensures { result ≡ list_all (is_left_out_of dims.now) columns.now }
+{
+    columns
+        .iter()
+        .all(|column| !is_used(dims, column.as_slice()))
+}
+
 /// Whether dimensions keep what was stated.
 pub(crate) fn keeps(choices: &Choices, dims: &Dims) -> bool
     ensures { result ≡ keeps_in choices.now dims.now }
@@ -60,4 +69,5 @@ pub(crate) fn keeps(choices: &Choices, dims: &Dims) -> bool
     let dimensions = dims.dimensions();
     stand_first(choices.dimensions.as_slice(), dimensions)
         && are_levels(dimensions, choices.members.as_slice())
+        && are_left_out(dims, choices.skipped.as_slice())
 }

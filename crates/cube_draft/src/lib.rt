@@ -2,6 +2,7 @@
 #![tactic(auto)]
 
 mod accept;
+mod apart;
 mod check;
 mod choices;
 mod columns;
@@ -15,7 +16,10 @@ mod shown;
 mod table;
 mod text;
 mod whole;
+mod worked;
 
+pub use accept::has_object;
 pub use choices::{Choices, Stated};
 pub use fault::{DraftFault, fault_text};
 pub use whole::{Draft, draft_files};
+pub use worked::{worked_choices, worked_fields, worked_governing};

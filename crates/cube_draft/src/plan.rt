@@ -2,9 +2,9 @@
 ghost use Rattle.std.specs.Prelude.{◌≡◌, ◌<◌, ◌-◌, ◌^◌, length, IfSome};
 
 use crate::choices::{Choices, Stated};
-use crate::columns::{copy_name, name_at, places_of};
+use crate::columns::{copy_name, name_at, place_of, places_of};
 use crate::fault::DraftFault;
-use crate::hierarchy::{Determined, column_determines, count_of, take_mark};
+use crate::hierarchy::{Determined, column_determines, count_of, has_mark, take_mark};
 use crate::order::Order;
 use crate::table::Table;
 use cube_dims::is_name;
@@ -81,10 +81,23 @@ fn check_members(
     Ok(())
 }
 
-// Checks the columns with members.
-fn check_columns(alloc: Global, table: &Table) -> Result<(), DraftFault> {
+// The columns with members that are not left out.
+fn used_marks(alloc: Global, table: &Table, choices: &Choices) -> Result<Vec<bool>, DraftFault> {
+    let mut marks = Vec::from_slice(alloc, table.members.as_slice())?;
+    for name in choices.skipped.as_slice() {
+        if let Some(place) = place_of(table.header.as_slice(), name.as_slice()) {
+            take_mark(&mut marks, place);
+        }
+    }
+    Ok(marks)
+}
+
+// Checks the columns that are marked.
+fn check_columns(alloc: Global, table: &Table, marks: &[bool]) -> Result<(), DraftFault> {
     for (place, names) in table.fields.iter().enumerate() {
-        check_members(alloc, table, place, names)?;
+        if has_mark(marks, place) {
+            check_members(alloc, table, place, names)?;
+        }
     }
     Ok(())
 }
@@ -168,13 +181,14 @@ fn plan_found(
     Ok(plan_columns(alloc, table, name, columns)?)
 }
 
-// All dimensions.
+// All dimensions, of the columns that are marked.
 fn plan_dimensions(
     alloc: Global,
     table: &Table,
     choices: &Choices,
+    marks: Vec<bool>,
 ) -> Result<Items<Planned>, DraftFault> {
-    let mut left = Vec::from_slice(alloc, table.members.as_slice())?;
+    let mut left = marks;
     let mut dimensions = plan_all_stated(alloc, table, choices, &mut left)?;
     let determined = Determined::of(alloc, table, left.as_slice())?;
     for _ in 0..=MAX_DIMENSIONS {
@@ -232,8 +246,9 @@ pub(crate) fn make_plan(
     table: &Table,
     choices: &Choices,
 ) -> Result<Plan, DraftFault> {
-    check_columns(alloc, table)?;
-    let dimensions = plan_dimensions(alloc, table, choices)?;
+    let marks = used_marks(alloc, table, choices)?;
+    check_columns(alloc, table, marks.as_slice())?;
+    let dimensions = plan_dimensions(alloc, table, choices, marks)?;
     let measures = plan_measures(alloc, table.members.as_slice())?;
     let plan = Plan {
         dimensions,

@@ -5,7 +5,7 @@ ghost use Rattle.std.specs.Str.{bytes_eq};
 ghost use Rattle.csv.specs.Reading.{strip_bom};
 ghost use Rattle.cube_model.specs.Dims.{found, measure_at};
 ghost use Rattle.cube_model.specs.Names.{begins_with_mark};
-ghost use Rattle.cube_draft.specs.Drafts.{AreTrue, IsFilled};
+ghost use Rattle.cube_draft.specs.Drafts.{AreTrue, AreFine, IsFilled};
 ghost use Rattle.cube_draft.specs.Kept.{AreFew, Counts, HasFewPoints, IsAlike, IsMeasured, Shown, leaf_points};
 
 use crate::check::{are_marked, have_same, number_in};
@@ -83,6 +83,16 @@ fn are_measured(dims: &Dims, table: &Table) -> bool
         }
     }
     true
+}
+
+/// Whether each measure has the decimals that a sound scan has seen in its column.
+pub(crate) fn are_fine(dims: &Dims, table: &Table) -> bool
+    ensures { result ≡ true → (bytes : List ℕ) → (table.now.sound ≡ true → Shown bytes table.now.header table.now.members.items table.now.fields.items table.now.rows table.now.decimals.items) → AreFine bytes dims.now }
+{
+    if !table.sound {
+        return false;
+    }
+    are_measured(dims, table)
 }
 
 // The places of the columns in which the leaves stand.

@@ -1,9 +1,10 @@
 // What the columns of a fact file hold: members, or numbers alone.
 ghost use Rattle.std.specs.Prelude.{◌≡◌, ◌<◌, ◌-◌, ◌^◌, ◌++◌, ◌∷◌, [], ℕ, true, false, length, slice_index_or, IfOk, OnOk};
+ghost use Rattle.std.specs.List.{after_first, position};
 ghost use Rattle.csv.specs.Reading.{strip_bom};
 ghost use Rattle.csv.specs.Records.{fields_of};
 ghost use Rattle.cube_model.specs.Names.{begins_with_mark};
-ghost use Rattle.cube_draft.specs.Drafts.{field_of};
+ghost use Rattle.cube_draft.specs.Drafts.{field_of, is_point, written_decimals as written_with};
 ghost use Rattle.cube_draft.specs.Kept.{AreNumbers, Grows, Holds, IsNumber, Scanned, Shown};
 
 use crate::choices::Choices;
@@ -51,10 +52,33 @@ struct First {
 // decimals well.
 const FIRST_RECORDS: usize = 1_000;
 
-/// The least decimals, so many or more, by which a field is read as a number, also as one that is
-/// too large.
+fn find_point(field: &[u8]) -> Option<usize>
+    ensures { result ≡ position is_point field.now }
+{
+    field.iter().position(|byte| *byte == b'.')
+}
+
+// What stands behind the first point of a field.
+fn behind_point(field: &[u8]) -> &[u8]
+    ensures { result.now ≡ after_first is_point field.now }
+{
+    match find_point(field) {
+        Some(at) => &field[at + 1..],
+        None => &[],
+    }
+}
+
+// How many decimals a field is written with, at most 6.
+fn written_decimals(field: &[u8]) -> u32
+    ensures { result ≡ written_with field.now }
+{
+    behind_point(field).len().min(6) as u32
+}
+
+/// The least decimals, so many or more and no fewer than it is written with, by which a field is
+/// read as a number, also as one that is too large.
 pub(crate) fn decimals_from(field: &[u8], least: u32) -> Option<u32> {
-    for decimals in least..7 {
+    for decimals in least.max(written_decimals(field))..7 {
         match read_units(field, decimals) {
             Err(UnitFault::TooFine) => {}
             Err(UnitFault::Syntax) => return None,
@@ -113,11 +137,11 @@ fn push_fields(
     Ok(())
 }
 
-// Whether a field is read as a number of so many decimals.
+// Whether a field is read as a number of so many decimals, and is written with no more.
 fn is_number(field: &[u8], decimals: u32) -> bool
     ensures { result ≡ true → IsNumber decimals field.now }
 {
-    decimals <= 6 && read_units(field, decimals).is_ok()
+    written_decimals(field) <= decimals && decimals <= 6 && read_units(field, decimals).is_ok()
 }
 
 // Whether both are true.
@@ -301,7 +325,7 @@ fn look_first(alloc: Global, bytes: &[u8], marks: &[bool]) -> Result<First, Draf
     Ok(First { members, decimals })
 }
 
-/// The columns of a fact file. A file is passed over once more where a column begins with numbers
+/// The columns of a fact file. Those that are left out are kept as if they had members. A file is passed over once more where a column begins with numbers
 /// and has another field behind them, or finer ones.
 pub(crate) fn read_columns(
     alloc: Global,
@@ -312,7 +336,7 @@ pub(crate) fn read_columns(
     ensures shown { IfOk result (λ table. table.sound ≡ true → Shown bytes.now table.header table.members.items table.fields.items table.rows table.decimals.items) }
     ensures unmarked { OnOk result (begins_with_mark (strip_bom bytes.now) ≡ false) }
 {
-    let header = read_header(alloc, bytes)?;
+    let header = read_header(alloc, bytes, choices.skipped.len())?;
     let stated = stated_places(alloc, header.as_slice(), choices)?;
     let marks = marks_of(alloc, header.len(), stated.as_slice())?;
     let first = look_first(alloc, bytes, marks.as_slice())?;

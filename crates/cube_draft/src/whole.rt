@@ -6,12 +6,13 @@ ghost use Rattle.cube_draft.specs.Drafts.{AreTrue, IsDraft, IsFilled};
 ghost use Rattle.cube_draft.specs.Kept.{Holds, Shown};
 
 use crate::accept::{check_facts, check_policy, read_drafted};
-use crate::check::are_true;
+use crate::apart::are_apart;
+use crate::check::{are_true, covers};
 use crate::choices::Choices;
 use crate::fault::DraftFault;
 use crate::kept::keeps;
 use crate::plan::{Plan, make_plan};
-use crate::shown::is_shown;
+use crate::shown::{are_fine, is_shown};
 use crate::table::{Table, read_columns};
 use crate::text::{dims_text, policy_text};
 use cube_model::{Dims, Text};
@@ -66,6 +67,12 @@ fn accepted(
     check_filled(alloc, bytes, table, &said, agrees)?;
     check_policy(alloc, &said, &texts.policy)?;
     if !agrees || !keeps(choices, &said) {
+        return Err(DraftFault::Untrue);
+    }
+    if !covers(&said, table, choices.skipped.as_slice()) || !are_apart(choices, &said) {
+        return Err(DraftFault::Untrue);
+    }
+    if !are_fine(&said, table) {
         return Err(DraftFault::Untrue);
     }
     Ok(texts)

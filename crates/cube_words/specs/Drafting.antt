@@ -1,4 +1,5 @@
--- The words behind `draft`: a fact file, `--policy` alone, and any number of dimensions and of columns with members that are stated.
+-- The words behind `draft`: a fact file, `--policy` alone, and any number of dimensions, of columns with members and of columns that are
+-- left out.
 use Rattle.std.specs.Prelude.{ℕ, ◌+◌, ◌==◌, Bool, true, false, not, ◌||◌, ◌&&◌, is_none, List, [], ◌∷◌, ◌++◌, codes, if◌then◌else◌, Option, Some, None, Result, Ok, Err}
 use Rattle.std.specs.List.{before_first, after_first, slice_split, list_any}
 use Rattle.std.specs.Str.{bytes_eq}
@@ -12,7 +13,7 @@ use Rattle.cube_words.specs.declared.words.Usage.TheVariants.{Wrong, Missing}
 
 -- before any word
 abbrev pub nothing : Begun
-nothing = record { facts = None; policy = false; choices = record { dimensions = []; members = [] } }
+nothing = record { facts = None; policy = false; choices = record { dimensions = []; members = []; skipped = [] } }
 
 -- `--policy`, where it has not stood before
 abbrev pub is_flag : Begun → List ℕ → Bool
@@ -20,7 +21,7 @@ is_flag b word = bytes_eq word (codes "--policy") && not b.policy
 
 -- an option that may stand behind these words
 abbrev pub is_free : Begun → List ℕ → Bool
-is_free b word = bytes_eq word (codes "--levels") || bytes_eq word (codes "--members") || (bytes_eq word (codes "--facts") && is_none b.facts)
+is_free b word = bytes_eq word (codes "--levels") || bytes_eq word (codes "--members") || bytes_eq word (codes "--skip") || (bytes_eq word (codes "--facts") && is_none b.facts)
 
 abbrev pub is_sign : ℕ → Bool
 is_sign byte = byte == 61
@@ -39,8 +40,9 @@ stated_in value = record { name = before_first is_sign value; columns = slice_sp
 -- what is said with this option and its value more
 abbrev pub added : Begun → List ℕ → List ℕ → Begun
 added b word value =
-    if bytes_eq word (codes "--levels") then record { facts = b.facts; policy = b.policy; choices = record { dimensions = b.choices.dimensions ++ stated_in value ∷ []; members = b.choices.members } }
-    else if bytes_eq word (codes "--members") then record { facts = b.facts; policy = b.policy; choices = record { dimensions = b.choices.dimensions; members = b.choices.members ++ value ∷ [] } }
+    if bytes_eq word (codes "--levels") then record { facts = b.facts; policy = b.policy; choices = record { dimensions = b.choices.dimensions ++ stated_in value ∷ []; members = b.choices.members; skipped = b.choices.skipped } }
+    else if bytes_eq word (codes "--members") then record { facts = b.facts; policy = b.policy; choices = record { dimensions = b.choices.dimensions; members = b.choices.members ++ value ∷ []; skipped = b.choices.skipped } }
+    else if bytes_eq word (codes "--skip") then record { facts = b.facts; policy = b.policy; choices = record { dimensions = b.choices.dimensions; members = b.choices.members; skipped = b.choices.skipped ++ value ∷ [] } }
     else record { facts = Some value; policy = b.policy; choices = b.choices }
 
 abbrev pub flagged : Begun → Begun

@@ -15,7 +15,7 @@ replay_usage = codes "cube replay --dims FILE --facts FILE (--policy FILE | --gr
 abbrev pub usage_of : Command → List ℕ
 usage_of command.Help = codes "cube --help, cube COMMAND --help\n    prints this text, or the part of it on a command\n"
 usage_of command.Version = codes "cube --version\n    prints the version\n"
-usage_of command.Draft = codes "cube draft --facts FILE [--policy] [--levels NAME=COLUMN,COLUMN].. [--members COLUMN]..\n    prints a dimension file for a fact file; with --policy a policy file for it, which protects every nonempty cell\n"
+usage_of command.Draft = codes "cube draft --facts FILE [--policy] [--levels NAME=COLUMN,COLUMN].. [--members COLUMN].. [--skip COLUMN]..\n    prints a dimension file for a fact file; with --policy a policy file for it, which protects every nonempty cell\n"
 usage_of command.Sum = codes "cube sum --facts FILE\n    answers each line of the input by a sum over the file\n"
 usage_of command.Check = codes "cube check --dims FILE --facts FILE --policy FILE\n    says what the files hold\n"
 usage_of command.Ask = codes "cube ask --dims FILE --facts FILE --policy FILE --journal FILE [--requests N]\n    answers each line of the input as a query, or as `shape` or `witness CELL`\n"
@@ -39,11 +39,12 @@ note_of setting.Requests = codes "--requests N: answers at most N asks, refused 
 note_of setting.Idle = codes "--idle SECONDS: 0 to 86400, where 0 is for ever; without it 60\n"
 note_of setting.Levels = codes "--levels NAME=COLUMN,COLUMN: these columns are the levels of one dimension of that name, the finest first;\n    without it a column that another one determines is a level above it\n"
 note_of setting.Members = codes "--members COLUMN: the numbers in this column, as ages or years, are members and no measure\n"
+note_of setting.Skip = codes "--skip COLUMN: this column is left out: facts are added up over it\n"
 note_of other = []
 
 -- the options of a command of which something is said
 abbrev pub noted : Command → List Setting
-noted command.Draft = setting.Levels ∷ setting.Members ∷ []
+noted command.Draft = setting.Levels ∷ setting.Members ∷ setting.Skip ∷ []
 noted command.Ask = setting.Requests ∷ []
 noted command.Serve = setting.Groups ∷ setting.Requests ∷ setting.Idle ∷ []
 noted command.ServeGroups = setting.Groups ∷ setting.Requests ∷ setting.Idle ∷ []
@@ -53,7 +54,7 @@ noted other = []
 
 -- all of these
 abbrev pub all_noted : List Setting
-all_noted = setting.Groups ∷ setting.Requests ∷ setting.Idle ∷ setting.Levels ∷ setting.Members ∷ []
+all_noted = setting.Groups ∷ setting.Requests ∷ setting.Idle ∷ setting.Levels ∷ setting.Members ∷ setting.Skip ∷ []
 
 -- what a person is doing, and the commands for it
 abbrev pub group_text : List ℕ → List Command → List ℕ

@@ -17,7 +17,7 @@ use Rattle.cube_words.specs.declared.ordered.Orders.{Orders}
 use Rattle.cube_words.specs.declared.ordered.Orders.TheVariants as orders
 use Rattle.cube_words.specs.declared.words.TheConstants.{MAX_REQUESTS, USUAL_REQUESTS, MAX_IDLE, USUAL_IDLE, MAX_DIGITS, OVER, MAX_SIZE}
 use Rattle.cube_words.specs.declared.words.Setting.{Setting}
-use Rattle.cube_words.specs.declared.words.Setting.TheVariants.{Dims, Facts, Policy, Groups, Journal, Cell, Query, Reason, Transcript, Workload, Out, Address, Script, Requests, Idle, Number, Size, Levels, Members, FromDims, FromFacts, FromPolicy, FromJournal}
+use Rattle.cube_words.specs.declared.words.Setting.TheVariants.{Dims, Facts, Policy, Groups, Journal, Cell, Query, Reason, Transcript, Workload, Out, Address, Script, Requests, Idle, Number, Size, Levels, Members, Skip, FromDims, FromFacts, FromPolicy, FromJournal}
 use Rattle.cube_words.specs.declared.words.Usage.{Usage}
 use Rattle.cube_words.specs.declared.words.Usage.TheVariants.{NoCommand, Wrong, Missing}
 
@@ -61,6 +61,7 @@ option_word Number = codes "--number"
 option_word Size = codes "--size"
 option_word Levels = codes "--levels"
 option_word Members = codes "--members"
+option_word Skip = codes "--skip"
 option_word FromDims = codes "--from-dims"
 option_word FromFacts = codes "--from-facts"
 option_word FromPolicy = codes "--from-policy"
@@ -228,7 +229,7 @@ making_of words = record { number = digits_value 10 (value_of Number words); siz
 
 -- the draft of a fact file of whose columns nothing is stated
 abbrev pub plain_drafting : List (List ℕ) → DraftOrders
-plain_drafting words = record { facts = value_of Facts words; policy = false; choices = record { dimensions = []; members = [] } }
+plain_drafting words = record { facts = value_of Facts words; policy = false; choices = record { dimensions = []; members = []; skipped = [] } }
 
 -- ---- the orders
 

@@ -1,4 +1,4 @@
-// The words behind `draft`, which has an option without a value and two that may stand again.
+// The words behind `draft`, which has an option without a value and three that may stand again.
 ghost use Rattle.std.specs.Prelude.{◌≡◌, map, IfOk};
 ghost use Rattle.std.specs.List.{position, before_first, after_first, slice_split};
 ghost use Rattle.cube_words.specs.Words.{Fits};
@@ -38,6 +38,7 @@ fn begin(alloc: Global) -> Begun
         choices: Choices {
             dimensions: Items::new(alloc),
             members: Items::new(alloc),
+            skipped: Items::new(alloc),
         },
     }
 }
@@ -53,6 +54,7 @@ fn is_free(begun: &Begun, word: &[u8]) -> bool
 {
     word == Setting::Levels.word()
         || word == Setting::Members.word()
+        || word == Setting::Skip.word()
         || (word == Setting::Facts.word() && begun.facts.is_none())
 }
 
@@ -132,12 +134,15 @@ fn add(alloc: Global, begun: Begun, word: &[u8], value: &[u8]) -> Result<Begun, 
     let Choices {
         mut dimensions,
         mut members,
+        mut skipped,
     } = choices;
     let mut file = facts;
     if word == Setting::Levels.word() {
         dimensions.push(stated_of(alloc, value)?)?;
     } else if word == Setting::Members.word() {
         members.push(Text::from_bytes(alloc, value)?)?;
+    } else if word == Setting::Skip.word() {
+        skipped.push(Text::from_bytes(alloc, value)?)?;
     } else {
         file = Some(Text::from_bytes(alloc, value)?);
     }
@@ -147,6 +152,7 @@ fn add(alloc: Global, begun: Begun, word: &[u8], value: &[u8]) -> Result<Begun, 
         choices: Choices {
             dimensions,
             members,
+            skipped,
         },
     })
 }

@@ -7,12 +7,13 @@ use cube_model::{NoMemory, Text};
 use std::alloc::Global;
 
 // The options of which something is said.
-const NOTED: [Setting; 5] = [
+const NOTED: [Setting; 6] = [
     Setting::Groups,
     Setting::Requests,
     Setting::Idle,
     Setting::Levels,
     Setting::Members,
+    Setting::Skip,
 ];
 
 // How a command is used, and what it does.
@@ -24,7 +25,7 @@ fn usage(command: Command) -> &'static [u8]
             b"cube --help, cube COMMAND --help\n    prints this text, or the part of it on a command\n",
         Command::Version => b"cube --version\n    prints the version\n",
         Command::Draft =>
-            b"cube draft --facts FILE [--policy] [--levels NAME=COLUMN,COLUMN].. [--members COLUMN]..\n    prints a dimension file for a fact file; with --policy a policy file for it, which protects every nonempty cell\n",
+            b"cube draft --facts FILE [--policy] [--levels NAME=COLUMN,COLUMN].. [--members COLUMN].. [--skip COLUMN]..\n    prints a dimension file for a fact file; with --policy a policy file for it, which protects every nonempty cell\n",
         Command::Sum =>
             b"cube sum --facts FILE\n    answers each line of the input by a sum over the file\n",
         Command::Check =>
@@ -68,6 +69,7 @@ fn note(setting: Setting) -> &'static [u8]
             b"--levels NAME=COLUMN,COLUMN: these columns are the levels of one dimension of that name, the finest first;\n    without it a column that another one determines is a level above it\n",
         Setting::Members =>
             b"--members COLUMN: the numbers in this column, as ages or years, are members and no measure\n",
+        Setting::Skip => b"--skip COLUMN: this column is left out: facts are added up over it\n",
         _ => b"",
     }
 }
@@ -77,7 +79,7 @@ fn noted(command: Command) -> &'static [Setting]
     ensures { result.now ≡ noted_of command }
 {
     match command {
-        Command::Draft => &[Setting::Levels, Setting::Members],
+        Command::Draft => &[Setting::Levels, Setting::Members, Setting::Skip],
         Command::Ask => &[Setting::Requests],
         Command::Serve | Command::ServeGroups => &[
             Setting::Groups,

@@ -497,6 +497,7 @@ fn plain_drafting(alloc: Global, words: &[Text]) -> Result<Drafting, NoMemory>
         choices: Choices {
             dimensions: Items::new(alloc),
             members: Items::new(alloc),
+            skipped: Items::new(alloc),
         },
     })
 }

@@ -94,6 +94,8 @@ pub enum Setting {
     Levels,
     /// A column whose numbers are members.
     Members,
+    /// A column that a draft leaves out.
+    Skip,
     /// The dimension file of an older cube.
     FromDims,
     /// The fact file of an older cube.
@@ -380,6 +382,7 @@ impl Setting {
             Setting::Size => b"--size",
             Setting::Levels => b"--levels",
             Setting::Members => b"--members",
+            Setting::Skip => b"--skip",
             Setting::FromDims => b"--from-dims",
             Setting::FromFacts => b"--from-facts",
             Setting::FromPolicy => b"--from-policy",
