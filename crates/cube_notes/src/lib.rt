@@ -23,4 +23,4 @@ pub use ranges::note_on_ranges;
 pub use shown::push_shown;
 pub use tables::note_on_table;
 pub use unknown::note_on_unknown;
-pub use worked::worked_lines;
+pub use worked::{worked_lines, worked_nearness};

@@ -1,7 +1,7 @@
 // The names that may have been meant by one that is unknown.
-ghost use Rattle.std.specs.Prelude.{◌≡◌, ◌≤◌, length, vec_len, IfOk, IfSome};
+ghost use Rattle.std.specs.Prelude.{◌≡◌, ◌≤◌, length, vec_len, Ok, None, IfOk, IfSome};
 ghost use Rattle.std.specs.Str.{chars};
-ghost use Rattle.cube_notes.specs.Nearness.{edits, most_edits};
+ghost use Rattle.cube_notes.specs.Nearness.{edits, most_edits, length_gap, AreFar};
 
 use crate::choices::Choices;
 use crate::shown::push_shown;
@@ -36,13 +36,21 @@ fn most_edits(from: &str, to: &str) -> usize
     count_chars(from).max(count_chars(to)) / 3
 }
 
+// How far apart the lengths are.
+fn length_gap(from: &str, to: &str) -> usize
+    ensures { result ≡ length_gap from.now to.now }
+{
+    count_chars(from).abs_diff(count_chars(to))
+}
+
 // How many edits lead from a name to another, where they are near. Names of lengths that lie further apart are not compared.
 fn near_distance(alloc: Global, from: &str, to: &str) -> Result<Option<usize>, NoMemory>
     ensures edits { IfOk result (λ near. IfSome near (λ d. d ≡ edits from.now to.now)) }
     ensures near { IfOk result (λ near. IfSome near (λ d. d ≤ most_edits from.now to.now)) }
+    ensures far { result ≡ Ok None → AreFar from.now to.now }
 {
     let most = most_edits(from, to);
-    if count_chars(from).abs_diff(count_chars(to)) > most {
+    if length_gap(from, to) > most {
         return Ok(None);
     }
     let distance = osa_distance(alloc, from, to)?;
