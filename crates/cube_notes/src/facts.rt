@@ -27,8 +27,8 @@ impl Row {
     }
 }
 
-// The line, from 1, in which a record of a file begins.
-fn line_of(bytes: &[u8], record: &ByteRecord) -> u64 {
+/// The line, from 1, in which a record of a file begins.
+pub(crate) fn line_of(bytes: &[u8], record: &ByteRecord) -> u64 {
     let taken = match record.position() {
         Some(position) => position.byte(),
         None => 0,

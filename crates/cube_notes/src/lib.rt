@@ -3,11 +3,13 @@
 #![tactic(auto)]
 
 mod choices;
+mod drafts;
 mod facts;
 mod guarding;
 mod limits;
 mod lines;
 mod nearest;
+mod numbers;
 mod queries;
 mod ranges;
 mod shown;
@@ -15,6 +17,7 @@ mod tables;
 mod unknown;
 mod worked;
 
+pub use drafts::note_on_draft;
 pub use facts::{note_on_facts, note_on_flat};
 pub use guarding::note_on_policy;
 pub use limits::note_on_limit;
