@@ -30,6 +30,11 @@ def draft(facts, *words):
     return ran.returncode, (ran.stdout if ran.returncode == 0 else said).decode()
 
 
+def noted(facts, *words):
+    """The lines on standard error."""
+    return cube("draft", "--facts", facts, *words).stderr.decode().splitlines()
+
+
 def written(folder, name, text):
     path = os.path.join(folder, name)
     with open(path, "wb") as file:
@@ -323,6 +328,39 @@ def what_is_constant_stands_by_itself(folder):
         assert status == 0 and sorted(found) == sorted(wanted), (wanted, text)
 
 
+# A file, what is stated of it, and the notes on it; FILE is its path.
+NOTED = [
+    ("branch,year,pay\nLyon,2025,1\nNice,2026,NA\nNice,2026,3\n", (), [
+        '"branch": 0 of 3 numbers, line 2 is "Lyon": members; left out by --skip "branch"',
+        '"year": 3 years: a measure, which is added up; members by --members "year", left out by --skip "year"',
+        '"pay": 2 of 3 numbers, line 3 is "NA": members; left out by --skip "pay"',
+    ]),
+    ("branch,age,pay\nLyon,45,1\n", ("--members", "age", "--skip", "branch"), [
+        '"branch": left out, as stated', '"age": members, as stated', '"pay": 1 numbers: a measure; members by --members "pay", left out by --skip "pay"',
+    ]),
+    ('a,b,c,d,e,f\n"1,234.50",1.2e3,EUR 12," 200","12,5",0.1234567\n', (), [
+        f'"{name}": 0 of 1 numbers, line 2 is "{value}" ({hint}): members; left out by --skip "{name}"'
+        for name, value, hint in [
+            ("a", "1,234.50", "commas between thousands: leave them out"), ("b", "1.2e3", "an exponent: write the number out"),
+            ("c", "EUR 12", "a currency beside a number: leave it out"), ("d", " 200", "blanks beside a number: leave them out"),
+            ("e", "12,5", "a comma before decimals: write a point"), ("f", "0.1234567", "more than 6 decimals: round it"),
+        ]
+    ]),
+    ("a;b;pay\nx;y;1\n", (), [
+        "FILE line 1: the columns are parted by semicolons: write commas, and points in numbers",
+    ]),
+    ("a\tpay\nx\t1\n", (), ["FILE line 1: the columns are parted by tabs: write commas, and points in numbers"]),
+]
+
+
+def columns_are_told(folder):
+    for facts, words, wanted in NOTED:
+        facts = written(folder, "noted.csv", facts)
+        lines = noted(facts, *words)
+        assert lines[:len(wanted)] == [line.replace("FILE", facts) for line in wanted], (lines, wanted)
+        assert noted(facts, "--policy", *words) == (lines if lines[-1].startswith("draft: ") else []), lines
+
+
 REFUSED = [
     ("", "no header"),
     ("a,b\n", "no record"),
@@ -400,7 +438,7 @@ def main():
     with tempfile.TemporaryDirectory() as folder:
         checks = (the_pay_of_an_office, levels_are_found, members_stand_in_their_order, hierarchies_stand_in_one_order, a_range_sums_what_it_says,
                   a_person_is_protected_over_time, texts_are_read_as_they_are, columns_are_left_out, decimals_are_those_that_are_written,
-                  what_is_constant_stands_by_itself, what_cannot_be_drafted_is_told, what_comes_late_is_found)
+                  what_is_constant_stands_by_itself, columns_are_told, what_cannot_be_drafted_is_told, what_comes_late_is_found)
         for check in checks:
             check(folder)
             print("draft:", check.__name__.replace("_", " "))

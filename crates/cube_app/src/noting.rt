@@ -6,13 +6,13 @@ use cube_io::Folder;
 use cube_journal::Digest;
 use cube_model::{Dims, Text};
 use cube_notes::{
-    note_on_facts, note_on_flat, note_on_limit, note_on_policy, note_on_query, note_on_table,
-    note_on_unknown,
+    note_on_draft, note_on_facts, note_on_flat, note_on_limit, note_on_policy, note_on_query,
+    note_on_table, note_on_unknown,
 };
 use cube_opening::{CubeFiles, Report, Rules};
 use cube_policy::read_policy;
 use cube_seal::digest_of_values;
-use cube_words::Orders;
+use cube_words::{Drafting, Orders};
 use std::alloc::Global;
 
 /// The dimensions in a file, where they are accepted.
@@ -132,6 +132,25 @@ fn asked_note<F: Folder>(
     }
 }
 
+// Of the columns of a fact file that files are drafted for.
+fn draft_note<F: Folder>(alloc: Global, drafting: &Drafting, files: &mut F) -> Option<Text> {
+    let bytes = files.read_file(alloc, &drafting.facts).ok()?;
+    note_on_draft(alloc, &drafting.facts, bytes.as_slice(), &drafting.choices).ok()
+}
+
+// The same, behind the note on a limit where the report names one.
+fn undrafted_note<F: Folder>(
+    alloc: Global,
+    drafting: &Drafting,
+    text: &[u8],
+    files: &mut F,
+) -> Option<Text> {
+    let columns = draft_note(alloc, drafting, files)?;
+    let mut note = note_on_limit(alloc, text).ok()?;
+    note.extend(columns.as_slice()).ok()?;
+    Some(note)
+}
+
 // Of a limit that the report names.
 fn limit_note(alloc: Global, text: &[u8]) -> Option<Text> {
     let note = note_on_limit(alloc, text).ok()?;
@@ -216,6 +235,8 @@ pub fn note<F: Folder>(
     let text = report.text.as_slice();
     match (orders, report.status) {
         (Orders::Check { files: cube }, 0) => policy_note(alloc, cube, files),
+        (Orders::Draft { drafting }, 0) if !drafting.policy => draft_note(alloc, drafting, files),
+        (Orders::Draft { drafting }, 3) => undrafted_note(alloc, drafting, text, files),
         (_, 3) => refusal_note(alloc, orders, text, files),
         _ => None,
     }
