@@ -1,5 +1,5 @@
 // What is told of a cube before it is opened, or behind its journal: what can be released from it, and how a workload would be judged.
-ghost use Rattle.std.specs.Prelude.{◌≡◌, ◌≢◌, ◌⊎◌, ◌≤◌, ◌+◌, ◌++◌, ◌∷◌, ℕ, List, [], true, false, length, IsTrue, IfOk, IfErr, OnOk, IfSome, Ok, codes, None, Some};
+ghost use Rattle.std.specs.Prelude.{◌≡◌, ◌≢◌, ◌⊎◌, ◌≤◌, ◌+◌, ◌++◌, ◌∷◌, [], true, length, IsTrue, IfOk, IfErr, OnOk, IfSome, Ok, None, Some};
 ghost use Rattle.cube_advise.specs.Lines.{is_workload as has_few_lines};
 ghost use Rattle.cube_advise.specs.Telling.{HasFewLines, later_text};
 ghost use Rattle.cube_io.specs.Causes.{Rose};

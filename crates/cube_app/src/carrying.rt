@@ -3,7 +3,6 @@ ghost use Rattle.std.specs.Prelude.{◌≡◌, ◌≢◌, ◌⊎◌, ◌≤◌, 
 ghost use Rattle.cube_model.specs.Entries.{requests};
 ghost use Rattle.cube_model.specs.Policies.{IsPolicy};
 ghost use Rattle.cube_io.specs.Seen.{seen};
-ghost use Rattle.cube_carry.specs.Carrying.{IsCarried};
 ghost use Rattle.cube_carry.specs.Continues.{Continues, KeepsValues};
 ghost use Rattle.cube_carry.specs.Names.{named};
 ghost use Rattle.cube_carrying.specs.Comparing.{IsComparedBy};
@@ -26,7 +25,7 @@ use cube_engine::Book;
 use cube_io::{Folder, Sink, Store};
 use cube_journal::{digest_of, journal2_text, public_text};
 use cube_model::{Entry, History, NoMemory, Places, Policy, Text};
-use cube_opening::{CubeFiles, Message, Report, open_guarded, refuse_line, statuses};
+use cube_opening::{CubeFiles, Message, Report, open_guarded};
 use cube_serving::open_book;
 use std::alloc::Global;
 

@@ -1,6 +1,6 @@
 // What is told of an open cube: the changes that hide a cell or the fact file that they make, or the history written down as what it
 // holds.
-ghost use Rattle.std.specs.Prelude.{◌≡◌, ◌≢◌, ◌⊎◌, ◌≤◌, ◌+◌, ◌++◌, ℕ, List, Result, [], None, IsTrue, IfOk, IfErr, IsOk, Ok, Err, codes};
+ghost use Rattle.std.specs.Prelude.{◌≡◌, ◌≢◌, ◌⊎◌, ◌≤◌, ◌+◌, ◌++◌, ℕ, List, Result, [], None, IsTrue, IfOk, IfErr, Ok, Err, codes};
 ghost use Rattle.cube_io.specs.Seen.{seen};
 ghost use Rattle.cube_engine.specs.Changes.{Refuses};
 ghost use Rattle.cube_opening.specs.Causes.{HasCauses, of_command};
@@ -13,7 +13,7 @@ use crate::saying::{Unsaid, put_said};
 use cube_engine::{Book, NoChanges};
 use cube_io::{Folder, MAX_FILE, Sink, Store};
 use cube_model::Text;
-use cube_opening::{CubeFiles, Message, Report, open_guarded, refuse_line, statuses};
+use cube_opening::{CubeFiles, Message, Report, open_guarded};
 use cube_serving::open_book;
 use std::alloc::Global;
 

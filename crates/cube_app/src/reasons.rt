@@ -1,5 +1,5 @@
 // Why a query is refused, and whether a text says so.
-ghost use Rattle.std.specs.Prelude.{◌≡◌, ◌≢◌, ◌⊎◌, ◌≤◌, ◌+◌, ◌↔◌, ◌++◌, ◌∷◌, ℕ, List, [], None, true, IsTrue, IfOk, IfErr, IfSome, OnOk, IsOk, Ok, codes};
+ghost use Rattle.std.specs.Prelude.{◌≡◌, ◌≢◌, ◌⊎◌, ◌≤◌, ◌+◌, ◌↔◌, ◌++◌, ◌∷◌, [], None, true, IsTrue, IfOk, IfErr, IfSome, OnOk, Ok};
 ghost use Rattle.cube_model.specs.Cores.{shown};
 ghost use Rattle.cube_model.specs.Verdicts.{verdict as verdict_of};
 ghost use Rattle.cube_io.specs.Seen.{seen};

@@ -7,7 +7,7 @@ use Rattle.cube_model.specs.declared.policy.Method.{Method}
 use Rattle.cube_model.specs.declared.policy.Method.TheVariants.{Plain, Lattice, Parity}
 use Rattle.cube_model.specs.declared.policy.Policy.{Policy}
 use Rattle.cube_model.specs.declared.shape.Shape.{Shape}
-use Rattle.cube_model.specs.Dims.{NamedDimension, NamedMeasure, Dims, dimension_at, measure_at}
+use Rattle.cube_model.specs.Dims.{NamedDimension, Dims, dimension_at, measure_at}
 use Rattle.cube_dims.specs.DimsFile.{dims_of}
 use Rattle.cube_facts.specs.FactFile.{field_in, filled_of}
 use Rattle.cube_facts.specs.Records.{records_of}

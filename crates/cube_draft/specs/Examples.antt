@@ -1,6 +1,5 @@
 -- What is stated of the columns of the pay cube, and a policy that is none.
-use Rattle.std.specs.Prelude.{ℕ, List, [], ◌∷◌, codes}
-use Rattle.cube_model.specs.Dims.{NamedDimension}
+use Rattle.std.specs.Prelude.{ℕ, List, [], ◌∷◌}
 use Rattle.cube_model.specs.declared.policy.Method.TheVariants.{Plain}
 use Rattle.cube_model.specs.declared.policy.Policy.{Policy}
 use Rattle.cube_policy.specs.Examples.{each_pay}

@@ -1,7 +1,5 @@
 // Whether constant columns stand by themselves in dimensions that were read.
-ghost use Rattle.std.specs.Prelude.{◌≡◌, ◌<◌, ◌≤◌, ◌-◌, ◌||◌, ℕ, [], true, not, length, slice_index_or};
-ghost use Rattle.std.specs.List.{list_all, list_any};
-ghost use Rattle.std.specs.Str.{bytes_eq};
+ghost use Rattle.std.specs.Prelude.{◌≡◌, ◌<◌, ◌≤◌, ◌-◌, ◌||◌, [], true, not, slice_index_or};
 ghost use Rattle.cube_draft.specs.Drafts.{is_gap as is_gap_of, is_under as is_under_in, name_in as name_at_level, is_varied as is_varied_in, is_plainly_above as is_plainly_above_in, StandsApart, AreApart};
 
 use crate::choices::Choices;

@@ -1,6 +1,5 @@
 -- The space that a wire needs which plays a script, and that it has it.
-use Rattle.std.specs.Prelude.{◌≡◌, ◌<◌, ◌≤◌, ⊤, ℕ, ◌+◌, ◌^◌, Bool, true, false, List, [], ◌∷◌, ◌++◌, length, take, drop, map, sum_by, count_by}
-use Rattle.std.specs.List.{list_all}
+use Rattle.std.specs.Prelude.{◌≡◌, ◌<◌, ◌≤◌, ⊤, ℕ, ◌+◌, ◌^◌, Bool, false, List, [], ◌∷◌, ◌++◌, length, take, drop, map, sum_by, count_by}
 use Rattle.cube_model.specs.Cubes.{Each}
 use Rattle.cube_io.specs.Scrolls.{Roll, owed_by}
 use Rattle.cube_io.specs.Wires.{Arrival, LogEntry, events_in}

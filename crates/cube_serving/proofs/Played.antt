@@ -16,7 +16,6 @@ use Rattle.cube_io.specs.Content.{AppendsPrefix}
 use Rattle.cube_io.specs.Seen.{SinkState, Seen}
 use Rattle.cube_io.specs.Wires.{Arrival, LogEntry, events_in, render}
 use Rattle.cube_io.specs.Wires.Arrival.{Opened, Came, Closed, End}
-use Rattle.cube_io.specs.Wires.LogEntry.{Torn}
 use Rattle.cube_io.specs.Files.{max_file}
 use Rattle.cube_opening.specs.Opening.{fault_text, faulted, unless_long}
 use Rattle.cube_opening.specs.declared.report.Report.{Report}

@@ -1,17 +1,12 @@
 -- The logs of a store while its seal is held.
 use Rattle.std.proofs.Common.{◌≡◌, ◌≢◌, ◌∙◌, ◌<◌, ◌≤◌, ◌+◌, ℕ, suc, List, [], ◌∷◌, length, IsTrue, ◌⊎◌, inl, inr, refl, sym, subst, arith}
-use Rattle.std.specs.Prelude.{Err, codes}
-use Rattle.cube_model.specs.declared.policy.Policy.{Policy}
-use Rattle.cube_model.specs.Cores.{Core}
+use Rattle.std.specs.Prelude.{Err}
 use Rattle.cube_io.specs.Causes.{Rose}
 use Rattle.cube_io.specs.Seen.{StoreState, Seen, seen}
 use Rattle.cube_io.specs.States.{Log, Gained}
-use Rattle.cube_io.specs.Told.{OthersStay, Works}
+use Rattle.cube_io.specs.Told.{OthersStay}
 use Rattle.cube_io.proofs.Trails.{gained_none}
-use Rattle.cube_journal.specs.Keeping.{IsInRecovery}
-use Rattle.cube_engine.specs.Kept.{history_of}
 use Rattle.cube_seal.specs.Seals.{seal_log, Agrees, SealCause, IsSealed, IsSealFault, IsSealable}
-use Rattle.cube_seal.specs.Values.{digest_of_values}
 use Rattle.cube_seal.specs.declared.fault.SealFault.{SealFault}
 use Rattle.cube_seal.specs.declared.fault.SealFault.TheVariants.{Failed, NoMemory, Damaged, OtherValues}
 use Rattle.cube_opening.specs.Reports.{IsReport, NoMessage}

@@ -5,7 +5,6 @@ use Rattle.std.specs.Prelude.{slice_set}
 use Rattle.std.proofs.lemmas.Bool.{false≢true}
 use Rattle.std.proofs.Math.Seq.{set-append_seam}
 use Rattle.cube_model.specs.declared.ask.Ask.{Ask}
-use Rattle.cube_model.specs.declared.ask.Question.{Question}
 use Rattle.cube_model.specs.declared.entry.Entry.{Entry}
 use Rattle.cube_model.specs.declared.outcome.Outcome.{Outcome}
 use Rattle.cube_model.specs.declared.outcome.Outcome.TheVariants.{Given, JournalFault}
@@ -19,14 +18,12 @@ use Rattle.cube_model.specs.Runs.{reply_by, next_by}
 use Rattle.cube_model.proofs.Members.{tested}
 use Rattle.cube_io.specs.Seen.{StoreState}
 use Rattle.cube_io.specs.States.{State, Log, Gained, settled}
-use Rattle.cube_io.specs.Told.{Works, OthersStay}
 use Rattle.cube_io.specs.Desks.{GivesRooms, LeavesAll, IsOneOf}
 use Rattle.cube_io.proofs.Leaving.{leaves_all_map, leaves_all_none}
 use Rattle.cube_io.proofs.Outcomes.{works_more}
 use Rattle.cube_io.proofs.Trails.{gained_none, gained_map}
-use Rattle.cube_engine.specs.Books.{Book, book_reply, book_history, AnswersOne, StaysExact, KeepsInHand, IsRenewed}
+use Rattle.cube_engine.specs.Books.{book_history, AnswersOne}
 use Rattle.cube_engine.specs.Kept.{IsKept, GivesHistory, IsExact, IsWithin}
-use Rattle.cube_engine.specs.Prepared.{SettleCause}
 use Rattle.cube_engine.specs.Steps.{by_words, call, manner}
 use Rattle.cube_engine.proofs.Settled.{settled_exact}
 use Rattle.cube_serving.specs.NamedBooks.{room, rooms_of, dims_of, is_named, any_failed, IsKeptIn, AreInOrder, place, places_of, HoldsAt, IsTurn}

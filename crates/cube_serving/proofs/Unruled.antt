@@ -1,13 +1,13 @@
 -- A run over groups that ended at its files.
 use Rattle.std.proofs.Common.{◌≡◌, ℕ, List, [], ◌∷◌, ◌++◌, Option, Some, None, inl, inr, refl, sym, subst, arith}
-use Rattle.std.specs.Prelude.{IsSomeAnd, Result}
+use Rattle.std.specs.Prelude.{IsSomeAnd}
 use Rattle.cube_groups.specs.declared.group.GroupFile.{GroupFile}
 use Rattle.cube_io.specs.Causes.{Rose}
 use Rattle.cube_io.specs.Files.{file_of}
 use Rattle.cube_io.specs.Seen.{FolderState, Seen}
 use Rattle.cube_model.specs.Cores.{Core}
 use Rattle.cube_model.specs.Dims.{Dims}
-use Rattle.cube_opening.specs.Opening.{dims_said, facts_said, Unopened}
+use Rattle.cube_opening.specs.Opening.{dims_said, facts_said}
 use Rattle.cube_opening.specs.Ruling.{groups_said, group_policy_said, one_group, Lists, AreRuledBy, HaveNames, MakesGroups, EndsAtOne, EndsAtRules, EndsUnruled, HasGroups}
 use Rattle.cube_opening.specs.declared.cube_files.Rules.{Rules}
 use Rattle.cube_opening.specs.declared.cube_files.Rules.TheVariants.{One, Groups}

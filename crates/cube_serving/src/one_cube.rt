@@ -1,9 +1,8 @@
 // The journal of one cube: its users are the one group without a name.
-ghost use Rattle.std.specs.Prelude.{◌≡◌, ◌⊎◌, ◌++◌, ◌∷◌, [], length, map, IsTrue, IfOk, IfErr, OnOk};
+ghost use Rattle.std.specs.Prelude.{◌≡◌, ◌⊎◌, ◌++◌, ◌∷◌, [], IsTrue, IfOk, IfErr, OnOk};
 ghost use Rattle.cube_model.specs.Cubes.{Each};
 ghost use Rattle.cube_model.specs.Policies.{IsPolicy};
 ghost use Rattle.cube_io.specs.Seen.{seen};
-ghost use Rattle.cube_opening.specs.Ruling.{AreGroups};
 ghost use Rattle.cube_serving.specs.Grouping.{AreHeld, EndsAtJournals, OpensFew};
 ghost use Rattle.cube_serving.specs.NamedBooks.{IsKeptIn};
 ghost use Rattle.cube_serving.specs.OneCube.{under as ruled_by, IsBegun, IsBegunAlone, Recovers};
@@ -13,7 +12,7 @@ use crate::Groups;
 use crate::gathering::open_groups;
 use cube_engine::Book;
 use cube_io::Store;
-use cube_model::{Dims, Items, NoMemory, Policy, Text};
+use cube_model::{Items, NoMemory, Policy, Text};
 use cube_opening::{Guarded, Message, Opened, Report, Ruled, RuledGroup, RuledGroups, statuses};
 use std::alloc::Global;
 

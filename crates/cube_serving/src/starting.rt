@@ -1,5 +1,5 @@
 // The store of a command is attached, and the reports on a journal that is refused.
-ghost use Rattle.std.specs.Prelude.{◌≡◌, ◌⊎◌, ◌≤◌, ◌+◌, ◌++◌, ◌∷◌, ℕ, List, decimal, length, [], IsTrue, IfOk, IfErr, OnOk, codes};
+ghost use Rattle.std.specs.Prelude.{◌≡◌, ◌⊎◌, ◌≤◌, ◌+◌, ◌++◌, ◌∷◌, decimal, length, [], IsTrue, IfOk, IfErr, OnOk, codes};
 ghost use Rattle.cube_io.specs.Causes.{Rose};
 ghost use Rattle.cube_io.specs.Seen.{seen};
 ghost use Rattle.cube_io.specs.Told.{SameLogs};

@@ -1,5 +1,5 @@
-use Rattle.std.proofs.Common.{◌∙◌, ◌++◌, ◌∷◌, [], ℕ, List, Option, Ok, inl, inr, ap, refl, subst}
-use Rattle.std.specs.Prelude.{IfSome, codes}
+use Rattle.std.proofs.Common.{◌∙◌, ◌++◌, ◌∷◌, [], ℕ, List, Option, Ok, inl, inr, refl, subst}
+use Rattle.std.specs.Prelude.{IfSome}
 use Rattle.cube_io.specs.Seen.{seen}
 use Rattle.cube_opening.specs.Opening.{FileSays, names_of}
 use Rattle.cube_audit.specs.Audits.{audited}
