@@ -69,7 +69,7 @@ class Room:
         more = {"stdin": stdin} if stdin is not None else {"input": bytes_of(given)}
         return subprocess.run([CUBE, *words], cwd=self.folder, stdout=stdout, stderr=subprocess.PIPE, **more)
 
-    def typed(self, words, lines):
+    def typed(self, words, lines, status=0):
         """Runs at a terminal at which these lines are typed: the output, and what else stands on the terminal."""
         near, far = pty.openpty()
         quiet = termios.tcgetattr(far)
@@ -77,7 +77,7 @@ class Room:
         termios.tcsetattr(far, termios.TCSANOW, quiet)
         os.write(near, bytes_of(lines) + b"\x04")
         ran = subprocess.run([CUBE, *words], cwd=self.folder, stdin=far, stdout=subprocess.PIPE, stderr=far)
-        assert ran.returncode == 0, (words, ran)
+        assert ran.returncode == status, (words, ran)
         end = b"(end)\r\n"
         os.write(far, b"(end)\n")
         shown = b""
@@ -105,7 +105,7 @@ def wrong_words_are_named():
         ("ask --requests +1", "+1"), ("check --requests 1", "--requests"), ("check", "missing --dims"), ("check --dims d", "missing --facts"),
         ("check --facts f --dims d", "missing --policy"), ("ask --dims d --facts f", "missing --policy"), ("witness --requests 1", "--requests"),
         ("twin --dims d --facts f --policy p --journal l", "missing --cell"), ("sum", "missing --facts"), ("sum --facts a --facts b", "--facts"),
-        ("sum --facts", "--facts"), ("sum --dims a", "--dims"), ("sun", "sun"), ("--help sum", "sum"), ("serve --script s", "--script"),
+        ("sum --facts", "--facts"), ("sum --dims a", "--dims"), ("sun", "sun"), ("--help sun", "sun"), ("help sum ask", "sum"), ("-h --facts f", "--facts"), ("sum -help", "-help"), ("serve --script s", "--script"),
         ("replay --address a", "--address"), ("replay --dims d --facts f --policy p --journal l", "missing --script"), ("ask --groups g", "--groups"),
         ("serve --groups g --policy p", "--policy"), ("replay --policy p --groups g", "--groups"), ("replay --dims d --facts f", "missing --policy"),
         ("serve --groups g --dims d", "missing --facts"), ("serve --idle 86401", "86401"), ("demo --size 21", "21"), ("demo --number 18446744073709551616", "18446744073709551616"),
@@ -123,9 +123,13 @@ def help_is_given_whole_and_by_command():
     for command in "draft check sum ask serve replay advise why witness twin audit compact carry demo".split():
         part = room.run([command, "--help", "and", "more"])
         expect(part, 0, None, "", command)
+        for words in (["help", command], ["-h", command], ["--help", command], [command, "help"], [command, "-h"]):
+            expect(room.run(words), 0, part.stdout, "", words)
         lines = part.stdout.splitlines(keepends=True)
         assert lines[0].startswith(f"cube {command} ".encode()), part
         assert all(line in whole.stdout for line in lines), part
+    for words in ("help", "-h"):
+        expect(room.run(words), 0, whole.stdout, "", words)
     expect(room.run("--version"), 0, "cube 0.1.0\n", "", "--version")
     with open("/dev/full", "wb") as full:
         expect(room.run("--help", stdout=full), 6, None, "output failed\n", "a full output")
@@ -496,6 +500,11 @@ def a_person_is_told_more():
         assert empty in room.typed(words, "")[1], words
         assert empty not in room.typed(words, "")[1], words
         assert empty.encode() not in Room(PAY).run(words).stderr, words
+    for words, told in (([], "cube draft --facts TABLE.csv > dims.toml\n"), (["sun"], "cube help: all commands; cube help COMMAND: how one is used\n")):
+        text, told = f"usage: {words[0] if words else 'no command'}\n", told
+        shown = Room({}).typed(words, "", status=2)[1]
+        assert shown.startswith(text + told), (words, shown)
+        expect(Room({}).run(words), 2, "", text, words)
 
 
 CHECKS = (

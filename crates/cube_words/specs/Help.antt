@@ -13,7 +13,7 @@ replay_usage = codes "cube replay --dims FILE --facts FILE (--policy FILE | --gr
 
 -- how a command is used, and what it does
 abbrev pub usage_of : Command → List ℕ
-usage_of command.Help = codes "cube --help, cube COMMAND --help\n    prints this text, or the part of it on a command\n"
+usage_of command.Help = codes "cube --help, cube COMMAND --help, cube help COMMAND\n    prints this text, or the part of it on a command; `-h` and `help` stand for `--help`\n"
 usage_of command.Version = codes "cube --version\n    prints the version\n"
 usage_of command.Draft = codes "cube draft --facts FILE [--policy] [--levels NAME=COLUMN,COLUMN].. [--members COLUMN].. [--skip COLUMN]..\n    prints a dimension file for a fact file; with --policy a policy file for it, which protects every nonempty cell\n"
 usage_of command.Sum = codes "cube sum --facts FILE\n    answers each line of the input by a sum over the file\n"

@@ -1,5 +1,5 @@
 -- The words of a command line: a command, and pairs of an option and its value in any order, each option once.
-use Rattle.std.specs.Prelude.{◌≡◌, ◌≤◌, ℕ, ◌+◌, Bool, true, false, not, ◌||◌, ◌&&◌, nat_le, nat_lt, length, List, [], ◌∷◌, ◌++◌, find, codes, unwrap_or, if◌then◌else◌, Option, Some, None, Result, Ok, Err}
+use Rattle.std.specs.Prelude.{◌≡◌, ◌≤◌, ◌==◌, ℕ, ◌+◌, Bool, true, false, not, ◌||◌, ◌&&◌, nat_le, nat_lt, length, slice_index_or, List, [], ◌∷◌, ◌++◌, find, codes, unwrap_or, if◌then◌else◌, Option, Some, None, Result, Ok, Err}
 use Rattle.std.specs.List.{list_any}
 use Rattle.std.specs.Str.{bytes_eq}
 use Rattle.std.specs.Str.Parse.{digits_value}
@@ -112,9 +112,21 @@ allowed command.Replay = Dims ∷ Facts ∷ Policy ∷ Journal ∷ Script ∷ Re
 allowed command.ReplayGroups = Dims ∷ Facts ∷ Groups ∷ Journal ∷ Script ∷ Requests ∷ []
 allowed command.Demo = Number ∷ Size ∷ []
 
+abbrev pub is_help : Command → Bool
+is_help command.Help = true
+is_help other = false
+
+-- the word is short for `--help`
+abbrev pub is_short : List ℕ → Bool
+is_short word = bytes_eq word (codes "-h") || bytes_eq word (codes "help")
+
+-- the word names the command
+abbrev pub has_word : Command → List ℕ → Bool
+has_word c word = bytes_eq word (command_word c) || (is_help c && is_short word)
+
 -- the command of a word
 abbrev pub command_of : List ℕ → Option Command
-command_of word = find (λ c. bytes_eq word (command_word c)) commands
+command_of word = find (λ c. has_word c word) commands
 
 -- the word is an option of the command
 abbrev pub is_option : Command → List ℕ → Bool
@@ -284,14 +296,27 @@ behind_command words c = if is_draft c then drafted words else with_rules words 
 -- the first of the words behind a command asks how it is used
 abbrev pub asks_help : List (List ℕ) → Bool
 asks_help [] = false
-asks_help (word ∷ more) = bytes_eq word (codes "--help")
+asks_help (word ∷ more) = has_word command.Help word
+
+-- the command that a single word names
+abbrev pub named_alone : List (List ℕ) → Option Command
+named_alone words = if length words == 1 then command_of (slice_index_or words 0 []) else None
+
+-- the command that stands alone behind a word for the help
+abbrev pub named_by : Command → List (List ℕ) → Option Command
+named_by c words = if is_help c then named_alone words else None
+
+abbrev pub unless_named : Option Command → Result Orders Usage → Result Orders Usage
+unless_named None ordered = ordered
+unless_named (Some c) ordered = Ok (orders.Help (Some c))
 
 abbrev pub with_command : List (List ℕ) → Option Command → Result Orders Usage
 with_command words None = Err (Wrong 0)
-with_command words (Some c) = if asks_help words then Ok (orders.Help (Some c)) else behind_command words c
+with_command words (Some c) = if asks_help words then Ok (orders.Help (Some c)) else unless_named (named_by c words) (behind_command words c)
 
 -- What the words order, with the values of the options; or what is wrong with them: no word, the first wrong word by its number
--- from 0, or the first option that is missing. Behind a command `--help` asks for that one's part of the help.
+-- from 0, or the first option that is missing. Behind a command `--help` asks for that one's part of the help,
+-- and so does the command behind `--help`.
 abbrev pub orders_of : List (List ℕ) → Result Orders Usage
 orders_of [] = Err NoCommand
 orders_of (word ∷ words) = with_command words (command_of word)

@@ -22,7 +22,7 @@ fn usage(command: Command) -> &'static [u8]
 {
     match command {
         Command::Help =>
-            b"cube --help, cube COMMAND --help\n    prints this text, or the part of it on a command\n",
+            b"cube --help, cube COMMAND --help, cube help COMMAND\n    prints this text, or the part of it on a command; `-h` and `help` stand for `--help`\n",
         Command::Version => b"cube --version\n    prints the version\n",
         Command::Draft =>
             b"cube draft --facts FILE [--policy] [--levels NAME=COLUMN,COLUMN].. [--members COLUMN].. [--skip COLUMN]..\n    prints a dimension file for a fact file; with --policy a policy file for it, which protects every nonempty cell\n",

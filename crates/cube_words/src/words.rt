@@ -4,7 +4,7 @@ ghost use Rattle.std.specs.Char.{is_ascii_digit};
 ghost use Rattle.std.specs.List.{list_all};
 ghost use Rattle.std.specs.Str.{bytes_eq};
 ghost use Rattle.std.specs.Str.Parse.{digits_value};
-ghost use Rattle.cube_words.specs.Words.{command_word, option_word, needed as needed_by, allowed as allowed_by, is_requests, is_idle, is_number, is_size, is_wrong_value as is_wrong, command_of as command_in, is_option as is_option_of, stands_in, options_in, begin_with_groups, ruled_as, first_wrong as first_wrong_behind, with_rules, asks_help as asks_for_help, is_draft as is_draft_of, with_command, orders_of as orders_in, value_behind as value_in, Fits};
+ghost use Rattle.cube_words.specs.Words.{command_word, option_word, needed as needed_by, allowed as allowed_by, is_requests, is_idle, is_number, is_size, is_wrong_value as is_wrong, command_of as command_in, is_option as is_option_of, stands_in, options_in, begin_with_groups, ruled_as, first_wrong as first_wrong_behind, with_rules, behind_command, is_help as is_help_of, is_short as is_short_of, has_word as has_word_of, asks_help as asks_for_help, named_alone as alone_named, named_by as named_by_help, is_draft as is_draft_of, with_command, orders_of as orders_in, value_behind as value_in, Fits};
 
 use crate::drafting::drafting_of;
 use crate::ordered::{Orders, orders_with};
@@ -391,10 +391,23 @@ impl Setting {
     }
 }
 
-fn has_word(command: Command, word: &[u8]) -> bool
-    ensures { result ≡ bytes_eq word.now (command_word command) }
+fn is_help(command: Command) -> bool
+    ensures { result ≡ is_help_of command }
 {
-    word == command.word()
+    matches!(command, Command::Help)
+}
+
+// Whether a word is short for `--help`.
+fn is_short(word: &[u8]) -> bool
+    ensures { result ≡ is_short_of word.now }
+{
+    word == b"-h".as_slice() || word == b"help".as_slice()
+}
+
+fn has_word(command: Command, word: &[u8]) -> bool
+    ensures { result ≡ has_word_of command word.now }
+{
+    word == command.word() || (is_help(command) && is_short(word))
 }
 
 fn command_of(word: &[u8]) -> Option<Command>
@@ -567,7 +580,28 @@ fn asks_help(words: &[Text]) -> bool
 {
     match words {
         [] => false,
-        [word, ..] => word.as_slice() == Command::Help.word(),
+        [word, ..] => has_word(Command::Help, word.as_slice()),
+    }
+}
+
+// The command that a single word names.
+fn named_alone(words: &[Text]) -> Option<Command>
+    ensures { result ≡ alone_named words.now }
+{
+    match words {
+        [word] => command_of(word.as_slice()),
+        _ => None,
+    }
+}
+
+// The command that stands alone behind a word for the help.
+fn named_by(command: Command, words: &[Text]) -> Option<Command>
+    ensures { result ≡ named_by_help command words.now }
+{
+    if is_help(command) {
+        named_alone(words)
+    } else {
+        None
     }
 }
 
@@ -589,7 +623,22 @@ fn orders_as(
     }
 }
 
-// What a command that was named orders: its help, or what the words behind it say.
+// What the words behind a command say.
+fn orders_said(
+    alloc: Global,
+    command: Command,
+    words: &[Text],
+) -> Result<Result<Orders, Usage>, NoMemory>
+    ensures orders { IfOk result (λ given. given ≡ behind_command words.now command) }
+    ensures fits { IfOk result (λ given. IfOk given Fits) }
+{
+    if is_draft(command) {
+        return drafting_of(alloc, words);
+    }
+    orders_as(alloc, with_groups(command, words), words)
+}
+
+// What a command that was named orders: its help, that of a command that it names, or what the words behind it say.
 fn orders_behind(
     alloc: Global,
     command: Command,
@@ -601,10 +650,10 @@ fn orders_behind(
     if asks_help(words) {
         return Ok(Ok(Orders::Help { on: Some(command) }));
     }
-    if is_draft(command) {
-        return drafting_of(alloc, words);
+    match named_by(command, words) {
+        Some(named) => Ok(Ok(Orders::Help { on: Some(named) })),
+        None => orders_said(alloc, command, words),
     }
-    orders_as(alloc, with_groups(command, words), words)
 }
 
 /// What the words order, or what is wrong with them.
