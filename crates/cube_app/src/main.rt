@@ -262,6 +262,20 @@ fn explained(text: &[u8]) -> &'static str {
     }
 }
 
+// What a person may type behind words that are wrong.
+fn begun_with(text: &[u8]) -> &'static str {
+    if text == b"usage: no command\n".as_slice() {
+        "cube draft --facts TABLE.csv > dims.toml\n\
+         cube draft --facts TABLE.csv --policy > policy.toml\n\
+         cube ask --dims dims.toml --facts TABLE.csv --policy policy.toml --journal NEW.journal\n\
+         cube help: all commands\n"
+    } else if text.starts_with(b"usage: ") {
+        "cube help: all commands; cube help COMMAND: how one is used\n"
+    } else {
+        ""
+    }
+}
+
 fn main(rt: HostRuntime) -> ExitCode {
     if hold_streams(&rt, &rt.stdin(), &rt.stdout(), &rt.stderr()).is_err() {
         return ExitCode::from(5);
@@ -338,5 +352,10 @@ fn main(rt: HostRuntime) -> ExitCode {
     let _ = rt
         .stderr()
         .write_all(explained(report.text.as_slice()).as_bytes());
+    if rt.stderr().is_terminal() {
+        let _ = rt
+            .stderr()
+            .write_all(begun_with(report.text.as_slice()).as_bytes());
+    }
     ExitCode::from(report.status)
 }
