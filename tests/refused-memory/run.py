@@ -72,6 +72,14 @@ CHANGES = b"region.city,time.month,change\nLyon,Feb,1\nParis,Feb,-1\n"
 TWIN = b"city,month,pay,hours\nLyon,Jan,10,1\nLyon,Feb,21,2\nNice,Jan,30,3\nParis,Jan,40,4\nParis,Feb,49,5\n"
 
 
+# What the program notes of a look at a file that found no memory. It looks again at the next call.
+RETRIED = b": out of memory\n"
+
+
+def without_retries(said):
+    return b"".join(line for line in said.splitlines(keepends=True) if not line.endswith(RETRIED))
+
+
 # ---- one run
 
 @dataclasses.dataclass(frozen=True)
@@ -264,7 +272,7 @@ class Trial:
         plain = self.over(self.command, told, self.before)
         check(list(told.values()) == self.command.replies(plain.written), f"{replies}, and not {plain.written}")
         check(ran.journal == plain.journal, f"{ran.journal}, and not {plain.journal}")
-        check(ran.said == plain.said, f"{ran.said}, and not {plain.said}")
+        check(without_retries(ran.said) == plain.said, f"{ran.said}, and not {plain.said}")
         self.look_again(ran.journal, told)
         missed = len(self.asks) - len(told)
         return f"{missed} of {len(self.asks)} without memory" if missed else "as ever"
