@@ -38,31 +38,38 @@ index_from f s (suc n) (suc k) h = index_from f (suc s) n k (omega (arith, h)) �
 pub flag_at : (f : ℕ → Bool) (n k : ℕ) → k < n → get_or (map f (count_from 0 n)) k false ≡ f k
 flag_at f n k l = index_from f 0 n k l ∙ ap f (omega arith)
 
-pub slice_long : (g : Public) (m : ℕ) (o : Object) → length (slice_of g m o) ≡ length g.shape.points
-slice_long g m o = length-map (places g) (is_sliced g m o) ∙ length-count_from 0 (length g.shape.points)
+pub slice_long : (g : Public) (o : Object) → length (slice_of g o) ≡ length g.shape.points
+slice_long g o = length-map (places g) (in_slice g o) ∙ length-count_from 0 (length g.shape.points)
 
 -- the flags of an object at its place
-pub slice_here : (g : Public) (m : ℕ) (os : List Object) (slices : List (List Bool)) (i : ℕ) (o : Object) (slice : List Bool) → slices ≡ map (slice_of g m) os → i < length os → o ≡ get_or os i o → slice ≡ get_or slices i slice → slice ≡ slice_of g m o
-slice_here g m os slices i o slice all l is here =
-    here ∙ ap (λ (xs : List (List Bool)). get_or xs i slice) all ∙ get_or-map (slice_of g m) os i o slice l ∙ ap (slice_of g m) (sym is)
+pub slice_here : (g : Public) (os : List Object) (slices : List (List Bool)) (i : ℕ) (o : Object) (slice : List Bool) → slices ≡ map (slice_of g) os → i < length os → o ≡ get_or os i o → slice ≡ get_or slices i slice → slice ≡ slice_of g o
+slice_here g os slices i o slice all l is here =
+    here ∙ ap (λ (xs : List (List Bool)). get_or xs i slice) all ∙ get_or-map (slice_of g) os i o slice l ∙ ap (slice_of g) (sym is)
 
 -- no object, no flag
 pub over_none : (g : Public) (m : ℕ) (c : List ℕ) (many : ℕ) (flags : List Bool) → length flags ≡ many → ((k : ℕ) → k < many → get_or flags k false ≡ false) → AreFlags many (stands_over g [] m c) flags
 over_none g m c many flags size h = record { long = size; at = h }
 
 -- one object more
-pub over_more : (g : Public) (m : ℕ) (c : List ℕ) (os : List Object) (i : ℕ) (o : Object) (slice old new : List Bool) → i < length os → o ≡ get_or os i o → slice ≡ slice_of g m o
-    → length new ≡ length old → ((k : ℕ) → k < length old → get_or new k false ≡ (get_or old k false || (is_finer c o.levels && get_or slice k false)))
+pub over_more : (g : Public) (m : ℕ) (c : List ℕ) (os : List Object) (i : ℕ) (o : Object) (slice old new : List Bool) → i < length os → o ≡ get_or os i o → slice ≡ slice_of g o
+    → length new ≡ length old → ((k : ℕ) → k < length old → get_or new k false ≡ (get_or old k false || ((eqb o.measure m && is_finer c o.levels) && get_or slice k false)))
     → AreFlags (length g.shape.points) (stands_over g (take i os) m c) old → AreFlags (length g.shape.points) (stands_over g (take (i + 1) os) m c) new
 over_more g m c os i o slice old new l is own size added f = record {
   long = size ∙ f.long;
   at = λ k b. (
       let whole = f.long in
       added k (omega (arith, b, whole))
-      ∙ ap₂ (λ (x y : Bool). x || (is_finer c o.levels && y)) (f.at k b) (ap (λ (xs : List Bool). get_or xs k false) own ∙ flag_at (is_sliced g m o) (length g.shape.points) k b)
+      ∙ ap₂ (λ (x y : Bool). x || ((eqb o.measure m && is_finer c o.levels) && y)) (f.at k b) (ap (λ (xs : List Bool). get_or xs k false) own ∙ flag_at (in_slice g o) (length g.shape.points) k b)
+      ∙ ap (λ (y : Bool). stands_over g (take i os) m c k || y) (turned (eqb o.measure m) (is_finer c o.levels) (in_slice g o k))
       ∙ sym (list_any_more (λ (x : Object). is_finer c x.levels && is_sliced g m x k) os i o l
       ∙ ap (λ (x : Object). stands_over g (take i os) m c k || (is_finer c x.levels && is_sliced g m x k)) (sym is)));
 }
+  where
+    turned : (a b s : Bool) → ((a && b) && s) ≡ (b && (a && s))
+    turned true true s = refl
+    turned true false s = refl
+    turned false true s = refl
+    turned false false s = refl
 
 -- ---- the cells of one cuboid
 

@@ -13,5 +13,6 @@ pub mod Once
 pub mod Growing
 pub mod Tables
 pub mod Counted
+pub mod Adding
 pub mod Contained
 pub mod Whole

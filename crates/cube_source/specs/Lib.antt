@@ -1,5 +1,6 @@
 pub mod Blocks
 pub mod Containing
+pub mod Counts
 pub mod Fresh
 pub mod Judged
 pub mod Keys

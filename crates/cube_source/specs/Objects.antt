@@ -24,9 +24,9 @@ covers_slice g t o = list_any (λ i. covers g t i && in_slice g o i) (places g)
 abbrev pub is_sliced : Public → ℕ → Object → ℕ → Bool
 is_sliced g m o i = o.measure == m && in_slice g o i
 
--- the same of each place
-abbrev pub slice_of : Public → ℕ → Object → List Bool
-slice_of g m o = map (is_sliced g m o) (places g)
+-- for each place, whether it is in the object's slice
+abbrev pub slice_of : Public → Object → List Bool
+slice_of g o = map (in_slice g o) (places g)
 
 -- the place is in the slice of an object of the measure that stands at or above the cuboid
 abbrev pub stands_over : Public → List Object → ℕ → List ℕ → ℕ → Bool

@@ -17,7 +17,7 @@ mod protecting;
 mod slices;
 mod table;
 
-pub use counting::count_protected;
+pub use counting::{count_protected, count_protected_all};
 pub use judging::{Judged, judge};
 pub use listing::{guarded, protected};
 pub use pair::cutting_pair;

@@ -1,11 +1,12 @@
-use Rattle.std.specs.List.{flat_map}
-use Rattle.std.proofs.Common.{ℕ, List, length, map, take, ap, ◌∙◌, arith}
-use Rattle.std.proofs.lemmas.List.{take_all, length-append}
+use Rattle.std.specs.List.{sum_by}
+use Rattle.std.proofs.Common.{length, map, ap, ◌∙◌, arith}
+use Rattle.std.proofs.lemmas.List.{take_all}
+use Rattle.std.proofs.lemmas.List.Sums.{sum_by_more}
 use Rattle.cube_model.specs.Dims.{plains}
 use Rattle.cube_source.specs.Blocks.{bare}
-use Rattle.cube_source.specs.Objects.{cells_over}
-use Rattle.cube_source.proofs.Counted.{all_counted, all_cuboids, top_levels, top_count}
-use Rattle.cube_source.proofs.Growing.{flat_more}
+use Rattle.cube_source.specs.Counts.{count_over}
+use Rattle.cube_source.proofs.Adding.{cuboids_counted}
+use Rattle.cube_source.proofs.Counted.{all_cuboids, top_levels, top_count}
 use Rattle.cube_source.proofs.Keys.{below_levels}
 use Rattle.cube_source.proofs.counting.count_lattice.Goals as goal
 
@@ -23,14 +24,14 @@ overflow_add-total c =
 
 pub levels-preserved : goal.levels-preserved
 levels-preserved c =
-    let cells = cells_over (bare c.args.core.now) c.args.objects.now c.args.measure in
-    let done = flat_map cells (take c.levels.levels-index c.as_slice-levels-items.result.now) in
-    let next = ap length (flat_more cells c.as_slice-levels-items.result.now c.levels.levels-index c.levels-item.result c.levels-test.true c.levels-item.is) ∙ length-append done (cells c.levels-item.result) in
+    let cells = count_over (bare c.args.core.now) c.args.objects.now c.args.measures.now in
+    let next = sum_by_more cells c.as_slice-levels-items.result.now c.levels.levels-index c.levels-item.result c.levels-test.true in
+    let same = ap cells c.levels-item.is in
     let so_far = c.levels.invariant.counted in
     let bound = c.levels.invariant.small in
     let own = c.in_ok-total.ensures.count in
     let small = c.in_ok-total.ensures.small in
-    record { counted = omega (arith, next, so_far, own); small = omega (arith, bound, small) }
+    record { counted = omega (arith, next, same, so_far, own); small = omega (arith, bound, small) }
 
 pub returns : goal.returns
 returns c =
@@ -41,6 +42,6 @@ returns c =
     let end = c.levels.auto.levels-index-end in
     let bound = c.levels.invariant.small in
     let count = c.levels.invariant.counted
-    ∙ ap (λ (cs : List (List ℕ)). length (flat_map (cells_over (bare c.args.core.now) c.args.objects.now c.args.measure) cs)) (take_all c.levels.levels-index c.as_slice-levels-items.result.now c.levels-test.false ∙ all)
-    ∙ all_counted (bare c.args.core.now) c.args.core.now.dims c.args.objects.now c.args.measure c.requires.objects in
+    ∙ ap (sum_by (count_over (bare c.args.core.now) c.args.objects.now c.args.measures.now)) (take_all c.levels.levels-index c.as_slice-levels-items.result.now c.levels-test.false ∙ all)
+    ∙ cuboids_counted (bare c.args.core.now) c.args.core.now.dims c.args.objects.now c.args.measures.now c.requires.objects in
     record { count = count; small = omega (arith, few, cuboids, size, end, bound) }

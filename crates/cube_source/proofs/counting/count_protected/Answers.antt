@@ -13,8 +13,8 @@ use Rattle.cube_source.proofs.Among.{of_method, lattice_all, parity_all}
 use Rattle.cube_source.proofs.Uncut.{placed}
 use Rattle.cube_source.proofs.counting.count_protected.Goals as goal
 
-pub count_lattice-requires : goal.count_lattice-requires
-count_lattice-requires c = record { objects = subst (Each (IsPlaced c.args.core.now.dims)) (sym c.as_slice-objects.ensures) (placed c.args.core.now.dims c.args.policy.now c.args.policy.now.objects c.requires.policy.objects) }
+pub count_one-requires : goal.count_one-requires
+count_one-requires c = record { objects = subst (Each (IsPlaced c.args.core.now.dims)) (sym c.as_slice-objects.ensures) (placed c.args.core.now.dims c.args.policy.now c.args.policy.now.objects c.requires.policy.objects) }
 
 pub count_parity-requires : goal.count_parity-requires
 count_parity-requires c = record { objects = subst (Each (IsPlaced c.args.core.now.dims)) (sym c.as_slice-objects.ensures) (placed c.args.core.now.dims c.args.policy.now c.args.policy.now.objects c.requires.policy.objects) }
@@ -25,8 +25,8 @@ returns-in-Plain-clause-count c = ap length (sym (of_method c.args.core.now c.ar
 pub returns-in-Lattice-clause-count : goal.returns-in-Lattice-clause-count
 returns-in-Lattice-clause-count c =
     let all = λ (os : List Object). length (each_once (flat_map (under (bare c.args.core.now)) (of_measure c.args.measure os))) in
-    IfOk-weaker c.count_lattice.result (λ (n : ℕ). n ≡ all c.as_slice-objects.result.now) (λ (n : ℕ). n ≡ length (protected (shown c.args.core.now c.args.policy.now) c.args.measure))
-    (λ n e. e ∙ ap all c.as_slice-objects.ensures ∙ ap length (lattice_all c.args.core.now c.args.policy.now c.args.measure (sym c.method.ensures ∙ c.in-Lattice.is))) c.count_lattice.ensures.count
+    IfOk-weaker c.count_one.result (λ (n : ℕ). n ≡ all c.as_slice-objects.result.now) (λ (n : ℕ). n ≡ length (protected (shown c.args.core.now c.args.policy.now) c.args.measure))
+    (λ n e. e ∙ ap all c.as_slice-objects.ensures ∙ ap length (lattice_all c.args.core.now c.args.policy.now c.args.measure (sym c.method.ensures ∙ c.in-Lattice.is))) c.count_one.ensures.count
 
 pub returns-in-Parity-clause-count : goal.returns-in-Parity-clause-count
 returns-in-Parity-clause-count c =

@@ -1,29 +1,42 @@
-use Rattle.std.specs.List.{list_any}
-use Rattle.std.proofs.Common.{ℕ, Bool, false, List, length, filter, get_or, sym, ap, ◌∙◌, subst, arith}
-use Rattle.cube_model.specs.declared.answer.Row.{Row}
+use Rattle.std.proofs.Common.{ℕ, List, length, sym, ap, ◌∙◌, subst, arith}
+use Rattle.std.proofs.lemmas.List.{take_all}
+use Rattle.std.proofs.lemmas.List.Sums.{sum_by_more}
 use Rattle.cube_source.specs.Blocks.{bare, AreBlocks}
-use Rattle.cube_source.proofs.Counted.{cells_counted, no_cells, few_cells}
+use Rattle.cube_source.specs.Counts.{count_over}
+use Rattle.cube_source.specs.Objects.{cells_over}
+use Rattle.cube_source.proofs.Adding.{none_counted}
 use Rattle.cube_source.proofs.slices.count_at.Goals as goal
 
-pub returns-then-not-is_below-clause-count : goal.returns-then-not-is_below-clause-count
-returns-then-not-is_below-clause-count c = no_cells (bare c.args.core.now) c.args.objects.now c.args.measure c.args.levels.now (sym c.is_below.ensures ∙ c.if-not-is_below.true)
+pub returns-then-not-is_any_below-clause-count : goal.returns-then-not-is_any_below-clause-count
+returns-then-not-is_any_below-clause-count c = none_counted (bare c.args.core.now) c.args.objects.now c.args.measures.now c.args.levels.now (sym c.is_any_below.ensures ∙ c.if-not-is_any_below.true)
 
-pub count_meeting-requires : goal.count_meeting-requires
-count_meeting-requires c =
-    let size = sym c.in_ok-flags.ensures.long ∙ sym (ap length c.as_slice-2.ensures.value) in
-    record { rows = subst (λ (n : ℕ). AreBlocks n c.as_slice.result.now) size (subst (AreBlocks (length c.args.core.now.shape.points)) (sym c.as_slice.ensures) c.in_ok-rows.ensures.places) }
+pub count_among-requires-clause-rows : goal.count_among-requires-clause-rows
+count_among-requires-clause-rows c = c.as_slice.ensures ∙ c.in_ok-rows.ensures.rows
 
-pub returns-clause-count : goal.returns-clause-count
-returns-clause-count c =
-    let count = λ (flags : List Bool) (rows : List Row). length (filter (λ (row : Row). list_any (λ i. get_or flags i false) row.places) rows) in
-    c.count_meeting.ensures.count
-    ∙ ap (λ (fs : List Bool). count fs c.as_slice.result.now) c.as_slice-2.ensures.value
-    ∙ ap (λ (rs : List Row). count c.in_ok-flags.flags.items rs) (c.as_slice.ensures ∙ c.in_ok-rows.ensures.rows)
-    ∙ cells_counted (bare c.args.core.now) c.args.objects.now c.args.measure c.args.levels.now c.in_ok-flags.flags.items c.in_ok-flags.ensures
+pub count_among-requires-clause-places : goal.count_among-requires-clause-places
+count_among-requires-clause-places c = subst (AreBlocks (length c.args.core.now.shape.points)) (sym c.as_slice.ensures) c.in_ok-rows.ensures.places
 
-pub returns-clause-small : goal.returns-clause-small
-returns-clause-small c =
-    let same = returns-clause-count c in
-    let few = few_cells (bare c.args.core.now) c.args.objects.now c.args.measure c.args.levels.now in
-    let bound = c.dims-rules.ensures.rules.few_points in
-    omega (arith, same, few, bound)
+pub overflow_add-total : goal.overflow_add-total
+overflow_add-total c =
+    let so_far = c.measures.invariant.small in
+    let own = c.in_ok-total.ensures.small in
+    omega (arith, so_far, own, c.measures-test.true, c.requires.few)
+
+pub measures-preserved : goal.measures-preserved
+measures-preserved c =
+    let cells = λ (m : ℕ). length (cells_over (bare c.args.core.now) c.args.objects.now m c.args.levels.now) in
+    let next = sum_by_more cells c.args.measures.now c.measures.measure-index 0 c.measures-test.true in
+    let so_far = c.measures.invariant.counted in
+    let bound = c.measures.invariant.small in
+    let own = c.in_ok-total.ensures.count in
+    let small = c.in_ok-total.ensures.small in
+    record { counted = omega (arith, next, so_far, own); small = omega (arith, bound, small) }
+
+pub returns : goal.returns
+returns c =
+    let end = c.measures.auto.measure-index-end in
+    let bound = c.measures.invariant.small in
+    record {
+      count = c.measures.invariant.counted ∙ ap (λ (ms : List ℕ). count_over (bare c.args.core.now) c.args.objects.now ms c.args.levels.now) (take_all c.measures.measure-index c.args.measures.now c.measures-test.false);
+      small = omega (arith, end, bound, c.requires.few);
+    }

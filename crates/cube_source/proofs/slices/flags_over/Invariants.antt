@@ -4,4 +4,4 @@ use Rattle.cube_source.specs.Objects.{stands_over}
 use Rattle.cube_source.proofs.slices.flags_over.Given as goal
 
 abbrev pub invariant-objects : goal.invariant-objects
-invariant-objects l = AreFlags (length l.core.shape.points) (stands_over (bare l.core) (take l.number l.objects) l._measure l.levels) l.flags.items
+invariant-objects l = AreFlags (length l.core.shape.points) (stands_over (bare l.core) (take l.number l.objects) l.measure l.levels) l.flags.items

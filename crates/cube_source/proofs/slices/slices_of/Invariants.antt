@@ -4,4 +4,4 @@ use Rattle.cube_source.specs.Objects.{slice_of}
 use Rattle.cube_source.proofs.slices.slices_of.Given as goal
 
 abbrev pub invariant-objects : goal.invariant-objects
-invariant-objects l = l.slices ≡ map (slice_of (bare l.core) l.measure) (take l.number l.objects)
+invariant-objects l = l.slices ≡ map (slice_of (bare l.core)) (take l.number l.objects)
