@@ -7,3 +7,4 @@ pub mod Numbering
 pub mod Listing
 pub mod Reading
 pub mod Skipping
+pub mod Singles

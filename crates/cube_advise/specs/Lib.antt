@@ -5,5 +5,6 @@ pub mod Lines
 pub mod Advice
 pub mod Holdings
 pub mod Behind
+pub mod Lone
 pub mod Telling
 pub mod Examples

@@ -1,12 +1,13 @@
-// Advice and words by the definitions alone.
+// Advice, words, and the cells that may be one person's, by the definitions alone.
 ghost use Rattle.std.specs.Prelude.{◌≡◌, [], ◌∷◌, codes};
 ghost use Rattle.cube_model.specs.Cores.{shown};
-ghost use Rattle.cube_core.specs.Worked.{pay_core};
+ghost use Rattle.cube_core.specs.Worked.{pay_core, full_core};
 ghost use Rattle.cube_advise.specs.Advice.{advice_text};
 ghost use Rattle.cube_advise.specs.Behind.{behind_text};
 ghost use Rattle.cube_advise.specs.Holdings.{most_apart};
 ghost use Rattle.cube_advise.specs.Words.{words_of};
 ghost use Rattle.cube_advise.specs.Lines.{numbered, workload_words};
+ghost use Rattle.cube_advise.specs.Lone.{lone_words};
 ghost use Rattle.cube_advise.specs.Examples.{pay_policy, pay_shown, lone_core, months, hours};
 
 /// What the definitions say of the pay cube before anything is asked, of a cube with one fact, and of the pay cube once pay by
@@ -32,4 +33,12 @@ pub fn worked_words()
     ensures three { numbered 1 (words_of pay_core.dims pay_shown [] (codes "slice pay by time.month" ∷ codes "slice pay by region.area" ∷ codes "cel pay" ∷ [])) ≡ codes "1 answer\n2 source\n3 unread\n" }
     ensures single { numbered 1 (words_of pay_core.dims pay_shown [] (codes "cell hours region.city=Nice" ∷ codes "cell count" ∷ [])) ≡ codes "1 single\n2 answer\n" }
     ensures file { workload_words pay_core.dims pay_shown [] (codes "cel pay\r\n\ncell count") ≡ codes "1 unread\n2 unread\n3 answer\n" }
+{}
+
+/// Which cells may be one person's. Of the pay cube the South and January: two people are in Paris in February, so neither the North nor
+/// February. With one fact at each city in each month all cells may be, and of a cube with one fact nothing can be released.
+pub fn worked_lone()
+    ensures first { lone_words pay_core pay_policy ≡ codes "pay: 1 cell of (region.area, time.quarter) may be one person's\npay: 1 cell of (time.month) may be one person's\n" }
+    ensures full { lone_words full_core pay_policy ≡ codes "pay: 3 cells of (region.city, time.quarter) may be one person's\npay: 2 cells of (time.month) may be one person's\n" }
+    ensures alone { lone_words lone_core pay_policy ≡ [] }
 {}
