@@ -2,5 +2,6 @@ pub mod Disks
 pub mod Flows
 pub mod Links
 pub mod Outs
+pub mod Shelves
 pub mod Sockets
 pub mod Watches

@@ -5,6 +5,7 @@ ghost use Rattle.cube_edge.specs.Disks.{silent_disk};
 
 use crate::disk::{Disk, Extent, Trouble};
 use crate::folder::read_rest;
+use crate::machine_shelf::MachineShelf;
 use crate::names::Names;
 use crate::out_file::ENDING;
 use crate::sink::write_some;
@@ -302,13 +303,17 @@ fn look_as_given<R: Files>(rt: &R, given: &str, path: &str, file: &File) -> Resu
 }
 
 /// All bytes of a file.
-fn read_log<F: Read + Seek>(file: &mut F, alloc: Global) -> Result<Text, ReadFault>
+fn read_log<R: Files<File = File>>(
+    rt: &R,
+    file: &mut File,
+    alloc: Global,
+) -> Result<Text, ReadFault>
     ensures { IfOk result (λ text. length text ≤ 2 ^ 28) }
 {
     if file.seek(SeekFrom::Start(0)).is_err() {
         return Err(ReadFault::Failed);
     }
-    read_rest(file, alloc, MAX_LOG, &mut None)
+    read_rest(&mut MachineShelf::new(rt), file, alloc, MAX_LOG, &mut None)
 }
 
 impl<R: Files<File = File> + AllocGlobal> MachineDisk<'_, R> {
@@ -384,7 +389,7 @@ impl<R: Files<File = File> + AllocGlobal> Disk for MachineDisk<'_, R> {
     }
 
     fn read(&mut self, file: &mut File, alloc: Global) -> Result<Text, ReadFault> {
-        read_log(file, alloc)
+        read_log(self.rt, file, alloc)
     }
 
     fn write(&mut self, file: &mut File, piece: &[u8]) -> Result<usize, Trouble> {

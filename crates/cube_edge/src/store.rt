@@ -382,7 +382,7 @@ impl<D: Disk + Drop, N: Write + Drop> FileStore<D, N> {
 }
 
 /// Counts a fault where a call failed.
-pub(crate) fn counted(faults: &mut u64, done: Result<(), Failed>) -> Result<(), Failed>
+pub(crate) fn counted<T, E>(faults: &mut u64, done: Result<T, E>) -> Result<T, E>
     ensures same { result ≡ done }
     ensures cause { HasCause faults.old faults.new result }
 {
