@@ -72,11 +72,11 @@ in_hand_behind : (m : Manner) (rooms here : List Room) (xs ys : List Call) → I
 in_hand_behind m rooms here [] ys h = h
 in_hand_behind m rooms here (x ∷ xs) ys h = inr (inr (in_hand_behind m (m.next rooms x.ask x.outcome) here xs ys h))
 
--- one ask
-in_hand_once : (m : Manner) (gives : List Room → List ℕ → Type 0) (rooms : List Room) (call : Call) (old new : Log) → LeavesAll gives (IsOneOf rooms (m.next rooms call.ask Given)) old new → LeavesAll gives (IsInHand m rooms (call ∷ [])) old new
-in_hand_once m gives rooms call old new e =
+-- one ask that found memory
+in_hand_once : (m : Manner) (gives : List Room → List ℕ → Type 0) (rooms : List Room) (call : Call) (old new : Log) → call.outcome ≢ NoMemory → LeavesAll gives (IsOneOf rooms (m.next rooms call.ask Given)) old new → LeavesAll gives (IsInHand m rooms (call ∷ [])) old new
+in_hand_once m gives rooms call old new found e =
     leaves_all_map gives gives (IsOneOf rooms (m.next rooms call.ask Given)) (IsInHand m rooms (call ∷ [])) old new
-    (λ x bytes one g. (x, ⊎_elim (λ same. inl same) (λ other. inr (inl other)) one, g)) e
+    (λ x bytes one g. (x, ⊎_elim (λ same. inl same) (λ other. inr (inl (found, other))) one, g)) e
 
 -- some asks, and then more
 in_hand_then : (m n : Manner) (gives tells : List Room → List ℕ → Type 0) (rooms mid : List Room) (xs ys : List Call) (old between new : Log) → n ≡ m → mid ≡ after m rooms xs
@@ -182,6 +182,11 @@ is_or_not Given = inr (λ e. cc)
 is_or_not JournalFault = inl refl
 is_or_not NoMemory = inr (λ e. cc)
 
+memory_or_not : (o : Outcome) → (o ≡ NoMemory) ⊎ (o ≢ NoMemory)
+memory_or_not Given = inr (λ e. cc)
+memory_or_not JournalFault = inr (λ e. cc)
+memory_or_not NoMemory = inl refl
+
 -- what the clauses of one answer say
 pub record OneAnswer (ask : Ask) (reply : Reply) (w w' x x' : List Room → ℕ → State → Type 0) (a b : DeskState) (s t : StoreState) : Type 0 where
   pub answered : Answered a.manner ask a.rooms b.rooms a.outcomes b.outcomes s.faults t.faults reply
@@ -189,6 +194,7 @@ pub record OneAnswer (ask : Ask) (reply : Reply) (w w' x x' : List Room → ℕ 
   pub capacity : b.capacity + 1 ≡ a.capacity
   pub told : t.told ≡ s.told
   pub names : IsTrue s.told → t.names ≡ s.names
+  pub memory : b.outcomes ≡ a.outcomes ++ NoMemory ∷ [] → t ≡ s
   pub within_stays : (r : List Room) (log : ℕ) (state : State) → w' r log state ↔ w r log state
   pub exact_stays : (r : List Room) (log : ℕ) (state : State) → x' r log state ↔ x r log state
   pub passed : IsTrue s.told → (log : ℕ) → w a.rooms log (s.logs log).state → Gained (λ state. w a.rooms log state ⊎ w b.rooms log state) (s.logs log) (t.logs log)
@@ -226,7 +232,11 @@ endures_answer ask reply w w' x x' a b s t one = by (is_or_not one.answered.outc
         side k st (inr y) = record { here = b.rooms; from = way; to = reaches_none a.manner b.rooms; there = y }
 
     held : IsTrue s.told → (log : ℕ) → w a.rooms log (s.logs log).state → LeavesAll (GivesRooms x log) (IsInHand a.manner a.rooms (call ∷ [])) (s.logs log) (t.logs log)
-    held h k e = in_hand_once a.manner (GivesRooms x k) a.rooms call (s.logs k) (t.logs k) (one.in_hand h k e)
+    held h k e = ⊎_elim
+        (λ is. leaves_all_none (GivesRooms x k) (IsInHand a.manner a.rooms (call ∷ [])) (s.logs k) (t.logs k)
+        (ap (λ (z : StoreState). z.logs k) (one.memory (one.answered.added ∙ ap (λ (o : Outcome). a.outcomes ++ o ∷ []) is))))
+        (λ found. in_hand_once a.manner (GivesRooms x k) a.rooms call (s.logs k) (t.logs k) found (one.in_hand h k e))
+        (memory_or_not out)
 
     by : ((out ≡ JournalFault) ⊎ (out ≢ JournalFault)) → Endures w w' x x' a b s t
     by (inl is) =

@@ -31,10 +31,11 @@ abbrev pub FailedFresh : Manner → List Room → List Call → Type 0
 FailedFresh m rooms [] = ⊤
 FailedFresh m rooms (c ∷ calls) = (c.outcome ≡ JournalFault → m.next rooms c.ask Given ≢ rooms) × FailedFresh m (m.next rooms c.ask c.outcome) calls
 
--- The rooms are those behind some of the asks, from the first on, or these with the request of the ask in hand, which comes next.
+-- The rooms are those behind some of the asks, from the first on, or these with the request of the ask in hand, which comes next and
+-- found memory.
 abbrev pub IsInHand : Manner → List Room → List Call → List Room → Type 0
 IsInHand m rooms [] here = here ≡ rooms
-IsInHand m rooms (c ∷ calls) here = (here ≡ rooms) ⊎ ((here ≡ m.next rooms c.ask Given) ⊎ IsInHand m (m.next rooms c.ask c.outcome) calls here)
+IsInHand m rooms (c ∷ calls) here = (here ≡ rooms) ⊎ (((c.outcome ≢ NoMemory) × (here ≡ m.next rooms c.ask Given)) ⊎ IsInHand m (m.next rooms c.ask c.outcome) calls here)
 
 -- an ask found memory
 abbrev pub found_memory : Outcome → Bool

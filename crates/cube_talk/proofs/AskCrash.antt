@@ -1,5 +1,5 @@
 -- What is said to one line, and what a crash leaves meanwhile.
-use Rattle.std.proofs.Common.{◌≡◌, ◌≢◌, ◌⊎◌, ◌≤◌, ◌<◌, ℕ, ◌+◌, IsTrue, false, List, [], ◌∷◌, ◌++◌, drop, length, refl, sym, ap, subst, ◌∙◌, append-nil, arith, inl, inr}
+use Rattle.std.proofs.Common.{◌≡◌, ◌≢◌, ◌⊎◌, ◌≤◌, ◌<◌, ℕ, ◌+◌, IsTrue, false, List, [], ◌∷◌, ◌++◌, drop, length, refl, sym, ap, subst, ◌∙◌, append-nil, arith, inl, inr, ⊎_elim}
 use Rattle.std.proofs.lemmas.Bool.Decides.{nat_tests}
 use Rattle.cube_io.specs.Causes.{RoseBy}
 use Rattle.cube_io.specs.Desks.{IsConstant, Answered, ForeignStay, GivesRooms, LeavesAll, IsOneOf, faults_in}
@@ -77,6 +77,11 @@ answered_one x y line reply short same some left a =
       fresh = (λ long. tt, λ ask. (λ is. (a.failed is).1, tt));
     }
 
+memory_or_not : (o : Outcome) → (o ≡ NoMemory) ⊎ (o ≢ NoMemory)
+memory_or_not Given = inr (λ e. cc)
+memory_or_not JournalFault = inr (λ e. cc)
+memory_or_not NoMemory = inl refl
+
 -- what a desk says of one ask is what is said of its line
 pub one_serves : (x y : Moment) (line : List ℕ) (reply : Reply)
     → length line ≤ 65536 → y.manner ≡ x.manner → 1 ≤ x.capacity → y.capacity + 1 ≡ x.capacity → (a : Answered x.manner (ask_of line) x.rooms y.rooms x.outcomes y.outcomes x.store.faults y.store.faults reply)
@@ -86,9 +91,9 @@ pub one_serves : (x y : Moment) (line : List ℕ) (reply : Reply)
     → (y.outcomes ≢ x.outcomes ++ JournalFault ∷ [] → IsTrue x.store.told → (log : ℕ) → x.exact x.rooms log (x.store.logs log).state → y.exact y.rooms log (y.store.logs log).state)
     → ForeignStay x.within x.store y.store
     → (IsTrue x.store.told → (log : ℕ) → x.within x.rooms log (x.store.logs log).state → LeavesAll (GivesRooms x.exact log) (IsOneOf x.rooms (x.manner.next x.rooms (ask_of line) Given)) (x.store.logs log) (y.store.logs log))
-    → AnswersDurably x y (line ∷ []) (reply_text reply)
+    → (y.outcomes ≡ x.outcomes ++ NoMemory ∷ [] → y.store ≡ x.store) → AnswersDurably x y (line ∷ []) (reply_text reply)
 unfolding answered_one
-one_serves x y line reply short same some left a tells named exactly wholly passed ends only others hand =
+one_serves x y line reply short same some left a tells named exactly wholly passed ends only others hand spared =
     let answers = answered_one x y line reply short same some left a in (
       answers,
       record {
@@ -99,15 +104,19 @@ one_serves x y line reply short same some left a tells named exactly wholly pass
         passed = λ t log w. gained_map (λ s. x.within x.rooms log s ⊎ x.within y.rooms log s) (IsPassed x.manner x.rooms (line ∷ []) (a.outcome ∷ []) x.within log) (x.store.logs log) (y.store.logs log) (λ s p. by_side log s p) (passed t log w);
         ends_within = ends;
         ends_exact = λ t none log e. only (λ bad. no_fault a.outcome none (last_is x.outcomes a.outcome JournalFault (sym a.added ∙ bad))) t log e;
-        in_hand = λ t log w. leaves_all_map (GivesRooms x.exact log) (GivesRooms x.exact log) (IsOneOf x.rooms (x.manner.next x.rooms (ask_of line) Given)) (IsLineInHand x.manner x.rooms (line ∷ []) (a.outcome ∷ [])) (x.store.logs log) (y.store.logs log)
-            (λ r bytes one g. (r, in_turn r one, g)) (hand t log w);
+        in_hand = λ t log w. ⊎_elim
+            (λ is. leaves_all_none (GivesRooms x.exact log) (IsLineInHand x.manner x.rooms (line ∷ []) (a.outcome ∷ [])) (x.store.logs log) (y.store.logs log)
+            (ap (λ (s : StoreState). s.logs log) (spared (a.added ∙ ap (λ (o : Outcome). x.outcomes ++ o ∷ []) is))))
+            (λ found. leaves_all_map (GivesRooms x.exact log) (GivesRooms x.exact log) (IsOneOf x.rooms (x.manner.next x.rooms (ask_of line) Given)) (IsLineInHand x.manner x.rooms (line ∷ []) (a.outcome ∷ [])) (x.store.logs log) (y.store.logs log)
+            (λ r bytes one g. (r, in_turn found r one, g)) (hand t log w))
+            (memory_or_not a.outcome);
         others = others;
       },
     )
   where
-    in_turn : (r : List Room) → IsOneOf x.rooms (x.manner.next x.rooms (ask_of line) Given) r → IsLineInHand x.manner x.rooms (line ∷ []) (a.outcome ∷ []) r
-    in_turn r (inl e) = inl (record { first = []; more = line ∷ []; split = refl; are = e })
-    in_turn r (inr e) = inr (record { first = []; line = line; more = []; split = refl; short = short_line line short; are = e })
+    in_turn : a.outcome ≢ NoMemory → (r : List Room) → IsOneOf x.rooms (x.manner.next x.rooms (ask_of line) Given) r → IsLineInHand x.manner x.rooms (line ∷ []) (a.outcome ∷ []) r
+    in_turn found r (inl e) = inl (record { first = []; more = line ∷ []; split = refl; are = e })
+    in_turn found r (inr e) = inr (record { first = []; line = line; more = []; split = refl; short = short_line line short; earlier = []; outcome = a.outcome; later = []; outcomes_split = refl; in_turn = refl; found = found; are = e })
 
     by_side : (log : ℕ) (s : State) → x.within x.rooms log s ⊎ x.within y.rooms log s → IsPassed x.manner x.rooms (line ∷ []) (a.outcome ∷ []) x.within log s
     by_side log s (inl p) = (x.rooms, record { first = []; more = line ∷ []; split = refl; are = refl }, p)
@@ -144,3 +153,4 @@ missed_serves x y line reply idle short same some left always is added stays exa
     (λ none t log e. subst (λ (l : Log). y.exact y.rooms log l.state) (sym (logs log)) ((exactly y.rooms log (x.store.logs log).state).1 (subst (λ (rs : List Room). x.exact rs log (x.store.logs log).state) (sym stays) e)))
     (λ t log no. logs log)
     (λ t log w. leaves_all_none (GivesRooms x.exact log) (IsOneOf x.rooms (x.manner.next x.rooms (ask_of line) Given)) (x.store.logs log) (y.store.logs log) (logs log))
+    (λ e. idle)

@@ -1,5 +1,5 @@
 -- What a crash may leave while lines are answered one after another.
-use Rattle.std.proofs.Common.{◌≡◌, inl, inr, ⊎_elim, ◌<◌, ◌≤◌, ℕ, Bool, IsTrue, true, false, List, [], ◌∷◌, ◌++◌, length, refl, sym, ap, ◌∙◌, subst, append_assoc, arith}
+use Rattle.std.proofs.Common.{◌≡◌, inl, inr, ⊎_elim, ◌<◌, ◌≤◌, ℕ, Bool, IsTrue, true, false, List, [], ◌∷◌, ◌++◌, length, refl, sym, ap, ◌∙◌, subst, append_assoc, length-append, arith}
 use Rattle.cube_model.specs.declared.outcome.Outcome.{Outcome}
 use Rattle.cube_model.specs.declared.outcome.Outcome.TheVariants.{Given}
 use Rattle.cube_model.specs.Rooms.{Room}
@@ -79,6 +79,12 @@ next_first m rooms here first more os ps e w =
       more = w.more ++ more;
       split = ap (λ (l : List (List ℕ)). l ++ more) w.split ∙ append_assoc w.first (w.line ∷ w.more) more;
       short = w.short;
+      earlier = w.earlier;
+      outcome = w.outcome;
+      later = w.later ++ ps;
+      outcomes_split = ap (λ (l : List Outcome). l ++ ps) w.outcomes_split ∙ append_assoc w.earlier (w.outcome ∷ w.later) ps;
+      in_turn = w.in_turn;
+      found = w.found;
       are = w.are ∙ ap (λ (r : List Room). m.next r (ask_of w.line) Given) (sym (takes_first m w.first ps rooms os few));
     }
 
@@ -90,6 +96,12 @@ next_second m m' rooms rooms' here first more os ps same there e w = record {
   more = w.more;
   split = ap (λ (l : List (List ℕ)). first ++ l) w.split ∙ sym (append_assoc first w.first (w.line ∷ w.more));
   short = w.short;
+  earlier = os ++ w.earlier;
+  outcome = w.outcome;
+  later = w.later;
+  outcomes_split = ap (λ (l : List Outcome). os ++ l) w.outcomes_split ∙ sym (append_assoc os w.earlier (w.outcome ∷ w.later));
+  in_turn = (let both = length-append os w.earlier in let asks = asks_append first w.first in let turn = w.in_turn in omega (arith, e, both, asks, turn));
+  found = w.found;
   are = w.are
       ∙ ap (λ (n : Manner). n.next (rooms_behind n rooms' w.first ps) (ask_of w.line) Given) same
       ∙ ap (λ (r : List Room). m.next (rooms_behind m r w.first ps) (ask_of w.line) Given) there

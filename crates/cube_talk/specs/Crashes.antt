@@ -1,13 +1,13 @@
 -- What a crash may leave of a log while a desk answers the lines of `ask`.
-use Rattle.std.specs.Prelude.{◌≡◌, ◌⊎◌, ◌↔◌, ℕ, false, IsTrue, List, ◌∷◌, ◌++◌}
+use Rattle.std.specs.Prelude.{◌≡◌, ◌≢◌, ◌⊎◌, ◌↔◌, ℕ, false, IsTrue, List, ◌∷◌, ◌++◌, length}
 use Rattle.cube_io.specs.Causes.{RoseBy}
 use Rattle.cube_io.specs.Desks.{Manner, ForeignStay, GivesRooms, LeavesAll, faults_in}
 use Rattle.cube_io.specs.Seen.{SourceState, SinkState, Seen}
 use Rattle.cube_io.specs.States.{State, Gained}
 use Rattle.cube_model.specs.declared.outcome.Outcome.{Outcome}
-use Rattle.cube_model.specs.declared.outcome.Outcome.TheVariants.{Given}
+use Rattle.cube_model.specs.declared.outcome.Outcome.TheVariants.{Given, NoMemory}
 use Rattle.cube_model.specs.Rooms.{Room}
-use Rattle.cube_talk.specs.Asks.{is_too_long, ask_of, rooms_behind, FailedFresh, AnswersAsks, Talked}
+use Rattle.cube_talk.specs.Asks.{is_too_long, ask_of, asks_in, rooms_behind, FailedFresh, AnswersAsks, Talked}
 use Rattle.cube_talk.specs.Moments.{Moment}
 use Rattle.cube_talk.specs.declared.talk.TalkEnd.{TalkEnd}
 
@@ -18,13 +18,19 @@ pub record IsOnTheWay (m : Manner) (rooms : List Room) (ls : List (List ℕ)) (o
   pub split : ls ≡ first ++ more
   pub are : here ≡ rooms_behind m rooms first os
 
--- rooms on the way, with the request of the line that comes next: that of the ask in hand
+-- rooms on the way, with the request of the line that comes next: that of the ask in hand, which found memory
 pub record IsWithNext (m : Manner) (rooms : List Room) (ls : List (List ℕ)) (os : List Outcome) (here : List Room) : Type 0 where
   pub first : List (List ℕ)
   pub line : List ℕ
   pub more : List (List ℕ)
   pub split : ls ≡ first ++ line ∷ more
   pub short : is_too_long line ≡ false
+  pub earlier : List Outcome
+  pub outcome : Outcome
+  pub later : List Outcome
+  pub outcomes_split : os ≡ earlier ++ outcome ∷ later
+  pub in_turn : length earlier ≡ asks_in first
+  pub found : outcome ≢ NoMemory
   pub are : here ≡ m.next (rooms_behind m rooms first os) (ask_of line) Given
 
 abbrev pub IsLineInHand : Manner → List Room → List (List ℕ) → List Outcome → List Room → Type 0

@@ -1,3 +1,4 @@
+use Rattle.std.proofs.Common.{ap}
 use Rattle.cube_server.proofs.Dealt.{asked_deals, constant_deals}
 use Rattle.cube_server.proofs.Enduring.{endures_none, endures_answer}
 use Rattle.cube_server.proofs.deal.reply_to.Goals as goal
@@ -17,6 +18,7 @@ returns-in-Asked-clause-endures g c = let a = c.answer.ensures in
       capacity = a.capacity;
       told = a.told;
       names = a.names;
+      memory = λ e. ap g.S.Store.state (a.memory e);
       within_stays = a.within_stays;
       exact_stays = a.exact_stays;
       passed = a.passed;
