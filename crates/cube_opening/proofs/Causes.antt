@@ -5,7 +5,7 @@ use Rattle.cube_io.specs.Causes.{Rose}
 use Rattle.cube_io.specs.Seen.{FolderState, SinkState, Seen}
 use Rattle.cube_opening.specs.Causes.{Count, Counts, Rises, IsStill, unheld, only_files, only_out, IsOwn, HasCauses}
 use Rattle.cube_opening.specs.Opening.{Unopened, EndsUnopened, EndsUnfounded, dims_said, facts_said, policy_said, IsSteady}
-use Rattle.cube_opening.specs.Reports.{IsReport, NoMessage, Prints}
+use Rattle.cube_opening.specs.Reports.{Prints}
 use Rattle.cube_opening.specs.Ruling.{EndsUnruled, EndsAtRules, EndsAtOne, group_policy_said, groups_said, one_group}
 use Rattle.cube_opening.specs.declared.cube_files.CubeFiles.{CubeFiles}
 use Rattle.cube_opening.specs.declared.cube_files.RuledFiles.{RuledFiles}
@@ -58,24 +58,25 @@ wider {c} {d} {r} files store input out wire x = record {
 
 -- ---- ends for which nothing outside counted a fault
 
-own_not : (n k : ℕ) → IsOwn n → n ≡ k → (k ≢ 0) × (k ≢ 3) × (k ≢ 4) × (k ≢ 7) × (k ≢ 10) → ⊥
+own_not : (n k : ℕ) → IsOwn n → n ≡ k → (k ≢ 0) × (k ≢ 3) × (k ≢ 4) × (k ≢ 7) × (k ≢ 10) × (k ≢ 1) → ⊥
 own_not n k (inl e) is none = none.0 (sym is ∙ e)
 own_not n k (inr (inl e)) is none = none.1 (sym is ∙ e)
 own_not n k (inr (inr (inl e))) is none = none.2 (sym is ∙ e)
 own_not n k (inr (inr (inr (inl e)))) is none = none.3 (sym is ∙ e)
-own_not n k (inr (inr (inr (inr e)))) is none = none.4 (sym is ∙ e)
+own_not n k (inr (inr (inr (inr (inl e))))) is none = none.4 (sym is ∙ e)
+own_not n k (inr (inr (inr (inr (inr e))))) is none = none.5 (sym is ∙ e)
 
 five : (n : ℕ) → IsOwn n → n ≡ 5 → ⊥
-five n own is = own_not n 5 own is ((λ e. omega (arith, e)), (λ e. omega (arith, e)), (λ e. omega (arith, e)), (λ e. omega (arith, e)), (λ e. omega (arith, e)))
+five n own is = own_not n 5 own is ((λ e. omega (arith, e)), (λ e. omega (arith, e)), (λ e. omega (arith, e)), (λ e. omega (arith, e)), (λ e. omega (arith, e)), (λ e. omega (arith, e)))
 
 six : (n : ℕ) → IsOwn n → n ≡ 6 → ⊥
-six n own is = own_not n 6 own is ((λ e. omega (arith, e)), (λ e. omega (arith, e)), (λ e. omega (arith, e)), (λ e. omega (arith, e)), (λ e. omega (arith, e)))
+six n own is = own_not n 6 own is ((λ e. omega (arith, e)), (λ e. omega (arith, e)), (λ e. omega (arith, e)), (λ e. omega (arith, e)), (λ e. omega (arith, e)), (λ e. omega (arith, e)))
 
 eight : (n : ℕ) → IsOwn n → n ≡ 8 → ⊥
-eight n own is = own_not n 8 own is ((λ e. omega (arith, e)), (λ e. omega (arith, e)), (λ e. omega (arith, e)), (λ e. omega (arith, e)), (λ e. omega (arith, e)))
+eight n own is = own_not n 8 own is ((λ e. omega (arith, e)), (λ e. omega (arith, e)), (λ e. omega (arith, e)), (λ e. omega (arith, e)), (λ e. omega (arith, e)), (λ e. omega (arith, e)))
 
 nine : (n : ℕ) → IsOwn n → n ≡ 9 → ⊥
-nine n own is = own_not n 9 own is ((λ e. omega (arith, e)), (λ e. omega (arith, e)), (λ e. omega (arith, e)), (λ e. omega (arith, e)), (λ e. omega (arith, e)))
+nine n own is = own_not n 9 own is ((λ e. omega (arith, e)), (λ e. omega (arith, e)), (λ e. omega (arith, e)), (λ e. omega (arith, e)), (λ e. omega (arith, e)), (λ e. omega (arith, e)))
 
 -- nothing is held, or all counts stayed
 pub record AreStill (c : Counts) : Type 0 where

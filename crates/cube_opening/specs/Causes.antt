@@ -1,5 +1,5 @@
 -- Why a run ended as it did: what the objects outside counted.
-use Rattle.std.specs.Prelude.{◌≡◌, ◌≢◌, ◌⊎◌, ℕ, List, []}
+use Rattle.std.specs.Prelude.{◌≡◌, ◌≢◌, ◌⊎◌, ℕ, []}
 use Rattle.cube_io.specs.Causes.{Rose}
 use Rattle.cube_io.specs.Seen.{FolderState, SourceState, SinkState, StoreState, WireState, Seen}
 use Rattle.cube_opening.specs.declared.report.Report.{Report}
@@ -56,28 +56,12 @@ only_out out = record { files = unheld; store = unheld; input = unheld; out = of
 abbrev pub only_wire : {W : Type 0} → Seen WireState W → Counts
 only_wire wire = record { files = unheld; store = unheld; input = unheld; out = unheld; wire = of_wire wire }
 
--- of a command that reads files and puts a text
-abbrev pub of_listing : {F O : Type 0} → Seen FolderState F → Seen SinkState O → Counts
-of_listing files out = record { files = of_files files; store = unheld; input = unheld; out = of_out out; wire = unheld }
-
--- of one that opens a journal too
-abbrev pub of_command : {F S O : Type 0} → Seen FolderState F → Seen StoreState S → Seen SinkState O → Counts
-of_command files store out = record { files = of_files files; store = of_store store; input = unheld; out = of_out out; wire = unheld }
-
--- of one that answers lines
-abbrev pub of_talk : {F S I O : Type 0} → Seen FolderState F → Seen StoreState S → Seen SourceState I → Seen SinkState O → Counts
-of_talk files store input out = record { files = of_files files; store = of_store store; input = of_input input; out = of_out out; wire = unheld }
-
--- of one that serves a wire
-abbrev pub of_server : {F S W : Type 0} → Seen FolderState F → Seen StoreState S → Seen WireState W → Counts
-of_server files store wire = record { files = of_files files; store = of_store store; input = unheld; out = unheld; wire = of_wire wire }
-
 -- ---- the causes
 
--- a status for which nothing outside counted a fault: all was done, a file or a query is refused, or the journal, memory ran out, or as
--- much was taken as is taken at most
+-- a status for which nothing outside counted a fault: all was done, a file or a query is refused, or the journal, memory ran out, as
+-- much was taken as is taken at most, or what was to be shown is not so
 abbrev pub IsOwn : ℕ → Type 0
-IsOwn n = (n ≡ 0) ⊎ (n ≡ 3) ⊎ (n ≡ 4) ⊎ (n ≡ 7) ⊎ (n ≡ 10)
+IsOwn n = (n ≡ 0) ⊎ (n ≡ 3) ⊎ (n ≡ 4) ⊎ (n ≡ 7) ⊎ (n ≡ 10) ⊎ (n ≡ 1)
 
 -- or one of an object outside: the files or the input, the output, the wire, or the store
 abbrev pub IsStatus : ℕ → Type 0

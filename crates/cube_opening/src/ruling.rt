@@ -1,6 +1,5 @@
 // What rules the users of a cube: a policy file, or a groups file with a policy file for each group, read in turn.
 ghost use Rattle.std.specs.Prelude.{◌≡◌, ◌≢◌, ◌⊎◌, ◌≤◌, ◌∷◌, ◌++◌, List, [], length, codes, Ok, Err, IfOk, IfErr, OnOk, IfSome};
-ghost use Rattle.cube_io.specs.Files.{max_file};
 ghost use Rattle.cube_io.specs.Seen.{seen};
 ghost use Rattle.cube_model.specs.Cubes.{Each};
 ghost use Rattle.cube_model.specs.Policies.{IsPolicy};
@@ -10,7 +9,7 @@ ghost use Rattle.cube_groups.specs.declared.fault.GroupsFault.TheVariants as gro
 ghost use Rattle.cube_groups.specs.declared.group.GroupFile.{GroupFile};
 ghost use Rattle.cube_opening.specs.Opening.{fault_text, FileSays, AskedFor, EndsAt, GotBehind, Reads};
 ghost use Rattle.cube_opening.specs.Reports.{IsReport, NoMessage};
-ghost use Rattle.cube_opening.specs.Ruling.{groups_said, called as called_as, group_policy_said, one_group, Lists, IsRuledBy, AreRuledBy, HaveNames, AreGroups, list_names, most_groups, policy_names, ruled_names, EndsAtOne, EndsAtRules, EndsUnruled, IsRead, MakeGroups};
+ghost use Rattle.cube_opening.specs.Ruling.{groups_said, called as called_as, group_policy_said, one_group, IsRuledBy, AreRuledBy, HaveNames, AreGroups, most_groups, policy_names, ruled_names, EndsAtOne, EndsAtRules, EndsUnruled, IsRead, MakeGroups};
 ghost use Rattle.cube_opening.specs.declared.cube_files.Rules.TheVariants as orders;
 ghost use Rattle.cube_opening.specs.declared.ruling.RuledGroup.{RuledGroup};
 

@@ -2,6 +2,8 @@
 
 /// All was done.
 pub const DONE: u8 = 0;
+/// All was done, and what was to be shown is not so.
+pub const NOT_SO: u8 = 1;
 /// The words of the command line are wrong.
 pub const WRONG_WORDS: u8 = 2;
 /// A file was read and is refused.

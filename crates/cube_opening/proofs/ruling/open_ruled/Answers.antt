@@ -2,7 +2,7 @@ use Rattle.std.proofs.Common.{[], ◌∷◌, inl, inr, subst}
 use Rattle.cube_model.specs.Dims.{Dims}
 use Rattle.cube_io.specs.Seen.{seen}
 use Rattle.cube_opening.specs.Ruling.{EndsAtRules}
-use Rattle.cube_opening.proofs.Groups.{at_most, rules_behind}
+use Rattle.cube_opening.proofs.Groups.{rules_behind}
 use Rattle.cube_opening.proofs.ruling.open_ruled.Goals as goal
 
 pub returns-in-Err-clause-err : goal.returns-in-Err-clause-err
