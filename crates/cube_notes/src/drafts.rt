@@ -115,13 +115,22 @@ fn push_option(text: &mut Text, option: &[u8], name: &[u8]) -> Result<(), NoMemo
     push_shown(text, name)
 }
 
+// So many things that are called so, one by a word and more by that with an ending.
+fn push_counted(text: &mut Text, count: u64, word: &[u8]) -> Result<(), NoMemory> {
+    text.push_number(count)?;
+    text.push(b' ')?;
+    text.extend(word)?;
+    if count == 1 { Ok(()) } else { text.push(b's') }
+}
+
 // Says of numbers that they are a measure.
 fn push_measure(text: &mut Text, column: &Column, name: &[u8]) -> Result<(), NoMemory> {
-    text.push_number(column.fields)?;
     if column.years == column.fields {
-        text.extend(b" years: a measure, which is added up")?;
+        push_counted(text, column.fields, b"year")?;
+        text.extend(b": a measure, which is added up")?;
     } else {
-        text.extend(b" numbers: a measure")?;
+        push_counted(text, column.fields, b"number")?;
+        text.extend(b": a measure")?;
     }
     push_option(text, b"; members by --members ", name)?;
     push_option(text, b", left out by --skip ", name)
@@ -136,6 +145,17 @@ fn push_other(text: &mut Text, other: &Other) -> Result<(), NoMemory> {
     text.extend(hint_on(other.value.as_slice()))
 }
 
+// Says how many of the fields are numbers, where some are.
+fn push_share(text: &mut Text, column: &Column) -> Result<(), NoMemory> {
+    if column.numbers == 0 {
+        return Ok(());
+    }
+    text.push_number(column.numbers)?;
+    text.extend(b" of ")?;
+    push_counted(text, column.fields, b"number")?;
+    text.extend(b", ")
+}
+
 // Says of fields of which one is no number that they are members.
 fn push_members(
     text: &mut Text,
@@ -143,10 +163,7 @@ fn push_members(
     other: &Other,
     name: &[u8],
 ) -> Result<(), NoMemory> {
-    text.push_number(column.numbers)?;
-    text.extend(b" of ")?;
-    text.push_number(column.fields)?;
-    text.extend(b" numbers, ")?;
+    push_share(text, column)?;
     push_other(text, other)?;
     push_option(text, b": members; left out by --skip ", name)
 }
@@ -228,7 +245,8 @@ fn push_columns(
 }
 
 /// The note on a fact file that files are drafted for, with what is stated of its columns: a line for each column, which says how many of
-/// its fields are numbers, shows the first that is none, and names what is made of it and the option that makes something else.
+/// its fields are numbers, where some are, shows the first that is none, and names what is made of it and the option that makes something
+/// else.
 pub fn note_on_draft(
     alloc: Global,
     name: &Text,

@@ -11,4 +11,4 @@ pub use drafting::Drafting;
 pub use helping::help;
 pub use ordered::{Making, Orders};
 pub use words::{Command, Setting, Usage, orders_of};
-pub use worked::{worked_makings, worked_requests, worked_seconds};
+pub use worked::{worked_help, worked_makings, worked_requests, worked_seconds};

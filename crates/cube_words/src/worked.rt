@@ -1,6 +1,22 @@
-// Numbers of asks, and the number and the size of a made cube, read by the definitions alone.
-ghost use Rattle.std.specs.Prelude.{◌≡◌, true, false, codes};
-ghost use Rattle.cube_words.specs.Words.{is_requests, is_idle, is_number, is_size};
+// Words for the help, numbers of asks, and the number and the size of a made cube, read by the definitions alone.
+ghost use Rattle.std.specs.Prelude.{◌≡◌, true, false, [], ◌∷◌, codes, Some, None, Ok, Err};
+ghost use Rattle.cube_words.specs.declared.ordered.Orders.TheVariants as orders;
+ghost use Rattle.cube_words.specs.declared.words.Command.TheVariants as command;
+ghost use Rattle.cube_words.specs.declared.words.Usage.TheVariants as usage;
+ghost use Rattle.cube_words.specs.Words.{is_short, is_requests, is_idle, is_number, is_size, orders_of};
+
+/// Which words the definitions take for `--help`, before a command, behind one and alone, and which they call wrong.
+pub fn worked_help()
+    ensures letter { is_short (codes "-h") ≡ true }
+    ensures word { is_short (codes "help") ≡ true }
+    ensures neither { is_short (codes "-help") ≡ false }
+    ensures alone { orders_of (codes "help" ∷ []) ≡ Ok (orders.Help None) }
+    ensures before { orders_of (codes "help" ∷ codes "sum" ∷ []) ≡ Ok (orders.Help (Some command.Sum)) }
+    ensures behind { orders_of (codes "sum" ∷ codes "-h" ∷ codes "x" ∷ []) ≡ Ok (orders.Help (Some command.Sum)) }
+    ensures no_command { orders_of (codes "help" ∷ codes "sun" ∷ []) ≡ Err (usage.Wrong 1) }
+    ensures two_commands { orders_of (codes "-h" ∷ codes "sum" ∷ codes "ask" ∷ []) ≡ Err (usage.Wrong 1) }
+    ensures no_help { orders_of (codes "-help" ∷ []) ≡ Err (usage.Wrong 0) }
+{}
 
 /// Which texts the definitions take for a stated number of asks.
 pub fn worked_requests()
