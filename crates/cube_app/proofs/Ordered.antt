@@ -4,11 +4,12 @@ use Rattle.std.specs.Prelude.{IfOk, IfErr}
 use Rattle.std.specs.declared.result.Result.{Result}
 use Rattle.std.specs.declared.result.Result.TheVariants.{Ok, Err}
 use Rattle.cube_opening.specs.Causes.{HasCauses, IsStatus, IsStill, Rises}
+use Rattle.cube_opening.specs.Outside.{Outside, UsesNone, counted}
 use Rattle.cube_opening.specs.Reports.{IsReport, NoMessage}
 use Rattle.cube_opening.specs.declared.report.Report.{Report}
 use Rattle.cube_words.specs.declared.ordered.Orders.{Orders}
 use Rattle.cube_words.specs.declared.words.Usage.{Usage}
-use Rattle.cube_app.specs.Runs.{Outside, Obeyed, Untouched, NoneRose, CalmStatus, Runs, counted}
+use Rattle.cube_app.specs.Runs.{Obeyed, NoneRose, CalmStatus, Runs}
 use Rattle.cube_app.specs.Texts.{usage_text}
 
 -- what was obeyed, by another name of the orders
@@ -42,14 +43,14 @@ calm_end {F} {S} {I} {O} {W} objects {r} x calm = go x.status
     go (inr (inr (inr (inr e)))) = absurd (calm.1 (x.unkept e).0)
 
 -- nothing is done where there is no memory to begin
-pub not_begun : {F S I O W : Type 0} {objects : Outside F S I O W} {r : Report} (words : List (List ℕ)) (given : Result Orders Usage) → NoMessage r → Untouched objects → Runs words given objects r
+pub not_begun : {F S I O W : Type 0} {objects : Outside F S I O W} {r : Report} (words : List (List ℕ)) (given : Result Orders Usage) → NoMessage r → UsesNone objects → Runs words given objects r
 not_begun {F} {S} {I} {O} {W} {objects} {r} words given none same = record {
-  refused = each_err given (λ usage. (IsReport 2 (usage_text words usage) r ⊎ NoMessage r) × Untouched objects) (λ usage. (inr none, same));
-  obeyed = each_ok given (λ orders. Obeyed orders objects r ⊎ (NoMessage r × Untouched objects)) (λ orders. inr (none, same));
+  refused = each_err given (λ usage. (IsReport 2 (usage_text words usage) r ⊎ NoMessage r) × UsesNone objects) (λ usage. (inr none, same));
+  obeyed = each_ok given (λ orders. Obeyed orders objects r ⊎ (NoMessage r × UsesNone objects)) (λ orders. inr (none, same));
   calm = λ calm. no_memory none.0;
 }
 
-pub refused_as : {F S I O W : Type 0} {objects : Outside F S I O W} {r : Report} (words : List (List ℕ)) (given : Result Orders Usage) (usage : Usage) → Err usage ≡ given → IsReport 2 (usage_text words usage) r ⊎ NoMessage r → Untouched objects → Runs words given objects r
+pub refused_as : {F S I O W : Type 0} {objects : Outside F S I O W} {r : Report} (words : List (List ℕ)) (given : Result Orders Usage) (usage : Usage) → Err usage ≡ given → IsReport 2 (usage_text words usage) r ⊎ NoMessage r → UsesNone objects → Runs words given objects r
 refused_as {F} {S} {I} {O} {W} {objects} {r} words given usage is told same = subst (λ (x : Result Orders Usage). Runs words x objects r) is (record { refused = (told, same); obeyed = tt; calm = λ calm. wrong told })
   where
     wrong : IsReport 2 (usage_text words usage) r ⊎ NoMessage r → CalmStatus r.status

@@ -1,15 +1,4 @@
-pub mod Advising
-pub mod Auditing
-pub mod Carrying
-pub mod Cells
-pub mod Drafting
-pub mod Ends
-pub mod Making
 pub mod Runs
-pub mod Saying
 pub mod Serves
-pub mod Summary
-pub mod Talks
 pub mod Texts
 pub mod TwinFiles
-pub mod Reasons

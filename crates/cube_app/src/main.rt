@@ -1,22 +1,13 @@
 //! The program: it makes the real objects, runs, prints the text on standard error and ends with the status.
 #![tactic(auto)]
 
-mod advising;
-mod auditing;
-mod carrying;
-mod cells;
-mod drafting;
 mod hinting;
-mod making;
 mod noting;
-mod reasons;
 mod run;
-mod saying;
-mod summary;
 
 ghost use Rattle.std.specs.Prelude.{◌≡◌, IfOk};
 ghost use Rattle.cube_words.specs.Words.{orders_of as orders_in, out_of as out_ordered};
-ghost use Rattle.cube_app.specs.Ends.{out_in};
+ghost use Rattle.cube_app.specs.Runs.{out_in};
 
 use cube_edge::{
     EitherSink, FileFolder, FileStore, MachineDisk, MarkingSink, NoWatch, OutFile, ReaderSource,
@@ -24,6 +15,7 @@ use cube_edge::{
 };
 use cube_io::Failed;
 use cube_model::{Dims, Items, NoMemory, Text, Texts};
+use cube_opening::World;
 use cube_seal::line_of;
 use cube_words::{Orders, orders_of};
 use hinting::HintingSource;
@@ -291,8 +283,8 @@ fn main(rt: HostRuntime) -> ExitCode {
         Ok(held) => held,
         Err(status) => return status,
     };
-    let mut files = FileFolder::new(&rt, rt.stderr());
-    let Ok(mut store) = FileStore::new(rt.alloc(), MachineDisk::new(&rt), rt.stderr()) else {
+    let files = FileFolder::new(&rt, rt.stderr());
+    let Ok(store) = FileStore::new(rt.alloc(), MachineDisk::new(&rt), rt.stderr()) else {
         return ExitCode::from(7);
     };
     let unbegun = never_begun(&rt, orders.as_ref());
@@ -304,7 +296,7 @@ fn main(rt: HostRuntime) -> ExitCode {
     };
     let typed = Cell::new(0usize);
     let input = TypedSource::new(ReaderSource::new(rt.reader()), &typed);
-    let mut input = HintingSource::new(input, rt.alloc(), dims, rt.stderr());
+    let input = HintingSource::new(input, rt.alloc(), dims, rt.stderr(), &typed);
     let Ok(named) = out_named(rt.alloc(), words.as_slice()) else {
         return ExitCode::from(7);
     };
@@ -320,26 +312,25 @@ fn main(rt: HostRuntime) -> ExitCode {
             }
         }
     };
-    let mut out = MarkingSink::new(out, rt.stderr(), &typed, is_typed);
+    let out = MarkingSink::new(out, rt.stderr(), &typed, is_typed);
     let Ok(sockets) = TcpSockets::new(rt.alloc(), &rt, rt.stderr()) else {
         return ExitCode::from(7);
     };
-    let Ok(mut wire) = SocketWire::new(rt.alloc(), sockets, NoWatch) else {
+    let Ok(wire) = SocketWire::new(rt.alloc(), sockets, NoWatch) else {
         return ExitCode::from(7);
     };
-    let report = run(
-        rt.alloc(),
-        words.as_slice(),
-        &mut files,
-        &mut store,
-        &mut input,
-        &mut out,
-        &mut wire,
-    );
-    wire.settle();
+    let mut world = World {
+        files,
+        store,
+        input,
+        out,
+        wire,
+    };
+    let report = run(rt.alloc(), words.as_slice(), &mut world);
+    world.wire.settle();
     drop(held);
     let noted = match &orders {
-        Some(orders) => note(rt.alloc(), orders, &report, &mut files),
+        Some(orders) => note(rt.alloc(), orders, &report, &mut world.files),
         None => None,
     };
     if let Some(noted) = noted {

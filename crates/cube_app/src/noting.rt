@@ -1,8 +1,9 @@
 // What is done beside a run with files that are read once more: notes for a person, on which nothing of a run rests, and the seal of what is carried over.
+use cube_advise::lone_text;
 use cube_core::Core;
 use cube_dims::read_dims;
 use cube_facts::read_facts;
-use cube_io::Folder;
+use cube_io::{Folder, MAX_FILE};
 use cube_journal::Digest;
 use cube_model::{Dims, Text};
 use cube_notes::{
@@ -15,18 +16,37 @@ use cube_seal::digest_of_values;
 use cube_words::{Drafting, Orders};
 use std::alloc::Global;
 
+// A fact file of no more bytes is read once more behind `check`.
+const SHORT_FILE: usize = 4_194_304;
+
+// Over no more cuboids it is looked behind `check` for what may be one person's.
+const FEW_CUBOIDS: usize = 256;
+
 /// The dimensions in a file, where they are accepted.
 pub fn dims_in<F: Folder>(alloc: Global, name: &Text, files: &mut F) -> Option<Dims> {
     let bytes = files.read_file(alloc, name).ok()?;
     read_dims(alloc, bytes.as_slice()).ok()
 }
 
-/// The digest of the values of a cube, where its files are accepted.
-pub fn values_in<F: Folder>(alloc: Global, cube: &CubeFiles, files: &mut F) -> Option<Digest> {
+// The core of a cube, where its files are accepted and the fact file is no longer than this.
+fn core_in<F: Folder>(
+    alloc: Global,
+    cube: &CubeFiles,
+    longest: usize,
+    files: &mut F,
+) -> Option<Core> {
     let dims = dims_in(alloc, &cube.dims, files)?;
     let bytes = files.read_file(alloc, &cube.facts).ok()?;
+    if bytes.len() > longest {
+        return None;
+    }
     let (shape, cube) = read_facts(alloc, &dims, bytes.as_slice()).ok()?;
-    let core = Core::new(alloc, dims, shape, cube).ok()?;
+    Core::new(alloc, dims, shape, cube).ok()
+}
+
+/// The digest of the values of a cube, where its files are accepted.
+pub fn values_in<F: Folder>(alloc: Global, cube: &CubeFiles, files: &mut F) -> Option<Digest> {
+    let core = core_in(alloc, cube, MAX_FILE, files)?;
     Some(digest_of_values(&core))
 }
 
@@ -82,6 +102,41 @@ fn policy_note<F: Folder>(alloc: Global, cube: &CubeFiles, files: &mut F) -> Opt
     let bytes = files.read_file(alloc, &cube.policy).ok()?;
     let policy = read_policy(alloc, &dims, bytes.as_slice()).ok()?;
     note_on_policy(alloc, &dims, &policy).ok()
+}
+
+// Where what can be released may be one person's. For `check` it is looked for where that takes no longer than the check itself: in a fact
+// file that is not long, over few cuboids.
+fn lone_note<F: Folder>(
+    alloc: Global,
+    cube: &CubeFiles,
+    longest: usize,
+    files: &mut F,
+) -> Option<Text> {
+    let core = core_in(alloc, cube, longest, files)?;
+    if longest < MAX_FILE && cuboids_in(core.dims()) > FEW_CUBOIDS {
+        return None;
+    }
+    let bytes = files.read_file(alloc, &cube.policy).ok()?;
+    let policy = read_policy(alloc, core.dims(), bytes.as_slice()).ok()?;
+    lone_text(alloc, &core, &policy).ok()
+}
+
+// How many cuboids the measures have together, up to more than a few.
+fn cuboids_in(dims: &Dims) -> usize {
+    let mut count = dims.measures().len();
+    for dimension in dims.dimensions() {
+        count = count.saturating_mul(dimension.levels().len().saturating_add(1));
+    }
+    count
+}
+
+// Behind `check`: what is not protected, and what may be one person's.
+fn checked_note<F: Folder>(alloc: Global, cube: &CubeFiles, files: &mut F) -> Option<Text> {
+    let mut note = policy_note(alloc, cube, files)?;
+    if let Some(lone) = lone_note(alloc, cube, SHORT_FILE, files) {
+        note.extend(lone.as_slice()).ok()?;
+    }
+    Some(note)
 }
 
 fn unknown_note<F: Folder>(alloc: Global, cube: CubeNames, files: &mut F) -> Option<Text> {
@@ -234,7 +289,8 @@ pub fn note<F: Folder>(
 ) -> Option<Text> {
     let text = report.text.as_slice();
     match (orders, report.status) {
-        (Orders::Check { files: cube }, 0) => policy_note(alloc, cube, files),
+        (Orders::Check { files: cube }, 0) => checked_note(alloc, cube, files),
+        (Orders::Advise { files: cube, .. }, 0) => lone_note(alloc, cube, MAX_FILE, files),
         (Orders::Draft { drafting }, 0) if !drafting.policy => draft_note(alloc, drafting, files),
         (Orders::Draft { drafting }, 3) => undrafted_note(alloc, drafting, text, files),
         (_, 3) => refusal_note(alloc, orders, text, files),

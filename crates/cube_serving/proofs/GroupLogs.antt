@@ -18,16 +18,16 @@ use Rattle.cube_engine.specs.Steps.{by_words, manner}
 use Rattle.cube_server.specs.Crashes.{after, OnTheWay, IsInHand, Endures}
 use Rattle.cube_server.specs.Logs.{Call as Reached}
 use Rattle.cube_server.specs.Seen.{DeskState}
-use Rattle.cube_serving.specs.Grouping.{AllOf}
-use Rattle.cube_serving.specs.NamedBooks.{room, rooms_of, AreNumbered, place, places_of, HoldsAt}
+use Rattle.cube_starting.specs.Grouping.{AllOf}
+use Rattle.cube_starting.specs.NamedBooks.{room, rooms_of, AreNumbered, place, places_of, HoldsAt}
 use Rattle.cube_serving.specs.Serving.{turn_of, RoomHas}
-use Rattle.cube_serving.specs.Starting.{IsBetween, SurvivedIn, HeldIn}
-use Rattle.cube_serving.specs.declared.named.NamedBook.{NamedBook}
+use Rattle.cube_starting.specs.Starting.{IsBetween, SurvivedIn, HeldIn}
+use Rattle.cube_starting.specs.declared.named.NamedBook.{NamedBook}
 use Rattle.cube_serving.proofs.Grouped.{after_is, turns_grow}
 use Rattle.cube_engine.proofs.Settled.{settled_leaves}
-use Rattle.cube_serving.proofs.Held.{held}
-use Rattle.cube_serving.proofs.Lists.{at_seam, map_append, map_twice}
-use Rattle.cube_serving.proofs.Placed.{front_logs, back_logs, own_holds, only_holds}
+use Rattle.cube_starting.proofs.Held.{held}
+use Rattle.cube_starting.proofs.Lists.{at_seam, map_append, map_twice}
+use Rattle.cube_starting.proofs.Placed.{front_logs, back_logs, own_holds, only_holds}
 
 -- ---- a book with another history
 
@@ -124,7 +124,7 @@ pub record WereAsked (s : Dims) (calls : List Reached) (within exact : List Room
 hand_calls : (m : Manner) (rooms : List Room) (calls : List Reached) (here : List Room) → IsInHand m rooms calls here → (cs : List Reached) × (here ≡ after m rooms cs)
 hand_calls m rooms [] here e = ([], e)
 hand_calls m rooms (c ∷ calls) here (inl e) = ([], e)
-hand_calls m rooms (c ∷ calls) here (inr (inl e)) = (record { ask = c.ask; outcome = Given } ∷ [], e)
+hand_calls m rooms (c ∷ calls) here (inr (inl e)) = (record { ask = c.ask; outcome = Given } ∷ [], e.1)
 hand_calls m rooms (c ∷ calls) here (inr (inr i)) = let more = hand_calls m (m.next rooms c.ask c.outcome) calls here i in (c ∷ more.0, more.1)
 
 hand_starts : (m : Manner) (rooms : List Room) (calls : List Reached) → IsInHand m rooms calls rooms

@@ -27,9 +27,9 @@ use Rattle.cube_server.specs.Alike.{SameReplies}
 use Rattle.cube_server.specs.Crashes.{after}
 use Rattle.cube_server.specs.Logs.{Call as Reached, Luck, log_of, calls_of}
 use Rattle.cube_server.proofs.Likeness.{logs_are_alike}
-use Rattle.cube_serving.specs.Grouping.{GroupRun, first_room, first_rooms}
+use Rattle.cube_starting.specs.Grouping.{GroupRun, first_room, first_rooms}
 use Rattle.cube_serving.specs.Serving.{turn_of}
-use Rattle.cube_serving.proofs.Lists.{each_in, head_alike, map_twice, tail_alike}
+use Rattle.cube_starting.proofs.Lists.{each_in, head_alike, map_twice, tail_alike}
 
 -- ---- rooms behind some asks
 

@@ -1,20 +1,9 @@
-pub mod Lists
-pub mod Placed
-pub mod Turning
-pub mod Adding
-pub mod Started
-pub mod SealsHeld
-pub mod Held
 pub mod Phrases
 pub mod Played
 mod Listening
 pub mod Grouped
 pub mod GroupLogs
-pub mod Gathered
-pub mod Names
 pub mod Shared
-pub mod OpenGroups
 pub mod Unruled
-pub mod Unstarted
-pub mod Everyone
 pub mod Causes
+pub mod Opened

@@ -26,16 +26,16 @@ use Rattle.cube_server.specs.Steps.{Serves}
 use Rattle.cube_server.specs.declared.serving.ServeFault.{ServeFault}
 use Rattle.cube_server.proofs.Likeness.{logs_are_alike}
 use Rattle.cube_talk.specs.Talk.{max_input}
-use Rattle.cube_serving.specs.Grouping.{GroupRun, first_room, last_room, first_rooms, last_rooms}
-use Rattle.cube_serving.specs.NamedBooks.{Groups, rooms_of, dims_of, AreInOrder, AreNumbered, places_of, HoldsAt}
-use Rattle.cube_serving.specs.Serving.{Asking, desk_before, desk_behind, turn_of, luck_in, Tells, Wired, RoomHas, IsInTurn, HoldFrom, AreRunsOf, SurviveFrom, ServeWire}
+use Rattle.cube_starting.specs.Grouping.{GroupRun, first_room, last_room, first_rooms, last_rooms, AreRunsOf}
+use Rattle.cube_starting.specs.NamedBooks.{Groups, rooms_of, dims_of, AreInOrder, AreNumbered, places_of, HoldsAt}
+use Rattle.cube_serving.specs.Serving.{Asking, desk_before, desk_behind, turn_of, luck_in, Tells, Wired, RoomHas, IsInTurn, HoldFrom, SurviveFrom, ServeWire}
 use Rattle.cube_serving.specs.Serving.{Ends}
-use Rattle.cube_serving.specs.Starting.{SurvivedIn, RecoversIn, HeldIn}
-use Rattle.cube_serving.specs.declared.named.NamedBook.{NamedBook}
+use Rattle.cube_starting.specs.Starting.{SurvivedIn, RecoversIn, HeldIn}
+use Rattle.cube_starting.specs.declared.named.NamedBook.{NamedBook}
 use Rattle.cube_serving.proofs.Grouped.{after_is, each_by_itself, group_hides}
-use Rattle.cube_serving.proofs.Lists.{all_map, each_at, each_both, each_in, each_map, map_at, map_twice}
+use Rattle.cube_starting.proofs.Lists.{all_map, each_at, each_both, each_in, each_map, map_at, map_twice}
 use Rattle.cube_serving.proofs.GroupLogs.{behind, WereAsked, each_book, survived, held_meanwhile}
-use Rattle.cube_serving.proofs.Placed.{each_here}
+use Rattle.cube_starting.proofs.Placed.{each_here}
 
 -- ---- the runs of books
 

@@ -18,13 +18,14 @@ use Rattle.cube_opening.specs.Ruling.{HasGroups, MakeGroups, ruled_names}
 use Rattle.cube_opening.specs.declared.cube_files.RuledFiles.{RuledFiles}
 use Rattle.cube_opening.specs.declared.report.Report.{Report}
 use Rattle.cube_opening.specs.declared.ruling.RuledGroup.{RuledGroup}
+use Rattle.cube_opening.specs.Outside.{Outside}
 use Rattle.cube_script.specs.Playing.{Playing, IsPlaying, Overran, starting, has_torn}
 use Rattle.cube_script.specs.Scripts.{script_of}
 use Rattle.cube_script.specs.declared.script_wire.SendCapacity.{SendCapacity}
 use Rattle.cube_script.specs.declared.script_wire.TheConstants.{MAX_SENDS, MAX_SENT_BYTES}
 use Rattle.cube_server.specs.declared.serving.ServeFault.{ServeFault}
 use Rattle.cube_server.specs.declared.serving.ServeFault.TheVariants.{WireFailed}
-use Rattle.cube_serving.specs.Grouping.{EndsClosedGroups, HaveJournals}
+use Rattle.cube_starting.specs.Grouping.{EndsClosedGroups, HaveJournals}
 use Rattle.cube_serving.specs.Serving.{ServedUpTo, Unserved, served_status, served_text}
 
 -- ---- the script
@@ -91,14 +92,14 @@ pub record Replayed {F S O : Type 0} (cube : RuledFiles) (script_name : List ℕ
 
 -- a run of `replay` ends at the script, or before its groups are open, or for want of memory behind that; or it plays the script and
 -- writes the log
-abbrev pub ReplayEnds : {F S O : Type 0} → RuledFiles → List ℕ → ℕ → Seen FolderState F → Seen StoreState S → Seen SinkState O → Report → Type 0
-ReplayEnds cube script_name stated files store out r =
-    (Unscripted cube script_name files r × Unused store × Unused out)
-    ⊎ (EndsClosedGroups cube (script_name ∷ []) files store r × Unused out)
-    ⊎ (Unserved cube (script_name ∷ []) files store × IsReport 7 (codes "no memory\n") r × Unused out)
-    ⊎ Replayed cube script_name stated files store out r
+abbrev pub ReplayEnds : {F S I O W : Type 0} → RuledFiles → List ℕ → ℕ → Outside F S I O W → Report → Type 0
+ReplayEnds cube script_name stated x r =
+    (Unscripted cube script_name x.files r × Unused x.store × Unused x.out)
+    ⊎ (EndsClosedGroups cube (script_name ∷ []) x.files x.store r × Unused x.out)
+    ⊎ (Unserved cube (script_name ∷ []) x.files x.store × IsReport 7 (codes "no memory\n") r × Unused x.out)
+    ⊎ Replayed cube script_name stated x.files x.store x.out r
 
 -- where the files, the script and the journals are accepted, no count rose and less was taken than is taken at most, all is done
-abbrev pub ReplayCompletes : {F S O : Type 0} → RuledFiles → List ℕ → Seen FolderState F → Seen StoreState S → Seen SinkState O → Report → Type 0
-ReplayCompletes cube script_name files store out r = HasGroups cube files.before → HasFile script_said script_name files.before → HaveJournals cube files.before store.before → r.status ≢ 10
-    → ¬ Rose files.before.faults files.after.faults → (r.outcomes ≡ [] → ¬ Rose store.before.faults store.after.faults) → ¬ Rose out.before.faults out.after.faults → IsDone r
+abbrev pub ReplayCompletes : {F S I O W : Type 0} → RuledFiles → List ℕ → Outside F S I O W → Report → Type 0
+ReplayCompletes cube script_name x r = HasGroups cube x.files.before → HasFile script_said script_name x.files.before → HaveJournals cube x.files.before x.store.before → r.status ≢ 10
+    → ¬ Rose x.files.before.faults x.files.after.faults → (r.outcomes ≡ [] → ¬ Rose x.store.before.faults x.store.after.faults) → ¬ Rose x.out.before.faults x.out.after.faults → IsDone r

@@ -8,8 +8,7 @@ use Rattle.cube_model.specs.declared.outcome.Outcome.{Outcome}
 use Rattle.cube_model.specs.Cores.{Core}
 use Rattle.cube_model.specs.Cubes.{Each}
 use Rattle.cube_model.specs.Rooms.{Room, Call, IsByItself, with_world}
-use Rattle.cube_io.specs.Causes.{Rose, RoseBy}
-use Rattle.cube_io.specs.Desks.{faults_in}
+use Rattle.cube_io.specs.Causes.{Rose}
 use Rattle.cube_io.specs.Seen.{FolderState, StoreState, WireState, Seen, Unused, seen}
 use Rattle.cube_io.specs.Wires.{Arrival, LogEntry, events_in}
 use Rattle.cube_io.specs.Wires.Arrival.{End}
@@ -20,16 +19,16 @@ use Rattle.cube_opening.specs.Reports.{IsReport, IsDone}
 use Rattle.cube_opening.specs.Ruling.{HasGroups}
 use Rattle.cube_opening.specs.declared.cube_files.RuledFiles.{RuledFiles}
 use Rattle.cube_opening.specs.declared.report.Report.{Report}
+use Rattle.cube_opening.specs.Outside.{Outside}
 use Rattle.cube_server.specs.Crashes.{Called, IsInHand}
 use Rattle.cube_server.specs.Logs.{Luck, Call as Reached, calls_of, log_of}
 use Rattle.cube_server.specs.Seen.{DeskState}
 use Rattle.cube_server.specs.Steps.{Serves, IsCounted, has_end, sends_in, luck_of, stated_at}
 use Rattle.cube_server.specs.declared.serving.ServeFault.{ServeFault}
 use Rattle.cube_server.specs.declared.serving.ServeFault.TheVariants.{WireFailed, Spent}
-use Rattle.cube_serving.specs.Grouping.{GroupRun, AllOf, AllRecover, AreOpen, EndsClosedGroups, HaveJournals, ruled, first_room, first_rooms, last_rooms}
-use Rattle.cube_serving.specs.NamedBooks.{Groups}
-use Rattle.cube_serving.specs.Starting.{RecoversIn, SurvivedIn, HeldIn}
-use Rattle.cube_serving.specs.declared.named.NamedBook.{NamedBook}
+use Rattle.cube_starting.specs.Grouping.{GroupRun, AllOf, AreKept, AreRunsOf, AllRecover, AreOpen, EndsClosedGroups, HaveJournals, ruled, first_room, first_rooms, last_rooms}
+use Rattle.cube_starting.specs.NamedBooks.{Groups}
+use Rattle.cube_starting.specs.Starting.{RecoversIn, SurvivedIn, HeldIn}
 use Rattle.cube_talk.specs.Talk.{max_input}
 
 -- ---- what the log of the wire tells
@@ -113,13 +112,6 @@ HoldFrom {S} tells core gs calls old new = IsTrue (tells old).told → (opened :
 
 -- ---- books that serve
 
--- these are the books at the start of the run
-abbrev pub AreRunsOf : List NamedBook → List GroupRun → Type 0
-AreRunsOf [] [] = ⊤
-AreRunsOf [] (g ∷ gs) = ⊥
-AreRunsOf (b ∷ bs) [] = ⊥
-AreRunsOf (b ∷ bs) (g ∷ gs) = ((b.name ≡ g.name) × (b.book.policy ≡ g.policy) × (b.book.history ≡ g.first)) × AreRunsOf bs gs
-
 -- What asks over opened logs leave of them, seen from before the opening: where a log was exact behind that, it survived.
 abbrev pub SurviveFrom : {S : Type 0} → (S → StoreState) → Core → Asking → S → S → Type 0
 SurviveFrom {S} tells core a old new = IsTrue (tells old).told → (opened : S) → (tells opened).told ≡ (tells old).told
@@ -137,13 +129,6 @@ pub record ServeWire {S : Type 0} (tells : S → StoreState) (core : Core) (old 
   pub held : HoldFrom tells core asking.groups wired.asked.calls store store'
 
 -- ---- the whole
-
--- The journals of groups kept what was answered, each by itself: beyond that a crash leaves in a journal the request in hand, and no other.
--- For each ask in which a journal failed the store's count of faults rose.
-pub record AreKept {S : Type 0} (core : Core) (gs : List GroupRun) (os : List Outcome) (in_hand : ℕ → List Entry → Type 0) (store : Seen StoreState S) : Type 0 where
-  pub survived : IsTrue store.before.told → AllOf (λ k (g : GroupRun). SurvivedIn k core g.policy g.first g.last os store) 0 gs
-  pub held : IsTrue store.before.told → AllOf (λ k (g : GroupRun). HeldIn k core g.policy (in_hand k) store) 0 gs
-  pub failed : RoseBy (faults_in os) store.before.faults store.after.faults
 
 -- A wire was served by open groups, and their journals kept what was answered.
 pub record Served {F S : Type 0} (cube : RuledFiles) (more : List (List ℕ)) (files : Seen FolderState F) (store : Seen StoreState S) (a : Asking) (end : Result (Unit {0}) ServeFault) (told : Bool) (log : List LogEntry) : Type 0 where
@@ -183,13 +168,13 @@ abbrev pub Unheard : {W : Type 0} → Seen WireState W → Report → Type 0
 Unheard wire r = (IsReport 8 (codes "wire failed\n") r × Rose wire.before.faults wire.after.faults) ⊎ IsReport 7 (codes "no memory\n") r
 
 -- a run of `serve` ends before its groups are open, or where it is to listen; or it serves the connections of the wire
-abbrev pub ServeEnds : {F S W : Type 0} → RuledFiles → ℕ → Seen FolderState F → Seen StoreState S → Seen WireState W → Report → Type 0
-ServeEnds cube stated files store wire r =
-    (EndsClosedGroups cube [] files store r × Unused wire)
-    ⊎ (Unserved cube [] files store × Unheard wire r × (IsTrue wire.before.told → wire.after.log ≡ []))
-    ⊎ ServedConnections cube stated files store wire r
+abbrev pub ServeEnds : {F S I O W : Type 0} → RuledFiles → ℕ → Outside F S I O W → Report → Type 0
+ServeEnds cube stated x r =
+    (EndsClosedGroups cube [] x.files x.store r × Unused x.wire)
+    ⊎ (Unserved cube [] x.files x.store × Unheard x.wire r × (IsTrue x.wire.before.told → x.wire.after.log ≡ []))
+    ⊎ ServedConnections cube stated x.files x.store x.wire r
 
 -- where the files and the journals are accepted, no count rose and less was taken than is taken at most, all is done
-abbrev pub ServeCompletes : {F S W : Type 0} → RuledFiles → Seen FolderState F → Seen StoreState S → Seen WireState W → Report → Type 0
-ServeCompletes cube files store wire r = HasGroups cube files.before → HaveJournals cube files.before store.before → r.status ≢ 10
-    → ¬ Rose files.before.faults files.after.faults → (r.outcomes ≡ [] → ¬ Rose store.before.faults store.after.faults) → ¬ Rose wire.before.faults wire.after.faults → IsDone r
+abbrev pub ServeCompletes : {F S I O W : Type 0} → RuledFiles → Outside F S I O W → Report → Type 0
+ServeCompletes cube x r = HasGroups cube x.files.before → HaveJournals cube x.files.before x.store.before → r.status ≢ 10
+    → ¬ Rose x.files.before.faults x.files.after.faults → (r.outcomes ≡ [] → ¬ Rose x.store.before.faults x.store.after.faults) → ¬ Rose x.wire.before.faults x.wire.after.faults → IsDone r

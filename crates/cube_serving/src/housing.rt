@@ -1,5 +1,5 @@
 // Groups that serve a wire, each by itself.
-ghost use Rattle.std.specs.Prelude.{◌≡◌, ◌≢◌, ◌≤◌, ℕ, [], length, IsTrue, Err};
+ghost use Rattle.std.specs.Prelude.{◌≡◌, ◌≢◌, ◌≤◌, [], length, IsTrue, Err};
 ghost use Rattle.cube_io.specs.Causes.{Rose, RoseBy};
 ghost use Rattle.cube_io.specs.Desks.{faults_in};
 ghost use Rattle.cube_io.specs.Told.{PlaysOn};
@@ -8,14 +8,14 @@ ghost use Rattle.cube_model.specs.Cores.{Core};
 ghost use Rattle.cube_model.specs.Cubes.{Each};
 ghost use Rattle.cube_server.specs.Pools.{IsFree};
 ghost use Rattle.cube_server.specs.declared.serving.ServeFault.TheVariants as fault;
-ghost use Rattle.cube_serving.specs.Grouping.{OnlyFrom};
-ghost use Rattle.cube_serving.specs.NamedBooks.{IsKeptIn};
+ghost use Rattle.cube_starting.specs.Grouping.{OnlyFrom};
+ghost use Rattle.cube_starting.specs.NamedBooks.{IsKeptIn};
 ghost use Rattle.cube_serving.specs.Serving.{ServeWire};
 
-use crate::Groups;
 use crate::serving::MAX_EVENTS;
 use cube_io::{Store, Wire};
 use cube_server::{Pool, ServeFault, serve};
+use cube_starting::Groups;
 use std::alloc::Global;
 
 /// Serves a wire by groups over one core that were asked nothing before. The replies to what reaches a group are those of its

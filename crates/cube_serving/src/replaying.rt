@@ -4,25 +4,26 @@ ghost use Rattle.std.specs.List.{list_any};
 ghost use Rattle.cube_io.specs.Files.{max_file};
 ghost use Rattle.cube_io.specs.Seen.{seen};
 ghost use Rattle.cube_io.specs.Wires.{Arrival};
-ghost use Rattle.cube_opening.specs.Causes.{HasCauses, of_command};
+ghost use Rattle.cube_opening.specs.Causes.{HasCauses};
+ghost use Rattle.cube_opening.specs.Outside.{counted, outside, UsesJournal};
 ghost use Rattle.cube_opening.specs.Opening.{FileSays, AskedFor, EndsAt, Reads};
 ghost use Rattle.cube_opening.specs.Reports.{IsReport};
 ghost use Rattle.cube_opening.specs.Ruling.{most_groups};
 ghost use Rattle.cube_script.specs.Playing.{has_torn};
 ghost use Rattle.cube_server.specs.Steps.{is_end};
 ghost use Rattle.cube_server.specs.declared.serving.ServeFault.TheVariants as fault;
-ghost use Rattle.cube_serving.specs.Grouping.{OnlyFirst};
+ghost use Rattle.cube_starting.specs.Grouping.{OnlyFirst};
+ghost use Rattle.cube_starting.specs.Starting.{AsksStore};
 ghost use Rattle.cube_serving.specs.Replaying.{script_said, wire_of, ReplayEnds, ReplayCompletes, played_status, played_text};
-ghost use Rattle.cube_serving.specs.Starting.{AsksStore};
 
-use crate::gathering::open_groups;
 use crate::housing::serve_groups;
 use crate::serving::report_serving;
-use cube_io::{Failed, Folder, Sink, Store};
+use cube_io::{Failed, Folder, Sink, Source, Store, Wire};
 use cube_model::{Outcomes, Text};
-use cube_opening::{Message, Opened, Report, RuledFiles, open_ruled, read_bytes, statuses};
+use cube_opening::{Message, Opened, Report, RuledFiles, World, open_ruled, read_bytes, statuses};
 use cube_script::{ScriptFault, ScriptWire};
 use cube_server::{Pool, ServeFault};
+use cube_starting::open_groups;
 use std::alloc::Global;
 
 // The wire that plays the script of these bytes.
@@ -108,37 +109,43 @@ fn report_play(
 
 /// Plays a script to the groups over the cube of the files, each from the history on that its journal holds, and writes the log of what
 /// was sent.
-pub fn replay_cube<F: Folder, S: Store, O: Sink>(
+pub fn replay_cube<F: Folder, S: Store, I: Source, O: Sink, W: Wire>(
     alloc: Global,
     message: Message,
     cube: &RuledFiles,
     journal: &Text,
     script_name: &Text,
     stated: u64,
-    files: &mut F,
-    store: &mut S,
-    out: &mut O,
+    world: &mut World<F, S, I, O, W>,
 ) -> Report
     requires message { message ≡ [] }
     requires stated { 1 ≤ stated }
-    ensures answers { ReplayEnds cube.now script_name.now stated (seen F.state files.old files.new) (seen S.state store.old store.new) (seen O.state out.old out.new) result }
-    ensures names { (store.new ≡ store.old) ⊎ AsksStore journal.now (seen S.state store.old store.new) result }
-    ensures others { OnlyFirst (most_groups cube.now.rules) (S.state store.old) (S.state store.new) }
-    ensures causes { HasCauses (of_command (seen F.state files.old files.new) (seen S.state store.old store.new) (seen O.state out.old out.new)) result }
-    ensures calls { result.status ≡ 9 → IsTrue (S.state store.old).told → (S.state store.new).calls ≤ (S.state store.old).calls + (1 + 11 * most_groups cube.now.rules) }
-    ensures memory { result.status ≡ 7 → (result.outcomes ≡ []) × (out.new ≡ out.old) }
-    ensures complete { ReplayCompletes cube.now script_name.now (seen F.state files.old files.new) (seen S.state store.old store.new) (seen O.state out.old out.new) result }
+    ensures answers { ReplayEnds cube.now script_name.now stated (outside F.state S.state I.state O.state W.state world.old world.new) result }
+    ensures names { (world.new.store ≡ world.old.store) ⊎ AsksStore journal.now (seen S.state world.old.store world.new.store) result }
+    ensures others { OnlyFirst (most_groups cube.now.rules) (S.state world.old.store) (S.state world.new.store) }
+    ensures causes { HasCauses (counted (outside F.state S.state I.state O.state W.state world.old world.new)) result }
+    ensures calls { result.status ≡ 9 → IsTrue (S.state world.old.store).told → (S.state world.new.store).calls ≤ (S.state world.old.store).calls + (1 + 11 * most_groups cube.now.rules) }
+    ensures memory { result.status ≡ 7 → (result.outcomes ≡ []) × (world.new.out ≡ world.old.out) }
+    ensures complete { ReplayCompletes cube.now script_name.now (outside F.state S.state I.state O.state W.state world.old world.new) result }
+    ensures leaves { UsesJournal (outside F.state S.state I.state O.state W.state world.old world.new) }
 {
-    let opened = match open_ruled(alloc, message, cube, files) {
+    let opened = match open_ruled(alloc, message, cube, &mut world.files) {
         Ok(opened) => opened,
         Err(report) => return report,
     };
     let ruled = opened.value;
-    let played = match open_script(alloc, opened.message, script_name, files) {
+    let played = match open_script(alloc, opened.message, script_name, &mut world.files) {
         Ok(played) => played,
         Err(report) => return report,
     };
-    let started = match open_groups(alloc, played.message, ruled, journal, stated, store) {
+    let started = match open_groups(
+        alloc,
+        played.message,
+        ruled,
+        journal,
+        stated,
+        &mut world.store,
+    ) {
         Ok(started) => started,
         Err(report) => return report,
     };
@@ -150,8 +157,8 @@ pub fn replay_cube<F: Folder, S: Store, O: Sink>(
     };
     let mut wire = played.value;
     let mut groups = started.value;
-    let end = serve_groups(alloc, &mut groups, store, &mut wire, &mut pool);
+    let end = serve_groups(alloc, &mut groups, &mut world.store, &mut wire, &mut pool);
     let _taken = wire.taken();
-    let written = wire.write_log(out);
+    let written = wire.write_log(&mut world.out);
     report_play(started.message, end, written, &wire, groups.finish())
 }

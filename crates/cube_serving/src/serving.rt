@@ -1,20 +1,30 @@
 // `serve`: the groups of the files are asked by the connections of a wire.
 ghost use Rattle.std.specs.Prelude.{◌≡◌, ◌≢◌, ◌⊎◌, ◌≤◌, ◌+◌, ◌*◌, [], IsTrue};
 ghost use Rattle.cube_io.specs.Seen.{seen};
-ghost use Rattle.cube_opening.specs.Causes.{HasCauses, of_server};
+ghost use Rattle.cube_opening.specs.Causes.{HasCauses};
+ghost use Rattle.cube_opening.specs.Outside.{counted, outside, UsesWire};
 ghost use Rattle.cube_opening.specs.Ruling.{most_groups};
 ghost use Rattle.cube_server.specs.declared.serving.ServeFault.TheVariants as fault;
-ghost use Rattle.cube_serving.specs.Grouping.{OnlyFirst};
+ghost use Rattle.cube_starting.specs.Grouping.{OnlyFirst};
+ghost use Rattle.cube_starting.specs.Starting.{AsksStore};
 ghost use Rattle.cube_serving.specs.Serving.{ServeEnds, ServeCompletes, Hears, served_status, served_text};
-ghost use Rattle.cube_serving.specs.Starting.{AsksStore};
 
-use crate::gathering::open_groups;
 use crate::housing::serve_groups;
-use cube_io::{Folder, Store, Wire};
+use cube_io::{Folder, Sink, Source, Store, Wire};
 use cube_model::{Outcomes, Text};
-use cube_opening::{Message, Report, RuledFiles, open_ruled, spent_message, statuses};
+use cube_opening::{Message, Report, RuledFiles, World, open_ruled, spent_message, statuses};
 use cube_server::{Pool, ServeFault};
+use cube_starting::open_groups;
 use std::alloc::Global;
+
+/// Where connections are listened for, and after how many seconds without a word one is closed.
+#[derive(Clone, Copy)]
+pub struct Endpoint<'a> {
+    /// The address.
+    pub address: &'a Text,
+    /// The seconds.
+    pub idle: u32,
+}
 
 /// The most events that are taken of a wire.
 pub(crate) const MAX_EVENTS: u64 = 1 << 40;
@@ -43,35 +53,40 @@ pub(crate) fn report_serving(
 
 /// Answers the asks of the connections of a wire by the groups over the cube of the files, each from the history on that its journal
 /// holds.
-pub fn serve_cube<F: Folder, S: Store, W: Wire>(
+pub fn serve_cube<F: Folder, S: Store, I: Source, O: Sink, W: Wire>(
     alloc: Global,
     message: Message,
     cube: &RuledFiles,
     journal: &Text,
-    address: &Text,
     stated: u64,
-    idle: u32,
-    files: &mut F,
-    store: &mut S,
-    wire: &mut W,
+    endpoint: &Endpoint,
+    world: &mut World<F, S, I, O, W>,
 ) -> Report
     requires message { message ≡ [] }
     requires stated { 1 ≤ stated }
-    requires quiet { IsTrue (W.state wire.old).told → (W.state wire.old).log ≡ [] }
-    ensures answers { ServeEnds cube.now stated (seen F.state files.old files.new) (seen S.state store.old store.new) (seen W.state wire.old wire.new) result }
-    ensures names { (store.new ≡ store.old) ⊎ AsksStore journal.now (seen S.state store.old store.new) result }
-    ensures heard { (wire.new ≡ wire.old) ⊎ Hears address.now (seen W.state wire.old wire.new) result }
-    ensures others { OnlyFirst (most_groups cube.now.rules) (S.state store.old) (S.state store.new) }
-    ensures causes { HasCauses (of_server (seen F.state files.old files.new) (seen S.state store.old store.new) (seen W.state wire.old wire.new)) result }
-    ensures calls { result.status ≡ 9 → IsTrue (S.state store.old).told → (S.state store.new).calls ≤ (S.state store.old).calls + (1 + 11 * most_groups cube.now.rules) }
-    ensures memory { result.status ≡ 7 → (result.outcomes ≡ []) × (IsTrue (W.state wire.old).told → (W.state wire.new).log ≡ []) }
-    ensures complete { ServeCompletes cube.now (seen F.state files.old files.new) (seen S.state store.old store.new) (seen W.state wire.old wire.new) result }
+    requires quiet { IsTrue (W.state world.old.wire).told → (W.state world.old.wire).log ≡ [] }
+    ensures answers { ServeEnds cube.now stated (outside F.state S.state I.state O.state W.state world.old world.new) result }
+    ensures names { (world.new.store ≡ world.old.store) ⊎ AsksStore journal.now (seen S.state world.old.store world.new.store) result }
+    ensures heard { (world.new.wire ≡ world.old.wire) ⊎ Hears endpoint.now.address.now (seen W.state world.old.wire world.new.wire) result }
+    ensures others { OnlyFirst (most_groups cube.now.rules) (S.state world.old.store) (S.state world.new.store) }
+    ensures causes { HasCauses (counted (outside F.state S.state I.state O.state W.state world.old world.new)) result }
+    ensures calls { result.status ≡ 9 → IsTrue (S.state world.old.store).told → (S.state world.new.store).calls ≤ (S.state world.old.store).calls + (1 + 11 * most_groups cube.now.rules) }
+    ensures memory { result.status ≡ 7 → (result.outcomes ≡ []) × (IsTrue (W.state world.old.wire).told → (W.state world.new.wire).log ≡ []) }
+    ensures complete { ServeCompletes cube.now (outside F.state S.state I.state O.state W.state world.old world.new) result }
+    ensures leaves { UsesWire (outside F.state S.state I.state O.state W.state world.old world.new) }
 {
-    let opened = match open_ruled(alloc, message, cube, files) {
+    let opened = match open_ruled(alloc, message, cube, &mut world.files) {
         Ok(opened) => opened,
         Err(report) => return report,
     };
-    let started = match open_groups(alloc, opened.message, opened.value, journal, stated, store) {
+    let started = match open_groups(
+        alloc,
+        opened.message,
+        opened.value,
+        journal,
+        stated,
+        &mut world.store,
+    ) {
         Ok(started) => started,
         Err(report) => return report,
     };
@@ -81,7 +96,7 @@ pub fn serve_cube<F: Folder, S: Store, W: Wire>(
             .with(b"no memory\n")
             .close(alloc, statuses::NO_MEMORY);
     };
-    match wire.listen(address, idle) {
+    match world.wire.listen(endpoint.address, endpoint.idle) {
         Ok(()) => {}
         Err(_) => return started
             .message
@@ -89,6 +104,12 @@ pub fn serve_cube<F: Folder, S: Store, W: Wire>(
             .close(alloc, statuses::WIRE_FAILED),
     }
     let mut groups = started.value;
-    let end = serve_groups(alloc, &mut groups, store, wire, &mut pool);
+    let end = serve_groups(
+        alloc,
+        &mut groups,
+        &mut world.store,
+        &mut world.wire,
+        &mut pool,
+    );
     report_serving(started.message, end, groups.finish())
 }

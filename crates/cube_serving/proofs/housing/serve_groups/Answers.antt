@@ -1,6 +1,6 @@
 use Rattle.std.proofs.Common.{refl}
 use Rattle.cube_engine.specs.Kept.{IsWithin}
-use Rattle.cube_serving.specs.NamedBooks.{dims_of}
+use Rattle.cube_starting.specs.NamedBooks.{dims_of}
 use Rattle.cube_serving.proofs.Shared.{desk_at, foreign, hold, serves, survive, wired, wired_calls}
 use Rattle.cube_serving.proofs.Phrases.{phrased}
 use Rattle.cube_serving.proofs.Listening.{ends, rose_for}

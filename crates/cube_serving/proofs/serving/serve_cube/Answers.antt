@@ -4,11 +4,13 @@ use Rattle.cube_io.specs.Seen.{seen}
 use Rattle.cube_opening.specs.Opening.{GotBehind}
 use Rattle.cube_opening.specs.Ruling.{ruled_names}
 use Rattle.cube_opening.proofs.Causes.{same, alone, later, never, wider, no_memory, at_file, at_ruled, at_wire}
-use Rattle.cube_serving.proofs.Causes.{at_journals, at_serving}
+use Rattle.cube_starting.proofs.Causes.{at_journals}
+use Rattle.cube_serving.proofs.Causes.{at_serving}
 use Rattle.cube_serving.proofs.Listening.{heard_or_failed, not_seven, not_nine, all_served}
-use Rattle.cube_serving.proofs.OpenGroups.{seals_alone, served, unserved, only_most}
+use Rattle.cube_starting.proofs.OpenGroups.{only_most, seals_alone}
+use Rattle.cube_serving.proofs.Opened.{served, unserved}
 use Rattle.cube_serving.proofs.Unruled as unruled
-use Rattle.cube_serving.proofs.Unstarted as unstarted
+use Rattle.cube_starting.proofs.Unstarted as unstarted
 use Rattle.cube_serving.proofs.serving.serve_cube.Goals as goal
 
 pub returns-clause-answers : goal.returns-clause-answers
@@ -20,13 +22,13 @@ returns-clause-answers g c =
     let e = c.in-Ok-open_groups.started.value in
     let last = c.serve_groups-end.new.groups in
     let tells = g.S.Store.state in
-    let old = c.args.store.now in
+    let old = c.args.world.now.store in
     let mid = c.open_groups.new.store in
     let new = c.serve_groups-end.new.store in
     let end = c.serve_groups-end.result in
     let z = c.serve_groups-end.ensures in
     let w = z.served ruled.core y.over in
-    let files = seen g.F.Folder.state c.args.files.now c.open_ruled.new.files in
+    let files = seen g.F.Folder.state c.args.world.now.files c.open_ruled.new.files in
     let behind = subst (λ (ns : List (List ℕ)). GotBehind ns files) (sym (append-nil (ruled_names cube x.ok.0))) x.ok.2 in
     inr (inr (record {
       upto = record {
@@ -35,7 +37,7 @@ returns-clause-answers g c =
         outcomes_are = c.report_serving.ensures.outcomes ∙ c.finish.ensures ∙ sym w.outcomes;
         end = end;
         served = served cube [] files x.ok.0 ruled.core ruled.groups tells old mid e.books x.ok.1 behind y.ok y.over y.rules x.rules.few y.held new e last end
-            (g.W.Wire.state c.args.wire.now).told (g.W.Wire.state c.listen.new.self).told (g.W.Wire.state c.serve_groups-end.new.wire).log refl c.in-Ok-listen.ensures.told
+            (g.W.Wire.state c.args.world.now.wire).told (g.W.Wire.state c.listen.new.self).told (g.W.Wire.state c.serve_groups-end.new.wire).log refl c.in-Ok-listen.ensures.told
             (seals_alone ruled.core tells old mid new ruled.groups e.books x.rules.few y.ok y.opens.told z.others) y.opens.told y.steady y.passed w z.asks;
       };
       status = c.report_serving.ensures.status;
@@ -49,10 +51,10 @@ returns-in-Err-listen-clause-answers g c =
     let x = c.in-Ok.ensures in
     let y = c.in-Ok-open_groups.ensures in
     let e = c.close-in-Err-listen.ensures in
-    let files = seen g.F.Folder.state c.args.files.now c.open_ruled.new.files in
+    let files = seen g.F.Folder.state c.args.world.now.files c.open_ruled.new.files in
     let behind = subst (λ (ns : List (List ℕ)). GotBehind ns files) (sym (append-nil (ruled_names cube x.ok.0))) x.ok.2 in
     inr (inl (
-      unserved cube [] files x.ok.0 ruled.core ruled.groups g.S.Store.state c.args.store.now c.open_groups.new.store c.in-Ok-open_groups.started.value.books x.ok.1 behind y.ok y.over y.rules x.rules.few y.held y.passed,
+      unserved cube [] files x.ok.0 ruled.core ruled.groups g.S.Store.state c.args.world.now.store c.open_groups.new.store c.in-Ok-open_groups.started.value.books x.ok.1 behind y.ok y.over y.rules x.rules.few y.held y.passed,
       inl ((e.0, e.1, e.2 ∙ c.with-in-Err-listen.ensures ∙ ap (λ (t : List ℕ). t ++ codes "wire failed\n") y.message), c.in-Err-listen.ensures.cause.failed),
       λ told. c.in-Err-listen.ensures.log told ∙ c.requires.quiet told,
     ))
@@ -64,10 +66,10 @@ returns-in_default-clause-answers g c =
     let x = c.in-Ok.ensures in
     let y = c.in-Ok-open_groups.ensures in
     let e = c.close.ensures in
-    let files = seen g.F.Folder.state c.args.files.now c.open_ruled.new.files in
+    let files = seen g.F.Folder.state c.args.world.now.files c.open_ruled.new.files in
     let behind = subst (λ (ns : List (List ℕ)). GotBehind ns files) (sym (append-nil (ruled_names cube x.ok.0))) x.ok.2 in
     inr (inl (
-      unserved cube [] files x.ok.0 ruled.core ruled.groups g.S.Store.state c.args.store.now c.open_groups.new.store c.in-Ok-open_groups.started.value.books x.ok.1 behind y.ok y.over y.rules x.rules.few y.held y.passed,
+      unserved cube [] files x.ok.0 ruled.core ruled.groups g.S.Store.state c.args.world.now.store c.open_groups.new.store c.in-Ok-open_groups.started.value.books x.ok.1 behind y.ok y.over y.rules x.rules.few y.held y.passed,
       inr (e.0, e.1, e.2 ∙ c.with.ensures ∙ ap (λ (t : List ℕ). t ++ codes "no memory\n") y.message),
       c.requires.quiet,
     ))
@@ -80,7 +82,7 @@ returns-in-Err-open_groups-clause-answers g c =
     let cube = c.args.cube.now in
     let ruled = c.in-Ok.opened.value in
     let x = c.in-Ok.ensures in
-    let files = seen g.F.Folder.state c.args.files.now c.open_ruled.new.files in
+    let files = seen g.F.Folder.state c.args.world.now.files c.open_ruled.new.files in
     inl (
       inr (record {
         core = ruled.core;
@@ -96,14 +98,14 @@ returns-in-Err-open_groups-clause-answers g c =
 pub returns-clause-others : goal.returns-clause-others
 returns-clause-others g c =
     let y = c.in-Ok-open_groups.ensures in
-    only_most c.in-Ok.opened.value.core g.S.Store.state c.args.store.now c.open_groups.new.store c.serve_groups-end.new.store c.in-Ok.opened.value.groups c.in-Ok-open_groups.started.value.books c.in-Ok.ensures.rules.few y.ok y.opens.told _ c.in-Ok.ensures.few y.opens.others c.serve_groups-end.ensures.others
+    only_most c.in-Ok.opened.value.core g.S.Store.state c.args.world.now.store c.open_groups.new.store c.serve_groups-end.new.store c.in-Ok.opened.value.groups c.in-Ok-open_groups.started.value.books c.in-Ok.ensures.rules.few y.ok y.opens.told _ c.in-Ok.ensures.few y.opens.others c.serve_groups-end.ensures.others
 
 pub returns-in-Err-clause-complete : goal.returns-in-Err-clause-complete
-returns-in-Err-clause-complete g c = λ all kept some files store wire. inr (unruled.all_accepted c.args.cube.now (seen g.F.Folder.state c.args.files.now c.open_ruled.new.files) c.in-Err.report c.in-Err.ensures.err all files)
+returns-in-Err-clause-complete g c = λ all kept some files store wire. inr (unruled.all_accepted c.args.cube.now (seen g.F.Folder.state c.args.world.now.files c.open_ruled.new.files) c.in-Err.report c.in-Err.ensures.err all files)
 
 pub returns-in-Err-listen-clause-heard : goal.returns-in-Err-listen-clause-heard
 returns-in-Err-listen-clause-heard g c =
-    inr (λ told. heard_or_failed c.args.address.now (g.W.Wire.state c.args.wire.now).heard (g.W.Wire.state c.listen.new.self).heard c.close-in-Err-listen.result (c.in-Err-listen.ensures.heard told) c.close-in-Err-listen.ensures.0)
+    inr (λ told. heard_or_failed c.args.endpoint.now.address.now (g.W.Wire.state c.args.world.now.wire).heard (g.W.Wire.state c.listen.new.self).heard c.close-in-Err-listen.result (c.in-Err-listen.ensures.heard told) c.close-in-Err-listen.ensures.0)
 
 pub returns-clause-calls : goal.returns-clause-calls
 returns-clause-calls g c = λ nine. absurd (not_nine c.serve_groups-end.result (sym c.report_serving.ensures.status ∙ nine))
@@ -130,7 +132,7 @@ pub returns-in-Err-clause-others : goal.returns-in-Err-clause-others
 returns-in-Err-clause-others g c = λ told k far seal. refl
 
 pub returns-in-Err-clause-calls : goal.returns-in-Err-clause-calls
-returns-in-Err-clause-calls g c = λ nine. absurd (unruled.not_nine c.args.cube.now (seen g.F.Folder.state c.args.files.now c.open_ruled.new.files) c.in-Err.report c.in-Err.ensures.err nine)
+returns-in-Err-clause-calls g c = λ nine. absurd (unruled.not_nine c.args.cube.now (seen g.F.Folder.state c.args.world.now.files c.open_ruled.new.files) c.in-Err.report c.in-Err.ensures.err nine)
 
 pub returns-in-Err-open_groups-clause-names : goal.returns-in-Err-open_groups-clause-names
 returns-in-Err-open_groups-clause-names g c = inr c.in-Err-open_groups.ensures.names_err
@@ -154,18 +156,18 @@ pub returns-in-Err-clause-heard : goal.returns-in-Err-clause-heard
 returns-in-Err-clause-heard g c = inl refl
 
 pub returns-in-Err-clause-memory : goal.returns-in-Err-clause-memory
-returns-in-Err-clause-memory g c = λ seven. (unruled.unasked c.args.cube.now (seen g.F.Folder.state c.args.files.now c.open_ruled.new.files) c.in-Err.report c.in-Err.ensures.err, c.requires.quiet)
+returns-in-Err-clause-memory g c = λ seven. (unruled.unasked c.args.cube.now (seen g.F.Folder.state c.args.world.now.files c.open_ruled.new.files) c.in-Err.report c.in-Err.ensures.err, c.requires.quiet)
 
 pub returns-in-Err-open_groups-clause-heard : goal.returns-in-Err-open_groups-clause-heard
 returns-in-Err-open_groups-clause-heard g c = inl refl
 
 pub returns-in-Err-open_groups-clause-memory : goal.returns-in-Err-open_groups-clause-memory
-returns-in-Err-open_groups-clause-memory g c = λ seven. (unstarted.unasked c.in-Ok.opened.value.core c.in-Ok.opened.value.groups (seen g.S.Store.state c.args.store.now c.open_groups.new.store) c.in-Err-open_groups.report c.in-Err-open_groups.ensures.err.unstarted, c.requires.quiet)
+returns-in-Err-open_groups-clause-memory g c = λ seven. (unstarted.unasked c.in-Ok.opened.value.core c.in-Ok.opened.value.groups (seen g.S.Store.state c.args.world.now.store c.open_groups.new.store) c.in-Err-open_groups.report c.in-Err-open_groups.ensures.err.unstarted, c.requires.quiet)
 
 pub returns-in-Err-open_groups-clause-complete : goal.returns-in-Err-open_groups-clause-complete
 returns-in-Err-open_groups-clause-complete g c = λ all kept some files store wire.
     let x = c.in-Ok.ensures in
-    inr (unstarted.accepted c.in-Ok.opened.value.core c.in-Ok.opened.value.groups (seen g.S.Store.state c.args.store.now c.open_groups.new.store) c.in-Err-open_groups.report kept.told (kept.accepted c.in-Ok.opened.value.core x.ok.0 c.in-Ok.opened.value.groups x.ok.1) (store (unstarted.unasked c.in-Ok.opened.value.core c.in-Ok.opened.value.groups (seen g.S.Store.state c.args.store.now c.open_groups.new.store) c.in-Err-open_groups.report c.in-Err-open_groups.ensures.err.unstarted)) c.in-Err-open_groups.ensures.err.unstarted)
+    inr (unstarted.accepted c.in-Ok.opened.value.core c.in-Ok.opened.value.groups (seen g.S.Store.state c.args.world.now.store c.open_groups.new.store) c.in-Err-open_groups.report kept.told (kept.accepted c.in-Ok.opened.value.core x.ok.0 c.in-Ok.opened.value.groups x.ok.1) (store (unstarted.unasked c.in-Ok.opened.value.core c.in-Ok.opened.value.groups (seen g.S.Store.state c.args.world.now.store c.open_groups.new.store) c.in-Err-open_groups.report c.in-Err-open_groups.ensures.err.unstarted)) c.in-Err-open_groups.ensures.err.unstarted)
 
 pub returns-in_default-clause-heard : goal.returns-in_default-clause-heard
 returns-in_default-clause-heard g c = inl refl
@@ -192,12 +194,12 @@ pub returns-in-Err-listen-clause-complete : goal.returns-in-Err-listen-clause-co
 returns-in-Err-listen-clause-complete g c = λ all kept some files store wire. absurd (wire c.in-Err-listen.ensures.cause.failed)
 
 pub returns-in-Err-clause-causes : goal.returns-in-Err-clause-causes
-returns-in-Err-clause-causes g c = let x = c.in-Err.ensures in wider same (never _) same same (alone refl) (at_file (at_ruled c.args.cube.now (seen g.F.Folder.state c.args.files.now c.open_ruled.new.files) c.in-Err.report x.err) x.reads.steady_err)
+returns-in-Err-clause-causes g c = let x = c.in-Err.ensures in wider same (never _) (alone refl) (alone refl) (alone refl) (at_file (at_ruled c.args.cube.now (seen g.F.Folder.state c.args.world.now.files c.open_ruled.new.files) c.in-Err.report x.err) x.reads.steady_err)
 
 pub returns-in-Err-open_groups-clause-causes : goal.returns-in-Err-open_groups-clause-causes
 returns-in-Err-open_groups-clause-causes g c =
     let ruled = c.in-Ok.opened.value in
-    wider (alone c.in-Ok.ensures.reads.steady) (λ e. e) same same (alone refl) (at_journals ruled.core ruled.groups (seen g.S.Store.state c.args.store.now c.open_groups.new.store) c.in-Err-open_groups.report c.in-Err-open_groups.ensures.err.unstarted)
+    wider (alone c.in-Ok.ensures.reads.steady) (λ e. e) (alone refl) (alone refl) (alone refl) (at_journals ruled.core ruled.groups (seen g.S.Store.state c.args.world.now.store c.open_groups.new.store) c.in-Err-open_groups.report c.in-Err-open_groups.ensures.err.unstarted)
 
 pub returns-in_default-clause-causes : goal.returns-in_default-clause-causes
 returns-in_default-clause-causes g c = no_memory c.close.ensures.0 (record { files = c.in-Ok.ensures.reads.steady; input = refl; out = refl; wire = refl })
@@ -208,5 +210,5 @@ returns-in-Err-listen-clause-causes g c = at_wire c.close-in-Err-listen.ensures.
 pub returns-clause-causes : goal.returns-clause-causes
 returns-clause-causes g c =
     let z = c.serve_groups-end.ensures in
-    wider (alone c.in-Ok.ensures.reads.steady) (never _) same same (later c.in-Ok-listen.ensures.cause.steady refl)
+    wider (alone c.in-Ok.ensures.reads.steady) (never _) (alone refl) (alone refl) (later c.in-Ok-listen.ensures.cause.steady refl)
     (at_serving (seen g.W.Wire.state c.listen.new.self c.serve_groups-end.new.wire) _ c.serve_groups-end.result c.report_serving.ensures.status z.failed z.steady)

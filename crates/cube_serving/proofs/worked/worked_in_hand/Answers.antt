@@ -5,7 +5,7 @@ use Rattle.cube_model.specs.declared.ask.Ask.{Ask}
 use Rattle.cube_model.specs.declared.ask.Question.TheVariants.{Query}
 use Rattle.cube_model.specs.declared.entry.Entry.{Entry}
 use Rattle.cube_model.specs.declared.entry.Entry.TheVariants.{Asked}
-use Rattle.cube_model.specs.declared.outcome.Outcome.TheVariants.{Given}
+use Rattle.cube_model.specs.declared.outcome.Outcome.TheVariants.{Given, NoMemory}
 use Rattle.cube_model.specs.declared.request.Request.{Request}
 use Rattle.cube_model.specs.Cubes.{up, key_at}
 use Rattle.cube_model.specs.Protection.{protected, cutting_pairs}
@@ -42,15 +42,19 @@ stays : (manner pay_dims).next after_months by_area Given ≡ after_months
 unfolding digits up key_at protected cutting_pairs is_bare is_picked queries is_begun syntax_at query_of request_of resolved grain source verdict is_valid
 stays = refl
 
+spares : (manner pay_dims).next (pay_rooms []) by_month NoMemory ≡ pay_rooms []
+unfolding digits up key_at protected cutting_pairs is_bare is_picked queries is_begun syntax_at query_of request_of resolved grain source verdict is_valid
+spares = refl
+
 behind_months : (here : List Room) → IsInHand (manner pay_dims) after_months (record { ask = by_area; outcome = Given } ∷ []) here → here ≡ after_months
 behind_months here (inl e) = e
-behind_months here (inr (inl e)) = e ∙ stays
+behind_months here (inr (inl e)) = e.1 ∙ stays
 behind_months here (inr (inr e)) = e ∙ stays
 
 -- in hand are the rooms at first, and those behind pay by month
 in_hand : (here : List Room) → IsInHand (manner pay_dims) (pay_rooms []) two_calls here → (here ≡ pay_rooms []) ⊎ (here ≡ after_months)
 in_hand here (inl e) = inl e
-in_hand here (inr (inl e)) = inr (e ∙ enters)
+in_hand here (inr (inl e)) = inr (e.1 ∙ enters)
 in_hand here (inr (inr i)) = inr (behind_months here (subst (λ (rooms : List Room). IsInHand (manner pay_dims) rooms (record { ask = by_area; outcome = Given } ∷ []) here) enters i))
 
 -- so each history in hand is one of two
@@ -61,7 +65,7 @@ pub returns-clause-begins : goal.returns-clause-begins
 returns-clause-begins c = (pay_rooms [], inl refl, refl)
 
 pub returns-clause-months : goal.returns-clause-months
-returns-clause-months c = (after_months, inr (inl (sym enters)), refl)
+returns-clause-months c = (after_months, inr (inl ((λ e. cc), sym enters)), refl)
 
 pub returns-clause-alone : goal.returns-clause-alone
 returns-clause-alone c = λ x. ⊎_elim (λ (e : Asked areas ∷ [] ≡ []). absurd (cc)) (λ (e : Asked areas ∷ [] ≡ Asked months ∷ []). other e) (one_of_two (Asked areas ∷ []) x)
@@ -74,3 +78,15 @@ returns-clause-alone c = λ x. ⊎_elim (λ (e : Asked areas ∷ [] ≡ []). abs
 
 pub returns-clause-behind : goal.returns-clause-behind
 returns-clause-behind c = λ x. ⊎_elim (λ (e : Asked months ∷ Asked areas ∷ [] ≡ []). absurd (cc)) (λ (e : Asked months ∷ Asked areas ∷ [] ≡ Asked months ∷ []). absurd (cc)) (one_of_two (Asked months ∷ Asked areas ∷ []) x)
+
+-- where there was no memory for the ask, nothing of it is in hand
+pub returns-clause-spared : goal.returns-clause-spared
+returns-clause-spared c = λ x. absurd (first_is (subst (λ (rooms : List Room). RoomHas 0 rooms (Asked months ∷ [])) (in_hand_spared x.0 x.1) x.2))
+  where
+    in_hand_spared : (here : List Room) → IsInHand (manner pay_dims) (pay_rooms []) (record { ask = by_month; outcome = NoMemory } ∷ []) here → here ≡ pay_rooms []
+    in_hand_spared here (inl e) = e
+    in_hand_spared here (inr (inl e)) = absurd (e.0 refl)
+    in_hand_spared here (inr (inr e)) = e ∙ spares
+
+    first_is : Asked months ∷ [] ≡ [] → ⊥
+    first_is e = cc

@@ -1,0 +1,11 @@
+pub mod Worlds
+mod Advised
+mod Compacts
+pub mod Handed
+mod Handing
+pub mod Lives
+pub mod Said
+mod Unread
+mod Causes
+mod Behind
+mod Whether

@@ -1,0 +1,12 @@
+pub mod Advising
+pub mod Auditing
+pub mod Carrying
+pub mod Cells
+pub mod Drafting
+pub mod Ends
+pub mod Making
+pub mod Saying
+pub mod Summary
+pub mod Talks
+pub mod Reasons
+pub mod Endings

@@ -1,5 +1,0 @@
-use Rattle.std.proofs.Common.{length}
-use Rattle.cube_serving.proofs.gathering.+add_rest.Given as goal
-
-abbrev pub decreases-add_rest : goal.decreases-add_rest
-decreases-add_rest g l = length l.rest

@@ -1,8 +1,0 @@
-use Rattle.cube_serving.proofs.Everyone as known
-use Rattle.cube_serving.proofs.laws.one_group_is_the_cube.Goals as goal
-
-pub returns-clause-groups : goal.returns-clause-groups
-returns-clause-groups c = known.one_group_is_the_cube
-
-pub returns-clause-runs : goal.returns-clause-runs
-returns-clause-runs c = known.one_run_is_the_cube

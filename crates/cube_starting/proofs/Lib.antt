@@ -1,0 +1,13 @@
+pub mod Lists
+pub mod Placed
+pub mod Turning
+pub mod Adding
+pub mod Started
+pub mod SealsHeld
+pub mod Held
+pub mod Gathered
+pub mod Names
+pub mod OpenGroups
+pub mod Unstarted
+pub mod Everyone
+pub mod Causes
