@@ -331,15 +331,16 @@ def what_is_constant_stands_by_itself(folder):
 # A file, what is stated of it, and the notes on it; FILE is its path.
 NOTED = [
     ("branch,year,pay\nLyon,2025,1\nNice,2026,NA\nNice,2026,3\n", (), [
-        '"branch": 0 of 3 numbers, line 2 is "Lyon": members; left out by --skip "branch"',
+        '"branch": line 2 is "Lyon": members; left out by --skip "branch"',
         '"year": 3 years: a measure, which is added up; members by --members "year", left out by --skip "year"',
         '"pay": 2 of 3 numbers, line 3 is "NA": members; left out by --skip "pay"',
     ]),
     ("branch,age,pay\nLyon,45,1\n", ("--members", "age", "--skip", "branch"), [
-        '"branch": left out, as stated', '"age": members, as stated', '"pay": 1 numbers: a measure; members by --members "pay", left out by --skip "pay"',
+        '"branch": left out, as stated', '"age": members, as stated', '"pay": 1 number: a measure; members by --members "pay", left out by --skip "pay"',
     ]),
+    ("year,pay\n2026,1\n", (), ['"year": 1 year: a measure, which is added up; members by --members "year", left out by --skip "year"']),
     ('a,b,c,d,e,f\n"1,234.50",1.2e3,EUR 12," 200","12,5",0.1234567\n', (), [
-        f'"{name}": 0 of 1 numbers, line 2 is "{value}" ({hint}): members; left out by --skip "{name}"'
+        f'"{name}": line 2 is "{value}" ({hint}): members; left out by --skip "{name}"'
         for name, value, hint in [
             ("a", "1,234.50", "commas between thousands: leave them out"), ("b", "1.2e3", "an exponent: write the number out"),
             ("c", "EUR 12", "a currency beside a number: leave it out"), ("d", " 200", "blanks beside a number: leave them out"),

@@ -15,7 +15,7 @@ from servers import CUBE, address_of, start  # noqa: E402
 SECONDS = 60
 
 # the notes on a journal that is opened and on what is refused, and the text on standard error behind each exit status
-NOTES = rb"(.+: (new|entries \d+|nothing is protected)\n|.+ line \d+: [^\n]*\n|limit [a-z]+: [^\n]+\n|[^\n]* is none of [^\n]+\n|[^\n]+ is a (level|dimension)[^\n]*: write [^\n]+\n)*"
+NOTES = rb"(.+: (new|entries \d+|nothing is protected|\d+ cells? of \(.*\) may be one person's)\n|.+ line \d+: [^\n]*\n|limit [a-z]+: [^\n]+\n|[^\n]* is none of [^\n]+\n|[^\n]+ is a (level|dimension)[^\n]*: write [^\n]+\n)*"
 ENDINGS = {
     0: rb"",
     2: rb"usage: .*\n",

@@ -40,7 +40,7 @@ REFUSED = re.compile(rb"^(?:dims|facts|policy): ", re.MULTILINE)
 def text_of(said):
     """The text on standard error, without the notes before it."""
     refused = REFUSED.search(said)
-    return said[refused.start():] if refused else re.sub(rb"(?m)^.*: nothing is protected\n", b"", said)
+    return said[refused.start():] if refused else re.sub(rb"(?m)^.*: (nothing is protected|\d+ cells? of \(.*\) may be one person's)\n", b"", said)
 
 
 def as_bytes(file):
