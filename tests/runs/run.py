@@ -492,7 +492,7 @@ def a_person_is_told_more():
         _, shown = Room(PAY).typed(ASK.split(), f"{line}\n")
         assert note in shown and ("members" in shown) == ("members" in note), (line, shown)
         assert b"members" not in Room(PAY).run(ASK, f"{line}\n").stderr, line
-    for line, words in (("help", "\nshape "), ("?", "\nslice MEASURE by "), ("quit", "Control-D ends it\n"), ("cell pay", "cube> "), ("cel pay", f"\n{' ' * 9}^\n")):
+    for line, words in (("help", "\nshape "), ("?", "\nslice MEASURE by "), ("quit", "Control-D ends it\n"), ("cell pay", "cube> "), ("cel pay", f"{' ' * 9}^\n")):
         _, shown = Room(PAY).typed(ASK.split(), f"{line}\n")
         assert shown.startswith("cube> ") or "\ncube> " in shown, (line, shown)
         assert words in shown, (line, shown)

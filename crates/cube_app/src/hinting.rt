@@ -61,9 +61,9 @@ fn hint<W: Write>(alloc: Global, dims: &Dims, piece: &[u8], notes: &mut W) {
     let Some(line) = piece.strip_suffix(b"\n") else {
         return;
     };
-    if line == b"help" || line == b"?" {
+    if line == b"help".as_slice() || line == b"?".as_slice() {
         let _ = notes.write_all(HELP);
-    } else if line == b"quit" || line == b"exit" {
+    } else if line == b"quit".as_slice() || line == b"exit".as_slice() {
         let _ = notes.write_all(END);
     } else if let Ok(note) = note_on_query(alloc, dims, line) {
         let _ = notes.write_all(note.as_slice());
