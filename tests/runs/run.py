@@ -245,7 +245,11 @@ def notes_show_what_a_report_has_no_room_for():
     ran = Room({**PAY, "d": "[[dimension]]\nnam \"region\"\n"}).run(CHECK)
     assert ran.stderr.startswith(b'd line 2: "nam "region""') and ran.stderr.endswith(b"dims: not toml\n"), ran
     ran = Room({**PAY, "p": BOTH}).run(CHECK)
-    assert ran.returncode == 0 and ran.stderr.startswith(b"pay: nothing is protected\n"), ran
+    assert ran.returncode == 0 and ran.stderr == b"pay: nothing is protected\npay: 5 cells of (region.city, time.month) may be one person's\n", ran
+    twice = {**PAY, "p": BOTH, "f": FACTS.replace("Paris,Feb,50,5\n", "Paris,Feb,20,2\nParis,Feb,30,3\n")}
+    for words in (CHECK, CHECK.replace("check", "advise")):
+        told = Room(twice).run(words).stderr
+        assert told.endswith(b"pay: 4 cells of (region.city, time.month) may be one person's\n"), (words, told)
 
 
 # ---- ask
