@@ -1,7 +1,7 @@
 -- What a crash leaves of a log beyond what it could leave before.
-use Rattle.std.proofs.Common.{◌≡◌, ◌⊎◌, inl, inr, ⊎_elim, subst, List, ℕ}
+use Rattle.std.proofs.Common.{◌≡◌, inl, inr, ⊎_elim, subst, List, ℕ}
 use Rattle.cube_io.specs.Desks.{LeavesOf, LeavesAll}
-use Rattle.cube_io.specs.States.{State, Log, IsImage, Gained}
+use Rattle.cube_io.specs.States.{State, Log, IsImage}
 use Rattle.cube_io.proofs.Trails.{gained_none, gained_then, gained_map}
 
 -- what is given back is told in other words

@@ -1,5 +1,5 @@
 -- What became of the asks, with one more, and how often the store is called for it.
-use Rattle.std.proofs.Common.{◌≡◌, ◌≢◌, ℕ, ◌+◌, ◌≤◌, Bool, true, false, cond, List, [], ◌∷◌, ◌++◌, refl, sym, subst, arith}
+use Rattle.std.proofs.Common.{◌≡◌, ◌≢◌, ◌⊎◌, inl, inr, ◌≤◌, Bool, true, false, cond, List, [], ◌∷◌, ◌++◌, refl, sym, subst, arith}
 use Rattle.std.proofs.lemmas.Bool.{false≢true}
 use Rattle.cube_model.specs.declared.outcome.Outcome.{Outcome}
 use Rattle.cube_model.specs.declared.outcome.Outcome.TheVariants.{Given, JournalFault, NoMemory}
@@ -25,6 +25,12 @@ pub only_faults : (os : List Outcome) (o : Outcome) (before now : Bool) → (bef
 only_faults os Given before now h f e = faults_stay os Given (h (f (λ k. cc) e))
 only_faults os JournalFault before now h f e = faults_begin os
 only_faults os NoMemory before now h f e = faults_stay os NoMemory (h (f (λ k. cc) e))
+
+-- an ask found memory, or it did not
+pub memory_or_not : (o : Outcome) → (o ≡ NoMemory) ⊎ (o ≢ NoMemory)
+memory_or_not Given = inr (λ e. cc)
+memory_or_not JournalFault = inr (λ e. cc)
+memory_or_not NoMemory = inl refl
 
 -- the last outcome is told by all
 pub last_outcome : (os : List Outcome) (o p : Outcome) → os ++ o ∷ [] ≡ os ++ p ∷ [] → o ≡ p

@@ -1,5 +1,5 @@
 -- Desks: what a server answers for, and what it does with an ask.
-use Rattle.std.specs.Prelude.{◌≡◌, ◌≢◌, ◌⊎◌, ℕ, ◌≤◌, Bool, true, false, IsTrue, List, [], ◌∷◌, ◌++◌, count_by, if◌then◌else◌}
+use Rattle.std.specs.Prelude.{◌≡◌, ◌≢◌, ◌⊎◌, ℕ, ◌+◌, ◌≤◌, Bool, true, false, IsTrue, List, [], ◌∷◌, ◌++◌, length, count_by, if◌then◌else◌}
 use Rattle.std.specs.List.{list_any}
 use Rattle.cube_model.specs.declared.ask.Ask.{Ask}
 use Rattle.cube_model.specs.declared.outcome.Outcome.{Outcome}
@@ -16,6 +16,11 @@ use Rattle.cube_io.specs.States.{State, Log, IsImage, Gained, settled}
 pub record Manner : Type 0 where
   pub reply : List Room → Ask → Outcome → Reply
   pub next : List Room → Ask → Outcome → List Room
+
+-- how many requests the histories of some rooms hold
+abbrev pub entries : List Room → ℕ
+entries [] = 0
+entries (r ∷ rooms) = length r.history + entries rooms
 
 -- what failed gets its constant reply and leaves the rooms
 pub record IsConstant (m : Manner) : Type 0 where

@@ -16,10 +16,11 @@ pub record SourceState : Type 0 where
   pub ended : Bool
   pub faults : ℕ
 
--- of a sink: the bytes that were written, and how often it failed
+-- of a sink: the bytes that were written, how often it failed, and how often a piece was put without a store in sight
 pub record SinkState : Type 0 where
   pub written : Option (List ℕ)
   pub faults : ℕ
+  pub loose : ℕ
 
 -- of a store: how often it failed, whether it was attached, whether it tells what it holds, its logs, the names that it was asked
 -- for, and a number to which each call adds at most one

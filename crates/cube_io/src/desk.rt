@@ -1,11 +1,11 @@
 // What a server asks: one or more rooms, each a cube with a policy and a history.
-ghost use Rattle.std.specs.Prelude.{◌≡◌, ◌≢◌, ◌⊎◌, ◌↔◌, ◌≤◌, ◌+◌, ◌++◌, ◌∷◌, [], ℕ, List, IsTrue};
+ghost use Rattle.std.specs.Prelude.{◌≡◌, ◌≢◌, ◌⊎◌, ◌↔◌, ◌≤◌, ◌+◌, ◌-◌, ◌^◌, ◌++◌, ◌∷◌, [], ℕ, min, List, IsTrue};
 ghost use Rattle.cube_model.specs.Rooms.{Room};
 ghost use Rattle.cube_model.specs.declared.outcome.Outcome.{Outcome};
 ghost use Rattle.cube_model.specs.declared.outcome.Outcome.TheVariants as outcome;
 ghost use Rattle.cube_model.specs.declared.reply.Fixed.TheVariants as constant;
 ghost use Rattle.cube_model.specs.declared.reply.Reply.TheVariants as reply;
-ghost use Rattle.cube_io.specs.Desks.{Manner, IsConstant, Answered, most_calls, ForeignStay, GivesRooms, LeavesAll, IsOneOf};
+ghost use Rattle.cube_io.specs.Desks.{Manner, entries, IsConstant, Answered, most_calls, ForeignStay, GivesRooms, LeavesAll, IsOneOf};
 ghost use Rattle.cube_io.specs.States.{State, Gained};
 
 use crate::Store;
@@ -91,6 +91,10 @@ pub trait Desk<S: Store> {
     /// How many more asks it has space for.
     fn left(&self) -> u64
         ensures { result ≡ capacity self.now };
+
+    /// How many requests the histories of its rooms hold, up to the end of the type.
+    fn held(&self) -> u64
+        ensures { result ≡ min (entries (rooms self.now)) (2 ^ 64 - 1) };
 
     /// What failed gets its constant reply and leaves the rooms.
     ghost failures: { (desk : Self) → IsConstant (manner desk) };

@@ -1,5 +1,5 @@
 // A wire in memory that plays some events.
-ghost use Rattle.std.specs.Prelude.{◌≡◌, [], true, length, IfOk};
+ghost use Rattle.std.specs.Prelude.{◌≡◌, ⊤, [], true, length, IfOk};
 ghost use Rattle.cube_io.specs.Mem.{names_in};
 ghost use Rattle.cube_io.specs.Scrolls.{entry_of, is_event};
 ghost use Rattle.cube_io.specs.Wires.{NextTells, FitsBuffer, arrival_of, no_plan};
@@ -8,7 +8,7 @@ ghost use Rattle.cube_io.specs.Wires.LogEntry.{Heard};
 use crate::record::{Record, Target};
 use crate::scroll::Note;
 use crate::wire_log::WireLog;
-use crate::{Event, Failed, Wire};
+use crate::{Event, Failed, Store, Wire};
 use cube_model::{NoMemory, Text};
 use std::alloc::Global;
 
@@ -137,6 +137,8 @@ fn play_next(log: &mut WireLog, play: Option<&Play>, buf: &mut [u8]) -> Result<E
 impl Wire for MemWire {
     ghost state = { λ w. record { faults = w.faults; send_faults = w.send_faults; told = true; log = w.log.scroll.log; heard = names_in w.heard; plan = no_plan } };
 
+    ghost allows = { λ store log. ⊤ };
+
     fn listen(&mut self, address: &Text, _idle: u32) -> Result<(), Failed> {
         match self.heard.write(Target::Names, address.as_slice()) {
             Ok(()) => Ok(()),
@@ -147,7 +149,7 @@ impl Wire for MemWire {
         }
     }
 
-    fn next(&mut self, buf: &mut [u8]) -> Result<Event, Failed> {
+    fn next<S: Store>(&mut self, _store: &S, buf: &mut [u8]) -> Result<Event, Failed> {
         let call = self.nexts;
         self.nexts = self.nexts.saturating_add(1);
         let played = if self.failing_nexts.contains(&call) {

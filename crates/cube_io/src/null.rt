@@ -1,5 +1,5 @@
 // Objects that keep nothing, tell nothing and never fail.
-ghost use Rattle.std.specs.Prelude.{None};
+ghost use Rattle.std.specs.Prelude.{None, ⊤};
 ghost use Rattle.std.proofs.Common.{rules};
 ghost use Rattle.cube_io.specs.Told.{silent_store, silent_wire};
 
@@ -12,9 +12,11 @@ use std::alloc::Global;
 pub struct NullSink;
 
 impl Sink for NullSink {
-    ghost state = { λ _. record { written = None; faults = 0 } };
+    ghost state = { λ _. record { written = None; faults = 0; loose = 0 } };
 
-    fn put(&mut self, _piece: &[u8]) -> Result<(), Failed> {
+    ghost allows = { λ store bytes piece. ⊤ };
+
+    fn put<S: Store>(&mut self, _store: &S, _piece: &[u8]) -> Result<(), Failed> {
         Ok(())
     }
 }
@@ -65,11 +67,13 @@ pub struct NullWire;
 impl Wire for NullWire {
     ghost state = { λ _. silent_wire 0 0 };
 
+    ghost allows = { λ store log. ⊤ };
+
     fn listen(&mut self, _address: &Text, _idle: u32) -> Result<(), Failed> {
         Ok(())
     }
 
-    fn next(&mut self, _buf: &mut [u8]) -> Result<Event, Failed> {
+    fn next<S: Store>(&mut self, _store: &S, _buf: &mut [u8]) -> Result<Event, Failed> {
         Ok(Event::End)
     }
 

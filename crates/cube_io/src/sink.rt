@@ -1,23 +1,30 @@
 // Sinks of bytes.
-ghost use Rattle.std.specs.Prelude.{◌≡◌, ◌≤◌, ℕ, List, [], length, Some, None, IsOk, IfOk};
+ghost use Rattle.std.specs.Prelude.{◌≡◌, ◌≤◌, ⊤, ℕ, List, [], length, IsTrue, Some, None, IsOk, IfOk};
 ghost use Rattle.cube_io.specs.Causes.{HasCause};
 ghost use Rattle.cube_io.specs.Content.{PutAppends};
-ghost use Rattle.cube_io.specs.Seen.{SinkState};
+ghost use Rattle.cube_io.specs.Seen.{SinkState, StoreState};
 
-use crate::Failed;
+use crate::{Failed, Store};
 use cube_model::NoMemory;
 use std::alloc::Global;
 
-/// A sink of bytes.
+/// A sink of bytes. Each piece is put over a store, as it stands: the one that the bytes rest on, or one that tells nothing.
 pub trait Sink {
-    /// The bytes that were written, where it tells them, and how often it has failed.
+    /// The bytes that were written, where it tells them, how often it has failed, and how often a piece was put with no store that
+    /// tells in sight.
     ghost state: { Self → SinkState };
 
+    /// Over a store that tells this, behind these bytes, this piece may be put. What may be is for those to say who give the sink:
+    /// who puts has to show it, whatever it is.
+    ghost allows: { StoreState → List ℕ → List ℕ → Type 0 };
+
     /// Writes the piece at the end, or fails after a prefix of it. An empty piece never fails.
-    fn put(&mut self, piece: &[u8]) -> Result<(), Failed>
+    fn put<S: Store>(&mut self, store: &S, piece: &[u8]) -> Result<(), Failed>
+        requires { IsTrue (S.state store.now).told → (bytes : List ℕ) → (state self.old).written ≡ Some bytes → allows (S.state store.now) bytes piece.now }
         ensures bytes { PutAppends (state self.old).written (state self.new).written result piece.now }
         ensures empty { piece.now ≡ [] → IsOk result }
-        ensures cause { HasCause (state self.old).faults (state self.new).faults result };
+        ensures cause { HasCause (state self.old).faults (state self.new).faults result }
+        ensures sight { IsTrue (S.state store.now).told → (state self.new).loose ≡ (state self.old).loose };
 }
 
 /// A sink into memory of fixed space. It fails at the puts with these numbers, counted from 0, and where the room is
@@ -59,9 +66,11 @@ impl MemSink {
 }
 
 impl Sink for MemSink {
-    ghost state = { λ s. record { written = Some s.bytes.items; faults = s.faults } };
+    ghost state = { λ s. record { written = Some s.bytes.items; faults = s.faults; loose = 0 } };
 
-    fn put(&mut self, piece: &[u8]) -> Result<(), Failed> {
+    ghost allows = { λ store bytes piece. ⊤ };
+
+    fn put<S: Store>(&mut self, _store: &S, piece: &[u8]) -> Result<(), Failed> {
         if piece.is_empty() {
             return Ok(());
         }

@@ -1,12 +1,12 @@
 // Connections by number: what comes on them, and what is sent.
-ghost use Rattle.std.specs.Prelude.{◌≡◌, [], ◌∷◌, ◌++◌, length, IsTrue, IfOk};
+ghost use Rattle.std.specs.Prelude.{◌≡◌, List, [], ◌∷◌, ◌++◌, length, IsTrue, IfOk};
 ghost use Rattle.cube_io.specs.Causes.{HasCause};
-ghost use Rattle.cube_io.specs.Seen.{WireState};
+ghost use Rattle.cube_io.specs.Seen.{StoreState, WireState};
 ghost use Rattle.cube_io.specs.Told.{AsksFor, PlaysOn};
-ghost use Rattle.cube_io.specs.Wires.{FitsBuffer, IsOpen, IsSound, SendTells, NextTells};
+ghost use Rattle.cube_io.specs.Wires.{LogEntry, FitsBuffer, IsOpen, IsSound, SendTells, NextTells};
 ghost use Rattle.cube_io.specs.Wires.LogEntry.{Shut};
 
-use crate::Failed;
+use crate::{Failed, Store};
 use cube_model::Text;
 
 /// What came over a wire.
@@ -22,10 +22,15 @@ pub enum Event {
     End,
 }
 
-/// Connections by number. What stands under `told` holds where the wire tells its log.
+/// Connections by number. What stands under `told` holds where the wire tells its log. What was sent goes out when the next event is
+/// looked for, over a store as it stands then.
 pub trait Wire {
     /// What it tells of its log, of its addresses and of what it is to play, and how often it, and a send on it, has failed.
     ghost state: { Self → WireState };
+
+    /// Over a store that tells this, behind this log, the next event may be looked for, and what was sent may go out. What may be is
+    /// for those to say who give the wire: who serves it has to show it, whatever it is.
+    ghost allows: { StoreState → List LogEntry → Type 0 };
 
     /// Listens on an address. A connection that is still for so many seconds may be closed; none where they are 0.
     fn listen(&mut self, address: &Text, idle: u32) -> Result<(), Failed>
@@ -36,8 +41,9 @@ pub trait Wire {
         ensures heard { IsTrue (state self.old).told → AsksFor result (state self.old).heard (state self.new).heard address.now };
 
     /// The next event. The bytes of a piece stand at the front of the buffer.
-    fn next(&mut self, buf: &mut [u8]) -> Result<Event, Failed>
-        requires { length buf.old ≡ 65536 }
+    fn next<S: Store>(&mut self, store: &S, buf: &mut [u8]) -> Result<Event, Failed>
+        requires buf { length buf.old ≡ 65536 }
+        requires allowed { IsTrue (state self.old).told → allows (S.state store.now) (state self.old).log }
         ensures cause { HasCause (state self.old).faults (state self.new).faults result }
         ensures sends { (state self.new).send_faults ≡ (state self.old).send_faults }
         ensures plays { PlaysOn (state self.old) (state self.new) }
