@@ -1,5 +1,5 @@
 mod Appending
-pub mod Outgoing
+mod Parting
 mod Paths
 mod Replacing
 mod Tying

@@ -1,5 +1,5 @@
 -- A log stays tied to what the sockets tell.
-use Rattle.std.proofs.Common.{◌≡◌, ◌≢◌, ◌<◌, ◌≤◌, ℕ, ◌==◌, Bool, true, false, List, [], ◌∷◌, ◌++◌, length, get_or, take, refl, sym, ◌∙◌, ap, subst, arith, append-nil, if◌then◌else◌, length-set, get_or-set_same, get_or-set_other}
+use Rattle.std.proofs.Common.{◌≡◌, ◌≢◌, ◌<◌, ◌≤◌, ℕ, ◌==◌, Bool, true, false, List, [], ◌∷◌, ◌++◌, length, get_or, take, refl, sym, ◌∙◌, ap, subst, arith, append-nil, append_assoc, if◌then◌else◌, length-set, get_or-set_same, get_or-set_other}
 use Rattle.std.proofs.Math.ListN.{set}
 use Rattle.std.specs.Prelude.{IsTrue, Option, Some, None, Result, Ok, Err, IsSomeAnd, All, slice_get, slice_set}
 use Rattle.std.proofs.lemmas.Bool.Decides.{nat_tests}
@@ -13,10 +13,10 @@ use Rattle.cube_edge.specs.declared.link.Link.{Link}
 use Rattle.cube_edge.specs.declared.link.Look.TheVariants as look
 use Rattle.cube_edge.specs.declared.link.Stage.{Stage}
 use Rattle.cube_edge.specs.declared.link.Stage.TheVariants as stage
-use Rattle.cube_edge.specs.Sockets.{SocketsState, OnlyOn, Elsewhere, MovedNothing, Accepted, AcceptTells, LookTells, LookFits, SendGoesOut, outgoing}
+use Rattle.cube_edge.specs.Sockets.{SocketsState, OnlyOn, Elsewhere, MovedNothing, Accepted, AcceptTells, LookTells, LookFits, Gives, outgoing}
 use Rattle.cube_edge.specs.Links.{closed_behind}
 use Rattle.cube_edge.specs.Watches.{WatchState, Notes}
-use Rattle.cube_edge.specs.Flows.{Flow, no_flow, flow_by, flow_after, flow, is_there, is_open, IsTied, AreTied, Keeps, Takes, TakesAccept, TakesEvent, TakesSend}
+use Rattle.cube_edge.specs.Flows.{Flow, no_flow, flow_by, flow_after, flow, is_there, is_open, IsTied, AreTied, Keeps, Takes, TakesAccept, TakesEvent}
 
 same_number : (c : ℕ) → (c == c) ≡ true
 same_number c = grind (arith, nat_tests)
@@ -82,38 +82,52 @@ shut_leaves c d differs = record { flow = λ was. refl; opens = λ was. if_false
 
 -- ---- one connection
 
+-- nothing was given, and nothing taken
+pub gives_none : (c : ℕ) (s s' : SocketsState) (unread unread' : List ℕ) → s'.taken c ≡ s.taken c → unread' ≡ unread → Gives c [] s unread s' unread'
+gives_none c s s' unread unread' taken same came is = ap (λ (l : List ℕ). came ++ l) same ∙ is ∙ sym taken
+
+-- a line of what was unread
+pub gives_unread : (c : ℕ) (line : List ℕ) (s s' : SocketsState) (unread unread' : List ℕ) → s'.taken c ≡ s.taken c → unread ≡ line ++ unread' → Gives c line s unread s' unread'
+gives_unread c line s s' unread unread' taken parts came is = ap (λ (l : List ℕ). came ++ l) (sym parts) ∙ is ∙ sym taken
+
+-- a line of what was taken, where nothing was unread
+pub gives_taken : (c : ℕ) (line took : List ℕ) (s s' : SocketsState) (unread unread' : List ℕ) → unread ≡ [] → s'.taken c ≡ s.taken c ++ took → took ≡ line ++ unread' → Gives c line s unread s' unread'
+gives_taken c line took s s' unread unread' none taken parts came is =
+    let all : came ≡ s.taken c = sym (append-nil came) ∙ ap (λ (l : List ℕ). came ++ l) (sym none) ∙ is in
+    ap (λ (l : List ℕ). came ++ l) (sym parts) ∙ ap (λ (l : List ℕ). l ++ took) all ∙ sym taken
+
 -- an entry on it
 pub entry_ties : (c : ℕ) (e : LogEntry) (gave took : List ℕ) (s s' : SocketsState) (old new : Link) → Adds c e gave took
     → (IsTrue (is_there new.stage) → IsTrue (is_there old.stage)) → (IsTrue (is_open new.stage) → IsTrue (is_open old.stage)) → open_by c (is_open old.stage) e ≡ is_open new.stage
-    → outgoing c s' new.waiting ≡ outgoing c s old.waiting ++ gave → (IsTrue (is_open new.stage) → s'.taken c ≡ s.taken c ++ took)
+    → outgoing c s' new.waiting ≡ outgoing c s old.waiting ++ gave → (IsTrue (is_open new.stage) → Gives c took s old.unread s' new.unread)
     → (log : List LogEntry) → IsTied c s log old → IsTied c s' (log ++ e ∷ []) new
 entry_ties c e gave took s s' old new adds there opens turns goes comes log tied =
     let more : flow c (log ++ e ∷ []) ≡ record { sent = (flow c log).sent ++ gave; came = (flow c log).came ++ took } = flow_more c no_flow log e ∙ adds (flow c log) in
     record {
       opens = open_more c false log e ∙ ap (λ (b : Bool). open_by c b e) tied.opens ∙ turns;
       sends = λ is. ap (λ (f : Flow). f.sent) more ∙ ap (λ (l : List ℕ). l ++ gave) (tied.sends (there is)) ∙ sym goes;
-      comes = λ is. ap (λ (f : Flow). f.came) more ∙ ap (λ (l : List ℕ). l ++ took) (tied.comes (opens is)) ∙ sym (comes is);
+      comes = λ is. ap (λ (f : Flow). f.came ++ new.unread) more ∙ append_assoc (flow c log).came took new.unread ∙ comes is (flow c log).came (tied.comes (opens is));
     }
 
 -- no entry
 pub keeps_tied : (c : ℕ) (s s' : SocketsState) (old new : Link)
     → (IsTrue (is_there new.stage) → IsTrue (is_there old.stage)) → is_open new.stage ≡ is_open old.stage
-    → (IsTrue (is_there new.stage) → outgoing c s' new.waiting ≡ outgoing c s old.waiting) → (IsTrue (is_open new.stage) → s'.taken c ≡ s.taken c)
+    → (IsTrue (is_there new.stage) → outgoing c s' new.waiting ≡ outgoing c s old.waiting) → (IsTrue (is_open new.stage) → Gives c [] s old.unread s' new.unread)
     → (log : List LogEntry) → IsTied c s log old → IsTied c s' log new
 keeps_tied c s s' old new there same goes comes log tied = record {
   opens = tied.opens ∙ sym same;
   sends = λ is. tied.sends (there is) ∙ sym (goes is);
-  comes = λ is. tied.comes (sym same ∙ is) ∙ sym (comes is);
+  comes = λ is. comes is (flow c log).came (tied.comes (sym same ∙ is));
 }
 
 -- it was accepted
-pub opened_ties : (c : ℕ) (s : SocketsState) (new : Link) → new.stage ≡ stage.Open → new.waiting ≡ [] → s.given c ≡ [] → s.taken c ≡ [] → (log : List LogEntry) → IsTied c s (log ++ Heard (Opened c) ∷ []) new
-opened_ties c s new stage waits given taken log =
+pub opened_ties : (c : ℕ) (s : SocketsState) (new : Link) → new.stage ≡ stage.Open → new.waiting ≡ [] → new.unread ≡ [] → s.given c ≡ [] → s.taken c ≡ [] → (log : List LogEntry) → IsTied c s (log ++ Heard (Opened c) ∷ []) new
+opened_ties c s new stage waits unread given taken log =
     let none : flow c (log ++ Heard (Opened c) ∷ []) ≡ no_flow = flow_more c no_flow log (Heard (Opened c)) ∙ if_true (c == c) no_flow (flow c log) (same_number c) in
     record {
       opens = open_more c false log (Heard (Opened c)) ∙ if_true (c == c) true (open_after c false log) (same_number c) ∙ sym (ap is_open stage);
       sends = λ is. ap (λ (f : Flow). f.sent) none ∙ sym (ap (λ (l : List ℕ). s.given c ++ l) waits ∙ append-nil (s.given c) ∙ given);
-      comes = λ is. ap (λ (f : Flow). f.came) none ∙ sym taken;
+      comes = λ is. ap (λ (f : Flow). f.came ++ new.unread) none ∙ unread ∙ sym taken;
     }
 
 -- ---- a turn
@@ -127,7 +141,7 @@ elsewhere_only c s s' only told = record { taken = only.taken told; given = only
 
 -- a piece comes only where it is open
 pub piece_ties : (c n : ℕ) (buf : List ℕ) (s s' : SocketsState) (old new : Link) → (is_open old.stage ≡ false → (bytes : List ℕ) → LookFits (look.Piece n) bytes)
-    → (is_there old.stage ≡ false → is_there new.stage ≡ false) → is_open new.stage ≡ is_open old.stage → (is_open old.stage ≡ true → LookTells c (look.Piece n) buf s s')
+    → (is_there old.stage ≡ false → is_there new.stage ≡ false) → is_open new.stage ≡ is_open old.stage → (is_open old.stage ≡ true → LookTells c (look.Piece n) buf s old.unread s' new.unread)
     → outgoing c s' new.waiting ≡ outgoing c s old.waiting → (log : List LogEntry) → IsTied c s log old → IsTied c s' (log ++ Heard (Came c (take n buf)) ∷ []) new
 piece_ties c n buf s s' old new none there same hears goes =
     entry_ties c (Heard (Came c (take n buf))) [] (take n buf) s s' old new (came_adds c (take n buf)) (open_or_not (is_there old.stage) (is_there new.stage) there) (λ is. sym same ∙ is) (sym same)
@@ -183,7 +197,7 @@ tied_at c s s' log log' links old new few is elsewhere others mine tied d link a
     other differs = record {
       opens = (others d differs).opens ∙ (was differs).opens;
       sends = λ h. ap (λ (f : Flow). f.sent) (others d differs).flow ∙ (was differs).sends h ∙ ap (λ (l : List ℕ). l ++ link.waiting) (sym (elsewhere.given d differs));
-      comes = λ h. ap (λ (f : Flow). f.came) (others d differs).flow ∙ (was differs).comes h ∙ sym (elsewhere.taken d differs);
+      comes = λ h. ap (λ (f : Flow). f.came ++ link.unread) (others d differs).flow ∙ (was differs).comes h ∙ sym (elsewhere.taken d differs);
     }
 
     by : (b : Bool) → (c == d) ≡ b → IsTied d s' log' link
@@ -209,7 +223,7 @@ entry_still s log e links stays tied c link at =
     record {
       opens = open_more c false log e ∙ (stays c).opens (open_after c false log) ∙ (tied c link at).opens;
       sends = λ h. ap (λ (f : Flow). f.sent) same ∙ (tied c link at).sends h;
-      comes = λ h. ap (λ (f : Flow). f.came) same ∙ (tied c link at).comes h;
+      comes = λ h. ap (λ (f : Flow). f.came ++ link.unread) same ∙ (tied c link at).comes h;
     }
 
 -- ---- the calls of all connections
@@ -230,24 +244,28 @@ takes_still e s s' links links' stays keeps told log tied = entry_still s' log e
 
 -- what waits was pushed out
 pub push_keeps : (c : ℕ) (s s' : SocketsState) (links : List Link) (old new : Link) → c < length links → old ≡ get_or links c old → OnlyOn c s s' → new.stage ≡ old.stage
-    → (IsTrue s.told → outgoing c s' new.waiting ≡ outgoing c s old.waiting) → (IsTrue s.told → s'.taken c ≡ s.taken c) → Keeps s links s' (slice_set links c new)
-push_keeps c s s' links old new few is only stage goes taken =
+    → (IsTrue s.told → outgoing c s' new.waiting ≡ outgoing c s old.waiting) → (IsTrue s.told → s'.taken c ≡ s.taken c) → new.unread ≡ old.unread → Keeps s links s' (slice_set links c new)
+push_keeps c s s' links old new few is only stage goes taken unread =
     keeps_at c s s' links old new few is (elsewhere_only c s s' only)
-    (λ told. keeps_tied c s s' old new (λ i. ap is_there (sym stage) ∙ i) (ap is_open stage) (λ i. goes told) (λ i. taken told))
+    (λ told. keeps_tied c s s' old new (λ i. ap is_there (sym stage) ∙ i) (ap is_open stage) (λ i. goes told) (λ i. gives_none c s s' old.unread new.unread (taken told) unread))
 
 -- nothing was done
 pub same_keeps : (c : ℕ) (s : SocketsState) (links : List Link) (link : Link) → c < length links → link ≡ get_or links c link → Keeps s links s (slice_set links c link)
 same_keeps c s links link few is = keeps_at c s s links link link few is (λ told. record { taken = λ d differs. refl; given = λ d differs. refl }) (λ told log tied. tied)
 
 -- a connection that is open sends
-pub send_takes : (r : Result (Unit {0}) ℕ) (c : ℕ) (piece : List ℕ) (s s' : SocketsState) (links : List Link) (old new : Link) → c < length links → old ≡ get_or links c old → OnlyOn c s s' → new.stage ≡ old.stage
-    → (IsTrue s.told → SendGoesOut r piece (outgoing c s old.waiting) (outgoing c s' new.waiting)) → (IsTrue s.told → s'.taken c ≡ s.taken c) → TakesSend r c piece s links s' (slice_set links c new)
-send_takes (Ok u) c piece s s' links old new few is only stage goes taken =
-    takes_at c (Sent c piece) s s' links old new few is (elsewhere_only c s s' only) (sent_leaves c piece)
-    (λ told. entry_ties c (Sent c piece) piece [] s s' old new (sent_adds c piece) (λ i. ap is_there (sym stage) ∙ i) (λ i. ap is_open (sym stage) ∙ i) (ap is_open (sym stage)) (goes told) (λ i. taken told ∙ sym (append-nil (s.taken c))))
-send_takes (Err n) c piece s s' links old new few is only stage goes taken =
-    takes_at c (Torn c (take n piece) (length piece)) s s' links old new few is (elsewhere_only c s s' only) (torn_leaves c (take n piece) (length piece))
-    (λ told. entry_ties c (Torn c (take n piece) (length piece)) (take n piece) [] s s' old new (torn_adds c (take n piece) (length piece)) (λ i. ap is_there (sym stage) ∙ i) (λ i. ap is_open (sym stage) ∙ i) (ap is_open (sym stage)) (goes told) (λ i. taken told ∙ sym (append-nil (s.taken c))))
+pub send_takes : (c : ℕ) (piece : List ℕ) (s : SocketsState) (links : List Link) (old new : Link) → c < length links → old ≡ get_or links c old → new.stage ≡ old.stage
+    → new.waiting ≡ old.waiting ++ piece → new.unread ≡ old.unread → Takes (Sent c piece) s links s (slice_set links c new)
+send_takes c piece s links old new few is stage waits unread =
+    takes_at c (Sent c piece) s s links old new few is (λ told. record { taken = λ d differs. refl; given = λ d differs. refl }) (sent_leaves c piece)
+    (λ told. entry_ties c (Sent c piece) piece [] s s old new (sent_adds c piece) (λ i. ap is_there (sym stage) ∙ i) (λ i. ap is_open (sym stage) ∙ i) (ap is_open (sym stage))
+    (ap (λ (l : List ℕ). s.given c ++ l) waits ∙ sym (append_assoc (s.given c) old.waiting piece)) (λ i. gives_none c s s old.unread new.unread refl unread))
+
+-- it takes nothing of a piece
+pub unsent_keeps : (c : ℕ) (s : SocketsState) (links : List Link) (old new : Link) → c < length links → old ≡ get_or links c old → new.stage ≡ old.stage → new.waiting ≡ old.waiting → new.unread ≡ old.unread → Keeps s links s (slice_set links c new)
+unsent_keeps c s links old new few is stage waits unread =
+    keeps_at c s s links old new few is (λ told. record { taken = λ d differs. refl; given = λ d differs. refl })
+    (λ told. keeps_tied c s s old new (λ i. ap is_there (sym stage) ∙ i) (ap is_open stage) (λ i. ap (λ (l : List ℕ). s.given c ++ l) waits) (λ i. gives_none c s s old.unread new.unread refl unread))
 
 -- nothing went out of a send
 nothing_torn : (c d size : ℕ) → Leaves d (Torn c [] size)
@@ -301,7 +319,7 @@ none_takes c s links past told log tied d link at =
     record {
       opens = agrees.opens ∙ (tied d link at).opens;
       sends = λ h. ap (λ (f : Flow). f.sent) agrees.flow ∙ (tied d link at).sends h;
-      comes = λ h. ap (λ (f : Flow). f.came) agrees.flow ∙ (tied d link at).comes h;
+      comes = λ h. ap (λ (f : Flow). f.came ++ link.unread) agrees.flow ∙ (tied d link at).comes h;
     }
 
 -- what is open is open by the log
@@ -318,9 +336,9 @@ none_accepted true c s s' is tells = absurd (cc)
 none_accepted false c s s' is tells = tells
 
 -- a connection is accepted
-pub accept_takes : (c : ℕ) (s s' : SocketsState) (links : List Link) (old new : Link) → c < length links → old ≡ get_or links c old → (IsTrue s.told → Accepted c s s') → new.stage ≡ stage.Open → new.waiting ≡ [] → Takes (Heard (Opened c)) s links s' (slice_set links c new)
-accept_takes c s s' links old new few is accepted stage waits =
-    takes_at c (Heard (Opened c)) s s' links old new few is (λ told. (accepted told).others) (opened_leaves c) (λ told log tied. opened_ties c s' new stage waits (accepted told).none_given (accepted told).none_taken log)
+pub accept_takes : (c : ℕ) (s s' : SocketsState) (links : List Link) (old new : Link) → c < length links → old ≡ get_or links c old → (IsTrue s.told → Accepted c s s') → new.stage ≡ stage.Open → new.waiting ≡ [] → new.unread ≡ [] → Takes (Heard (Opened c)) s links s' (slice_set links c new)
+accept_takes c s s' links old new few is accepted stage waits unread =
+    takes_at c (Heard (Opened c)) s s' links old new few is (λ told. (accepted told).others) (opened_leaves c) (λ told log tied. opened_ties c s' new stage waits unread (accepted told).none_given (accepted told).none_taken log)
 
 -- ---- one step behind another
 
@@ -330,10 +348,6 @@ keeps_then s s' s'' l l' l'' same f h told log tied = h (subst IsTrue (sym same)
 pub event_then : (found : Option Event) (buf : List ℕ) (s s' s'' : SocketsState) (l l' l'' : List Link) → s'.told ≡ s.told → Keeps s l s' l' → TakesEvent found buf s' l' s'' l'' → TakesEvent found buf s l s'' l''
 event_then (Some event) buf s s' s'' l l' l'' same f h = λ told log tied. h (subst IsTrue (sym same) told) log (f told log tied)
 event_then None buf s s' s'' l l' l'' same f h = λ told log tied. h (subst IsTrue (sym same) told) log (f told log tied)
-
-pub send_then : (r : Result (Unit {0}) ℕ) (c : ℕ) (piece : List ℕ) (s s' s'' : SocketsState) (l l' l'' : List Link) → s'.told ≡ s.told → Keeps s l s' l' → TakesSend r c piece s' l' s'' l'' → TakesSend r c piece s l s'' l''
-send_then (Ok u) c piece s s' s'' l l' l'' same f h = λ told log tied. h (subst IsTrue (sym same) told) log (f told log tied)
-send_then (Err n) c piece s s' s'' l l' l'' same f h = λ told log tied. h (subst IsTrue (sym same) told) log (f told log tied)
 
 pub accept_then : (r : Result (Option ℕ) Failed) (s s' s'' : SocketsState) (l l' l'' : List Link) → s'.told ≡ s.told → Keeps s l s' l' → TakesAccept r s' l' s'' l'' → TakesAccept r s l s'' l''
 accept_then (Ok (Some c)) s s' s'' l l' l'' same f h = λ told log tied. h (subst IsTrue (sym same) told) log (f told log tied)

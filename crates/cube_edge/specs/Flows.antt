@@ -53,11 +53,11 @@ is_open stage.Closing = false
 is_open stage.Finished = false
 
 -- Connection c is open where the log says so. Where there is one, what went out by the log is what its socket was given and what waits
--- behind that. While it is open, what came by the log is what was taken from its socket.
+-- behind that. While it is open, what came by the log, followed by what is unread, is what was taken from its socket.
 pub record IsTied (c : ℕ) (sockets : SocketsState) (log : List LogEntry) (link : Link) : Type 0 where
   pub opens : open_after c false log ≡ is_open link.stage
   pub sends : IsTrue (is_there link.stage) → (flow c log).sent ≡ outgoing c sockets link.waiting
-  pub comes : IsTrue (is_open link.stage) → (flow c log).came ≡ sockets.taken c
+  pub comes : IsTrue (is_open link.stage) → (flow c log).came ++ link.unread ≡ sockets.taken c
 
 -- each connection
 abbrev pub AreTied : SocketsState → List LogEntry → List Link → Type 0
@@ -86,10 +86,10 @@ TakesAccept (Ok (Some c)) old links new links' = Takes (Heard (Opened c)) old li
 TakesAccept (Ok None) old links new links' = Keeps old links new links'
 TakesAccept (Err failed) old links new links' = Keeps old links new links'
 
--- a send, or one that failed behind so many bytes
-abbrev pub TakesSend : Result (Unit {0}) ℕ → ℕ → List ℕ → SocketsState → List Link → SocketsState → List Link → Type 0
+-- a send, or one that failed and of which nothing went out
+abbrev pub TakesSend : Result (Unit {0}) Failed → ℕ → List ℕ → SocketsState → List Link → SocketsState → List Link → Type 0
 TakesSend (Ok u) c piece old links new links' = Takes (Sent c piece) old links new links'
-TakesSend (Err n) c piece old links new links' = Takes (Torn c (take n piece) (length piece)) old links new links'
+TakesSend (Err e) c piece old links new links' = Takes (Torn c [] (length piece)) old links new links'
 
 -- a turn of connection c: bytes came, or nothing did, or it is no more
 abbrev pub TurnTies : ℕ → Look → List ℕ → SocketsState → Link → SocketsState → Link → Type 0

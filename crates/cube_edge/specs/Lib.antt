@@ -1,5 +1,6 @@
 pub mod Disks
 pub mod Flows
+pub mod Lines
 pub mod Links
 pub mod Outs
 pub mod Shelves

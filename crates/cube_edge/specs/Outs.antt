@@ -18,7 +18,7 @@ no_puts path = record { path = path; written = []; faults = 0 }
 
 -- what it tells as a sink
 abbrev pub sink_of : OutState → SinkState
-sink_of out = record { written = Some out.written; faults = out.faults }
+sink_of out = record { written = Some out.written; faults = out.faults; loose = 0 }
 
 -- the path of the file beside, in which the bytes are written first
 abbrev pub path_beside : List ℕ → List ℕ

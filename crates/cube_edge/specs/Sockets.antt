@@ -4,6 +4,7 @@ use Rattle.cube_io.specs.declared.faults.Failed.{Failed}
 use Rattle.cube_edge.specs.declared.sockets.Gone.{Gone}
 use Rattle.cube_edge.specs.declared.link.Look.{Look}
 use Rattle.cube_edge.specs.declared.link.Look.TheVariants as look
+use Rattle.cube_edge.specs.Lines.{IsLine}
 
 -- Of sockets: how often they failed, whether they tell, and of each connection the bytes that were taken from it and those that it
 -- was given since it was accepted.
@@ -67,24 +68,19 @@ WriteTells c (Err e) piece old new = Moved c [] [] old new
 abbrev pub outgoing : ℕ → SocketsState → List ℕ → List ℕ
 outgoing c sockets waiting = sockets.given c ++ waiting
 
--- a write, where it is one: a front of the piece goes out behind what went before
-abbrev pub FrontGoesOut : Result ℕ Gone → List ℕ → List ℕ → List ℕ → Type 0
-FrontGoesOut (Ok n) piece old new = (n ≤ length piece) × (new ≡ old ++ take n piece)
-FrontGoesOut (Err e) piece old new = new ≡ old
-
--- a send: all of the piece goes out behind what went before, or after a failure so many bytes of it
-abbrev pub SendGoesOut : Result (Unit {0}) ℕ → List ℕ → List ℕ → List ℕ → Type 0
-SendGoesOut (Ok u) piece old new = new ≡ old ++ piece
-SendGoesOut (Err n) piece old new = new ≡ old ++ take n piece
-
--- a piece has a byte, and stands in the buffer
+-- a piece has a byte, stands in the buffer, and has no line feed but at its end
 abbrev pub LookFits : Look → List ℕ → Type 0
-LookFits (look.Piece n) buf = (0 < n) × (n ≤ length buf)
+LookFits (look.Piece n) buf = (0 < n) × (n ≤ length buf) × IsLine (take n buf)
 LookFits look.Quiet buf = Unit {0}
 LookFits look.Gone buf = Unit {0}
 
--- a look at connection c: the bytes at the front of the buffer were taken, or none
-abbrev pub LookTells : ℕ → Look → List ℕ → SocketsState → SocketsState → Type 0
-LookTells c (look.Piece n) buf old new = new.taken c ≡ old.taken c ++ take n buf
-LookTells c look.Quiet buf old new = new.taken c ≡ old.taken c
-LookTells c look.Gone buf old new = new.taken c ≡ old.taken c
+-- A look at connection c gave a piece. Where what came before, followed by what was unread, had been taken from the socket, so have
+-- what came before, the piece, and what is unread now.
+abbrev pub Gives : ℕ → List ℕ → SocketsState → List ℕ → SocketsState → List ℕ → Type 0
+Gives c piece old unread new unread' = (came : List ℕ) → came ++ unread ≡ old.taken c → came ++ (piece ++ unread') ≡ new.taken c
+
+-- a look at connection c: the bytes at the front of the buffer, or none; one that is no more gives nothing
+abbrev pub LookTells : ℕ → Look → List ℕ → SocketsState → List ℕ → SocketsState → List ℕ → Type 0
+LookTells c (look.Piece n) buf old unread new unread' = Gives c (take n buf) old unread new unread'
+LookTells c look.Quiet buf old unread new unread' = Gives c [] old unread new unread'
+LookTells c look.Gone buf old unread new unread' = Unit {0}

@@ -147,8 +147,9 @@ pub trait Disk {
         ensures done { IsTrue (state self.old).told → OnOk result (((state self.new).logs (place file.now)).state ≡ shortened ((state self.old).logs (place file.now)).state len) };
 
     /// Puts on the disk all that a read of a file gives, and then looks once more: only where that went well, what was put
-    /// there stands behind the path.
+    /// there stands behind the path. Its path is that by which the file was opened.
     fn sync(&mut self, file: &Self::File, path: &str, left: Extent) -> Result<(), Trouble>
+        requires { IsTrue (state self.old).told → place file.now ≡ path.now }
         ensures works { WorksAt path.now (state self.old) (state self.new) }
         ensures passes { IsTrue (state self.old).told → Synced ((state self.old).logs path.now) ((state self.new).logs path.now) }
         ensures done { IsTrue (state self.old).told → OnOk result (((state self.new).logs path.now).state ≡ settled ((state self.old).logs path.now).state.now) }

@@ -1,7 +1,7 @@
 // A sink that is one of two.
 ghost use Rattle.cube_edge.specs.Outs.{either_state};
 
-use cube_io::{Failed, Sink};
+use cube_io::{Failed, Sink, Store};
 
 /// One of two sinks. It tells what that one tells.
 #[derive(Drop)]
@@ -15,10 +15,12 @@ pub enum EitherSink<A, B> {
 impl<A: Sink, B: Sink> Sink for EitherSink<A, B> {
     ghost state = { either_state A.state B.state };
 
-    fn put(&mut self, piece: &[u8]) -> Result<(), Failed> {
+    ghost allows = { λ store bytes piece. A.allows store bytes piece × B.allows store bytes piece };
+
+    fn put<S: Store>(&mut self, store: &S, piece: &[u8]) -> Result<(), Failed> {
         match self {
-            EitherSink::First(sink) => sink.put(piece),
-            EitherSink::Second(sink) => sink.put(piece),
+            EitherSink::First(sink) => sink.put(store, piece),
+            EitherSink::Second(sink) => sink.put(store, piece),
         }
     }
 }

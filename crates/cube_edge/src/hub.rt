@@ -1,9 +1,10 @@
 // The connections over sockets, side by side.
-ghost use Rattle.std.specs.Prelude.{◌≡◌, ◌<◌, ◌≤◌, [], length, vec_len, slice_get, true, false, All, IsTrue, IfOk, IfErr, IfSome, IsSomeAnd};
+ghost use Rattle.std.specs.Prelude.{◌≡◌, ◌<◌, ◌≤◌, ◌+◌, ◌==◌, if◌then◌else◌, [], length, vec_len, slice_get, true, false, All, IsTrue, IfOk, IfSome, IsSomeAnd};
 ghost use Rattle.cube_io.specs.Causes.{HasCause};
 ghost use Rattle.cube_io.specs.Wires.{FitsBuffer};
 ghost use Rattle.cube_io.specs.Wires.LogEntry.{Shut};
 ghost use Rattle.cube_edge.specs.Flows.{Keeps, Takes, is_open, is_there, TakesAccept, TakesEvent, TakesNext, TakesSend, AreTied};
+ghost use Rattle.cube_edge.specs.Lines.{GivesLine};
 ghost use Rattle.cube_edge.specs.declared.link.Stage.TheVariants as stage;
 
 use crate::link::{Link, Look, Stage};
@@ -22,7 +23,9 @@ pub struct Hub<S: Sockets + Drop> {
     alloc: Global,
     pub sockets: S,
     pub links: Vec<Link>,
+    /// Whose turn it is.
     turn: usize,
+    /// The connection of the last send since an event was looked for.
     sent: usize,
     pub now: u64,
     pub idle: u64,
@@ -49,6 +52,14 @@ fn free_number(links: &[Link]) -> Option<usize>
     links.iter().position(|link| link.stage == Stage::Free)
 }
 
+// Whose turn is next once something was sent on a connection: if it was its turn, that has passed.
+fn turn_past(turn: usize, place: usize) -> usize
+    requires { place < 128 }
+    ensures { result ≡ (if turn == place then place + 1 else turn) }
+{
+    if turn == place { place + 1 } else { turn }
+}
+
 impl<S: Sockets + Drop> Hub<S> {
     /// No connection.
     pub fn new(alloc: Global, sockets: S) -> Result<Self, NoMemory>
@@ -71,12 +82,18 @@ impl<S: Sockets + Drop> Hub<S> {
         self.links.iter().all(|link| link.stage == Stage::Free)
     }
 
-    /// Waits for something to do, for at most so many milliseconds.
+    // Whether a connection has unread bytes that it gives at its turn.
+    fn has_piece(&self) -> bool {
+        self.links.iter().any(|link| link.has_piece())
+    }
+
+    /// Waits for something to do, for at most so many milliseconds; for none where unread bytes can be given.
     pub fn wait(&mut self, millis: u64) -> Result<(), Failed>
         ensures cause { HasCause (S.state self.old.sockets).faults (S.state self.new.sockets).faults result }
         ensures told { (S.state self.new.sockets).told ≡ (S.state self.old.sockets).told }
         ensures keeps { Keeps (S.state self.old.sockets) self.old.links.items (S.state self.new.sockets) self.new.links.items }
     {
+        let millis = if self.has_piece() { 0 } else { millis };
         self.now = self.sockets.wait(millis)?;
         Ok(())
     }
@@ -91,7 +108,7 @@ impl<S: Sockets + Drop> Hub<S> {
         self.sockets.listen(address)
     }
 
-    // Writes of what waits on the connection of the last send as much as it takes.
+    // Writes of what waits on the connection of the last send as much as it takes. If it has its turn, that has passed.
     fn flush(&mut self)
         ensures faults { (S.state self.new.sockets).faults ≡ (S.state self.old.sockets).faults }
         ensures told { (S.state self.new.sockets).told ≡ (S.state self.old.sockets).told }
@@ -103,38 +120,26 @@ impl<S: Sockets + Drop> Hub<S> {
             return;
         };
         let _ = link.push(&mut self.sockets, place as u32);
+        self.turn = turn_past(self.turn, place);
     }
 
-    // Makes a connection that of the last send.
-    fn begin(&mut self, c: u32)
-        ensures faults { (S.state self.new.sockets).faults ≡ (S.state self.old.sockets).faults }
-        ensures told { (S.state self.new.sockets).told ≡ (S.state self.old.sockets).told }
-        ensures keeps { Keeps (S.state self.old.sockets) self.old.links.items (S.state self.new.sockets) self.new.links.items }
-    {
-        let place = c as usize;
-        if self.sent == place {
-            return;
-        }
-        self.flush();
-        self.sent = place;
-    }
-
-    /// Sends a piece on a connection, or says how many bytes of it went out. What is sent on one connection between two looks
-    /// for an event is written together.
-    pub fn send(&mut self, c: u32, piece: &[u8]) -> Result<(), usize>
-        ensures fits { IfErr result (λ count. count ≤ length piece.now) }
-        ensures faults { (S.state self.new.sockets).faults ≡ (S.state self.old.sockets).faults }
-        ensures told { (S.state self.new.sockets).told ≡ (S.state self.old.sockets).told }
+    /// Sends a piece on a connection: it waits behind what waits, and no socket is touched. It fails where the connection is not
+    /// open, where there is no memory for the piece, or where more would wait than may; nothing of it goes out then.
+    pub fn send(&mut self, c: u32, piece: &[u8]) -> Result<(), Failed>
+        ensures sockets { self.new.sockets ≡ self.old.sockets }
         ensures takes { TakesSend result c piece.now (S.state self.old.sockets) self.old.links.items (S.state self.new.sockets) self.new.links.items }
     {
-        self.begin(c);
         let Some(link) = self.links.get_mut(c as usize) else {
-            return Err(0);
+            return Err(Failed);
         };
         if !link.is_open() {
-            return Err(0);
+            return Err(Failed);
         }
-        link.send(&mut self.sockets, c, piece)
+        self.sent = c as usize;
+        match link.send(piece) {
+            Ok(()) => Ok(()),
+            Err(NoMemory) => Err(Failed),
+        }
     }
 
     /// Whether a connection is open.
@@ -164,6 +169,7 @@ impl<S: Sockets + Drop> Hub<S> {
         requires buf { 0 < length buf.old }
         ensures size { length buf.new ≡ length buf.old }
         ensures fits { IfSome result (λ event. FitsBuffer event buf.new) }
+        ensures line { IfSome result (λ event. GivesLine event buf.new) }
         ensures faults { (S.state self.new.sockets).faults ≡ (S.state self.old.sockets).faults }
         ensures told { (S.state self.new.sockets).told ≡ (S.state self.old.sockets).told }
         ensures takes { TakesEvent result buf.new (S.state self.old.sockets) self.old.links.items (S.state self.new.sockets) self.new.links.items }
@@ -180,11 +186,24 @@ impl<S: Sockets + Drop> Hub<S> {
         }
     }
 
-    /// Looks at the connections whose turn it is, up to one of which there is something to say.
+    // Whose turn is next behind a piece of a connection: its own while a line of what is unread ends.
+    fn turn_behind(&self, place: usize) -> usize
+        requires { place < 128 }
+    {
+        if self.links[place].has_line() {
+            place
+        } else {
+            place + 1
+        }
+    }
+
+    /// Looks at the connections whose turn it is, up to one of which there is something to say. Of that it is the turn still while a
+    /// line of what is unread ends, until something is sent on it.
     pub fn pass(&mut self, buf: &mut [u8]) -> Option<Event>
         requires { 0 < length buf.old }
         ensures size { length buf.new ≡ length buf.old }
         ensures fits { IfSome result (λ event. FitsBuffer event buf.new) }
+        ensures line { IfSome result (λ event. GivesLine event buf.new) }
         ensures faults { (S.state self.new.sockets).faults ≡ (S.state self.old.sockets).faults }
         ensures told { (S.state self.new.sockets).told ≡ (S.state self.old.sockets).told }
         ensures takes { TakesEvent result buf.new (S.state self.old.sockets) self.old.links.items (S.state self.new.sockets) self.new.links.items }
@@ -192,6 +211,7 @@ impl<S: Sockets + Drop> Hub<S> {
         'links: for place in self.turn..MAX_LINKS {
             self.turn = place + 1;
             if let Some(event) = self.visit(place, buf) {
+                self.turn = self.turn_behind(place);
                 return Some(event);
             }
         }
@@ -220,11 +240,13 @@ impl<S: Sockets + Drop> Hub<S> {
         }
     }
 
-    /// The next event, where there is one now.
+    /// The next event, where there is one now. Before it is looked for, what waits on the connection of the last send is handed to
+    /// its socket.
     pub fn find(&mut self, buf: &mut [u8]) -> Result<Option<Event>, Failed>
         requires { 0 < length buf.old }
         ensures size { length buf.new ≡ length buf.old }
         ensures fits { IfOk result (λ found. IfSome found (λ event. FitsBuffer event buf.new)) }
+        ensures line { IfOk result (λ found. IfSome found (λ event. GivesLine event buf.new)) }
         ensures cause { HasCause (S.state self.old.sockets).faults (S.state self.new.sockets).faults result }
         ensures told { (S.state self.new.sockets).told ≡ (S.state self.old.sockets).told }
         ensures takes { TakesNext result buf.new (S.state self.old.sockets) self.old.links.items (S.state self.new.sockets) self.new.links.items }

@@ -9,6 +9,7 @@ mod disk;
 mod either_sink;
 mod folder;
 mod hub;
+mod lines;
 mod link;
 mod machine;
 mod machine_shelf;

@@ -1,12 +1,16 @@
 // One connection over sockets.
-ghost use Rattle.std.specs.Prelude.{◌≡◌, List, ℕ, ◌≢◌, ◌<◌, ◌≤◌, ◌-◌, ◌++◌, [], length, true, false, IsTrue, IfOk, IfErr, Some, None, unwrap_or};
+ghost use Rattle.std.specs.Prelude.{◌≡◌, List, ℕ, ◌≢◌, ◌<◌, ◌≤◌, ◌-◌, ◌++◌, ◌==◌, ◌&&◌, not, [], length, take, position, is_some, true, false, IsTrue, IfOk, OnOk, OnErr, Some, None, unwrap_or};
+ghost use Rattle.cube_edge.specs.declared.link.Look.TheVariants as look;
 ghost use Rattle.cube_edge.specs.Flows.{TurnTies, is_there, is_open};
+ghost use Rattle.cube_edge.specs.Lines.{is_feed};
 ghost use Rattle.cube_edge.specs.Links.{patience, is_late, closed_behind};
-ghost use Rattle.cube_edge.specs.Sockets.{OnlyOn, Elsewhere, MovedNothing, LookFits, LookTells, FrontGoesOut, SendGoesOut, outgoing};
+ghost use Rattle.cube_edge.specs.Sockets.{OnlyOn, Elsewhere, MovedNothing, LookFits, LookTells, outgoing};
 
+use crate::lines::{first_line, has_line};
 use crate::sink::behind;
 use crate::sockets::{Gone, Sockets};
 use crate::waiting::Waiting;
+use cube_model::NoMemory;
 use std::alloc::Global;
 
 /// How many bytes are dropped that come behind the last reply, before a connection is closed.
@@ -14,9 +18,6 @@ const MAX_DROPPED: usize = 1_048_576;
 
 /// How long they may come, in milliseconds.
 const DROPPING: u64 = 2_000;
-
-/// So many bytes may wait that nobody tried to send yet.
-const MAX_HELD: usize = 65_536;
 
 /// How far a connection is.
 #[derive(Clone, Copy, Debug, PartialEq, Eq)]
@@ -36,7 +37,7 @@ pub enum Stage {
 pub enum Look {
     /// Nothing.
     Quiet,
-    /// So many bytes, at the front of the buffer.
+    /// So many bytes, at the front of the buffer: a line, or what there is of one.
     Piece(usize),
     /// It is no more.
     Gone,
@@ -47,6 +48,8 @@ pub enum Look {
 pub struct Link {
     pub stage: Stage,
     pub waiting: Waiting,
+    /// What came and was not heard yet: no more than one read gives.
+    pub unread: Waiting,
     /// Since when it is known to be still, in milliseconds: nothing was sent on it, and it took nothing. None where that is not
     /// so since the last look.
     pub still_since: Option<u64>,
@@ -58,11 +61,13 @@ impl Link {
     pub fn new(alloc: Global, stage: Stage) -> Self
         ensures stage { result.stage ≡ stage }
         ensures waiting { result.waiting ≡ [] }
+        ensures unread { result.unread ≡ [] }
         ensures still { result.still_since ≡ None }
     {
         Link {
             stage,
             waiting: Waiting::new(alloc),
+            unread: Waiting::new(alloc),
             still_since: None,
             dropped: 0,
         }
@@ -81,6 +86,7 @@ impl Link {
         ensures late { result ≡ is_late self.old.still_since now (patience self.old.stage idle) }
         ensures since { self.new.still_since ≡ Some (unwrap_or self.old.still_since now) }
         ensures waiting { self.new.waiting ≡ self.old.waiting }
+        ensures unread { self.new.unread ≡ self.old.unread }
         ensures stage { self.new.stage ≡ self.old.stage }
     {
         let limit = match self.stage {
@@ -97,72 +103,17 @@ impl Link {
         }
     }
 
-    // Writes a front of the piece, unless other bytes wait.
-    fn write_first<S: Sockets>(
-        &mut self,
-        sockets: &mut S,
-        c: u32,
-        piece: &[u8],
-    ) -> Result<usize, Gone>
-        ensures waiting { self.new.waiting ≡ self.old.waiting }
+    /// Sends a piece: it waits behind what waits, until `push` writes it. Where there is no memory for it, or more would wait than
+    /// may, nothing of it waits.
+    pub fn send(&mut self, piece: &[u8]) -> Result<(), NoMemory>
+        ensures ok { OnOk result (self.new.waiting ≡ self.old.waiting ++ piece.now) }
+        ensures err { OnErr result (self.new.waiting ≡ self.old.waiting) }
+        ensures unread { self.new.unread ≡ self.old.unread }
         ensures stage { self.new.stage ≡ self.old.stage }
-        ensures fits { IfOk result (λ n. n ≤ length piece.now) }
-        ensures only { OnlyOn c (S.state sockets.old) (S.state sockets.new) }
-        ensures goes { IsTrue (S.state sockets.old).told → FrontGoesOut result piece.now
-            (outgoing c (S.state sockets.old) self.old.waiting) (outgoing c (S.state sockets.new) self.new.waiting) }
-        ensures taken { IsTrue (S.state sockets.old).told → (S.state sockets.new).taken c ≡ (S.state sockets.old).taken c }
-    {
-        if self.waiting.is_empty() {
-            sockets.write(c, piece)
-        } else {
-            Ok(0)
-        }
-    }
-
-    // Sends a piece now. What the connection does not take at once waits.
-    fn send_now<S: Sockets>(&mut self, sockets: &mut S, c: u32, piece: &[u8]) -> Result<(), usize>
-        ensures fits { IfErr result (λ count. count ≤ length piece.now) }
-        ensures only { OnlyOn c (S.state sockets.old) (S.state sockets.new) }
-        ensures goes { IsTrue (S.state sockets.old).told → SendGoesOut result piece.now
-            (outgoing c (S.state sockets.old) self.old.waiting) (outgoing c (S.state sockets.new) self.new.waiting) }
-        ensures taken { IsTrue (S.state sockets.old).told → (S.state sockets.new).taken c ≡ (S.state sockets.old).taken c }
-        ensures stage { self.new.stage ≡ self.old.stage }
-    {
-        let count = match self.write_first(sockets, c, piece) {
-            Ok(count) => count,
-            Err(Gone) => return Err(0),
-        };
-        match self.waiting.add(behind(piece, count)) {
-            Ok(()) => Ok(()),
-            Err(_) => Err(count),
-        }
-    }
-
-    // Holds a short piece back, behind what waits.
-    fn hold(&mut self, piece: &[u8]) -> bool
-        ensures held { IsTrue result → self.new.waiting ≡ self.old.waiting ++ piece.now }
-        ensures left { result ≡ false → self.new.waiting ≡ self.old.waiting }
-        ensures stage { self.new.stage ≡ self.old.stage }
-    {
-        let len = self.waiting.as_slice().len();
-        len < MAX_HELD && piece.len() < MAX_HELD - len && self.waiting.add(piece).is_ok()
-    }
-
-    /// Sends a piece. A short one waits for what is sent next, until `push` writes both. A send that fails says how many bytes
-    /// of it went out.
-    pub fn send<S: Sockets>(&mut self, sockets: &mut S, c: u32, piece: &[u8]) -> Result<(), usize>
-        ensures fits { IfErr result (λ count. count ≤ length piece.now) }
-        ensures only { OnlyOn c (S.state sockets.old) (S.state sockets.new) }
-        ensures goes { IsTrue (S.state sockets.old).told → SendGoesOut result piece.now
-            (outgoing c (S.state sockets.old) self.old.waiting) (outgoing c (S.state sockets.new) self.new.waiting) }
-        ensures taken { IsTrue (S.state sockets.old).told → (S.state sockets.new).taken c ≡ (S.state sockets.old).taken c }
-        ensures stage { self.new.stage ≡ self.old.stage }
+        ensures still { self.new.still_since ≡ None }
     {
         self.still_since = None;
-        if self.hold(piece) {
-            return Ok(());
-        }
-        self.send_now(sockets, c, piece)
+        self.waiting.add(piece)
     }
 
     /// Writes of what waits as much as the connection takes.
@@ -171,6 +122,7 @@ impl Link {
         ensures goes { IsTrue (S.state sockets.old).told
             → outgoing c (S.state sockets.new) self.new.waiting ≡ outgoing c (S.state sockets.old) self.old.waiting }
         ensures taken { IsTrue (S.state sockets.old).told → (S.state sockets.new).taken c ≡ (S.state sockets.old).taken c }
+        ensures unread { self.new.unread ≡ self.old.unread }
         ensures moved { self.new.waiting ≢ self.old.waiting → self.new.still_since ≡ None }
         ensures stage { self.new.stage ≡ self.old.stage }
     {
@@ -185,13 +137,103 @@ impl Link {
         Ok(())
     }
 
-    // Writes what waits, and reads where nothing does.
+    /// Whether a line of what is unread ends.
+    pub fn has_line(&self) -> bool
+        ensures { result ≡ is_some (position is_feed self.now.unread) }
+    {
+        has_line(self.unread.as_slice())
+    }
+
+    /// Whether it has unread bytes that it gives at its turn: none waits to be sent.
+    pub fn has_piece(&self) -> bool
+        ensures { result ≡ (length self.now.waiting == 0) && not (length self.now.unread == 0) }
+    {
+        self.waiting.is_empty() && !self.unread.is_empty()
+    }
+
+    // Puts the first line of what is unread at the front of the buffer. Tells how many bytes it has.
+    fn give(&mut self, buf: &mut [u8]) -> usize
+        requires some { 0 < length self.old.unread }
+        requires buf { 0 < length buf.old }
+        ensures size { length buf.new ≡ length buf.old }
+        ensures fits { LookFits (look.Piece result) buf.new }
+        ensures unread { self.old.unread ≡ take result buf.new ++ self.new.unread }
+        ensures waiting { self.new.waiting ≡ self.old.waiting }
+        ensures still { self.new.still_since ≡ self.old.still_since }
+        ensures stage { self.new.stage ≡ self.old.stage }
+    {
+        let line = first_line(self.unread.as_slice(), buf.len());
+        let count = line.len();
+        buf[..count].copy_from_slice(line);
+        self.unread.shorten(count);
+        count
+    }
+
+    // Keeps what stands behind the first line of what came. Tells how many bytes that has.
+    fn keep(&mut self, came: &[u8]) -> Result<usize, NoMemory>
+        requires some { 0 < length came.now }
+        requires none { self.old.unread ≡ [] }
+        ensures fits { IfOk result (λ n. LookFits (look.Piece n) came.now) }
+        ensures unread { IfOk result (λ n. came.now ≡ take n came.now ++ self.new.unread) }
+        ensures waiting { self.new.waiting ≡ self.old.waiting }
+        ensures still { self.new.still_since ≡ self.old.still_since }
+        ensures stage { self.new.stage ≡ self.old.stage }
+    {
+        let count = first_line(came, came.len()).len();
+        match self.unread.add(behind(came, count)) {
+            Ok(()) => Ok(count),
+            Err(NoMemory) => Err(NoMemory),
+        }
+    }
+
+    // Reads what is there, gives the first line of it, and keeps the rest. Where there is no memory for that, it is no more.
+    fn fetch<S: Sockets>(&mut self, sockets: &mut S, c: u32, buf: &mut [u8]) -> Look
+        requires buf { 0 < length buf.old }
+        requires none { self.old.unread ≡ [] }
+        ensures size { length buf.new ≡ length buf.old }
+        ensures only { OnlyOn c (S.state sockets.old) (S.state sockets.new) }
+        ensures fits { LookFits result buf.new }
+        ensures hears { IsTrue (S.state sockets.old).told → LookTells c result buf.new (S.state sockets.old) self.old.unread (S.state sockets.new) self.new.unread }
+        ensures given { IsTrue (S.state sockets.old).told → (S.state sockets.new).given c ≡ (S.state sockets.old).given c }
+        ensures waiting { self.new.waiting ≡ self.old.waiting }
+        ensures still { self.new.still_since ≡ self.old.still_since }
+        ensures stage { self.new.stage ≡ self.old.stage }
+    {
+        match sockets.read(c, buf) {
+            Ok(Some(count)) => match self.keep(&buf[..count]) {
+                Ok(line) => Look::Piece(line),
+                Err(NoMemory) => Look::Gone,
+            },
+            Ok(None) => Look::Quiet,
+            Err(Gone) => Look::Gone,
+        }
+    }
+
+    // The next line: of what is unread where something is, and else of what is there.
+    fn next_line<S: Sockets>(&mut self, sockets: &mut S, c: u32, buf: &mut [u8]) -> Look
+        requires { 0 < length buf.old }
+        ensures size { length buf.new ≡ length buf.old }
+        ensures only { OnlyOn c (S.state sockets.old) (S.state sockets.new) }
+        ensures fits { LookFits result buf.new }
+        ensures hears { IsTrue (S.state sockets.old).told → LookTells c result buf.new (S.state sockets.old) self.old.unread (S.state sockets.new) self.new.unread }
+        ensures given { IsTrue (S.state sockets.old).told → (S.state sockets.new).given c ≡ (S.state sockets.old).given c }
+        ensures waiting { self.new.waiting ≡ self.old.waiting }
+        ensures still { self.new.still_since ≡ self.old.still_since }
+        ensures stage { self.new.stage ≡ self.old.stage }
+    {
+        if self.unread.is_empty() {
+            return self.fetch(sockets, c, buf);
+        }
+        Look::Piece(self.give(buf))
+    }
+
+    // Writes what waits, and gives the next line where nothing does.
     fn hear<S: Sockets>(&mut self, sockets: &mut S, c: u32, buf: &mut [u8]) -> Look
         requires { 0 < length buf.old }
         ensures size { length buf.new ≡ length buf.old }
         ensures only { OnlyOn c (S.state sockets.old) (S.state sockets.new) }
         ensures fits { LookFits result buf.new }
-        ensures hears { IsTrue (S.state sockets.old).told → LookTells c result buf.new (S.state sockets.old) (S.state sockets.new) }
+        ensures hears { IsTrue (S.state sockets.old).told → LookTells c result buf.new (S.state sockets.old) self.old.unread (S.state sockets.new) self.new.unread }
         ensures goes { IsTrue (S.state sockets.old).told
             → outgoing c (S.state sockets.new) self.new.waiting ≡ outgoing c (S.state sockets.old) self.old.waiting }
         ensures moved { self.new.waiting ≢ self.old.waiting → self.new.still_since ≡ None }
@@ -203,16 +245,18 @@ impl Link {
         if !self.waiting.is_empty() {
             return Look::Quiet;
         }
-        read(sockets, c, buf)
+        self.next_line(sockets, c, buf)
     }
 
-    /// Closes it behind what waits.
+    /// Closes it behind what waits. What is unread is dropped.
     pub fn close<S: Sockets>(&mut self, sockets: &mut S, c: u32)
         ensures faults { (S.state sockets.new).faults ≡ (S.state sockets.old).faults }
         ensures quiet { MovedNothing (S.state sockets.old) (S.state sockets.new) }
         ensures waiting { self.new.waiting ≡ self.old.waiting }
+        ensures unread { self.new.unread ≡ [] }
         ensures stage { self.new.stage ≡ closed_behind self.old.waiting }
     {
+        self.unread.clear();
         self.stage = Stage::Closing;
         if self.waiting.is_empty() {
             sockets.finish(c);
@@ -237,14 +281,14 @@ impl Link {
         if self.stage == Stage::Closing {
             self.close(sockets, c);
         }
-        match read(sockets, c, buf) {
-            Look::Piece(count) => self.drop_bytes(count),
-            Look::Gone if self.waiting.is_empty() => Look::Gone,
-            Look::Gone | Look::Quiet => Look::Quiet,
+        match sockets.read(c, buf) {
+            Ok(Some(count)) => self.drop_bytes(count),
+            Err(Gone) if self.waiting.is_empty() => Look::Gone,
+            Err(Gone) | Ok(None) => Look::Quiet,
         }
     }
 
-    /// Writes what waits. Of an open connection it reads where nothing waits, and of another what comes is dropped.
+    /// Writes what waits. An open connection gives its next line where nothing waits, and of another what comes is dropped.
     pub fn visit<S: Sockets>(&mut self, sockets: &mut S, c: u32, buf: &mut [u8]) -> Look
         requires { 0 < length buf.old }
         ensures size { length buf.new ≡ length buf.old }
@@ -253,7 +297,7 @@ impl Link {
         ensures goes { IsTrue (S.state sockets.old).told
             → outgoing c (S.state sockets.new) self.new.waiting ≡ outgoing c (S.state sockets.old) self.old.waiting }
         ensures hears { IsTrue (S.state sockets.old).told → is_open self.old.stage ≡ true
-            → LookTells c result buf.new (S.state sockets.old) (S.state sockets.new) }
+            → LookTells c result buf.new (S.state sockets.old) self.old.unread (S.state sockets.new) self.new.unread }
         ensures none { is_open self.old.stage ≡ false → (bytes : List ℕ) → LookFits result bytes }
         ensures there { is_there self.old.stage ≡ false → is_there self.new.stage ≡ false }
         ensures open { is_open self.new.stage ≡ is_open self.old.stage }
@@ -305,21 +349,5 @@ impl Link {
         } else {
             Look::Quiet
         }
-    }
-}
-
-// Reads what is there.
-fn read<S: Sockets>(sockets: &mut S, c: u32, buf: &mut [u8]) -> Look
-    requires { 0 < length buf.old }
-    ensures size { length buf.new ≡ length buf.old }
-    ensures only { OnlyOn c (S.state sockets.old) (S.state sockets.new) }
-    ensures fits { LookFits result buf.new }
-    ensures hears { IsTrue (S.state sockets.old).told → LookTells c result buf.new (S.state sockets.old) (S.state sockets.new) }
-    ensures given { IsTrue (S.state sockets.old).told → (S.state sockets.new).given c ≡ (S.state sockets.old).given c }
-{
-    match sockets.read(c, buf) {
-        Ok(Some(count)) => Look::Piece(count),
-        Ok(None) => Look::Quiet,
-        Err(Gone) => Look::Gone,
     }
 }

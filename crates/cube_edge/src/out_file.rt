@@ -1,5 +1,5 @@
 // A file whose bytes are put in the place of the old ones at once.
-ghost use Rattle.std.specs.Prelude.{◌≡◌, ◌≢◌, ◌++◌, [], Some, IsTrue, IsErr, IfOk, OnOk, OnErr};
+ghost use Rattle.std.specs.Prelude.{◌≡◌, ◌≢◌, ◌++◌, ⊤, [], Some, IsTrue, IsErr, IfOk, OnOk, OnErr};
 ghost use Rattle.cube_io.specs.Causes.{HasCause};
 ghost use Rattle.cube_io.specs.Content.{PutAppends};
 ghost use Rattle.cube_io.specs.States.{Gained, settled};
@@ -8,7 +8,7 @@ ghost use Rattle.cube_edge.specs.Outs.{OutState, HoldsAll, path_beside, no_puts,
 
 use crate::disk::{Disk, Trouble};
 use crate::store::{LogFile, MAX_PATH, counted, note, open_log};
-use cube_io::{Failed, Sink};
+use cube_io::{Failed, Sink, Store};
 use cube_model::{NoMemory, Text};
 use std::alloc::Global;
 use std::io::Write;
@@ -47,7 +47,7 @@ fn write_file<D: Disk>(disk: &mut D, path: &str, bytes: &[u8]) -> Result<D::File
     let mut log = open_log(disk, path)?;
     log.cut(disk, path, 0)?;
     fill(&mut log, disk, path, bytes)?;
-    disk.sync(&log.file, path, log.left)?;
+    log.sync(disk, path)?;
     disk.look(&log.file, path, log.left)?;
     Ok(log.file)
 }
@@ -187,7 +187,9 @@ impl<D: Disk + Drop, N: Write + Drop> OutFile<D, N> {
 impl<D: Disk + Drop, N: Write + Drop> Sink for OutFile<D, N> {
     ghost state = { λ s. sink_of s.1 };
 
-    fn put(&mut self, piece: &[u8]) -> Result<(), Failed> {
+    ghost allows = { λ store bytes piece. ⊤ };
+
+    fn put<S: Store>(&mut self, _store: &S, piece: &[u8]) -> Result<(), Failed> {
         if piece.is_empty() {
             return Ok(());
         }

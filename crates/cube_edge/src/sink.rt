@@ -1,10 +1,10 @@
 // Sinks of bytes outside the program.
-ghost use Rattle.std.specs.Prelude.{◌≡◌, ◌≤◌, length, drop};
+ghost use Rattle.std.specs.Prelude.{◌≡◌, ◌≤◌, ⊤, length, drop};
 ghost use Rattle.std.specs.Io.{WritesAtMost};
 ghost use Rattle.std.specs.Io.KnownBytes.{WriteAppends};
 ghost use Rattle.cube_io.specs.Content.{PutAppends};
 
-use cube_io::{Failed, Sink};
+use cube_io::{Failed, Sink, Store};
 use std::io;
 use std::io::{ErrorKind, Write};
 
@@ -63,9 +63,11 @@ fn write_whole<W: Write>(out: &mut W, piece: &[u8]) -> Result<(), Failed>
 }
 
 impl<W: Write + Drop> Sink for WriterSink<W> {
-    ghost state = { λ s. record { written = W.contents s.inner; faults = s.faults } };
+    ghost state = { λ s. record { written = W.contents s.inner; faults = s.faults; loose = 0 } };
 
-    fn put(&mut self, piece: &[u8]) -> Result<(), Failed> {
+    ghost allows = { λ store bytes piece. ⊤ };
+
+    fn put<S: Store>(&mut self, _store: &S, piece: &[u8]) -> Result<(), Failed> {
         if piece.is_empty() {
             return Ok(());
         }

@@ -95,6 +95,17 @@ impl<D: Disk> LogFile<D> {
         self.left.loose = 0;
         Ok(())
     }
+
+    /// Puts on the disk all that a read of it gives, once its path was seen to stand for it.
+    pub(crate) fn sync(&self, disk: &mut D, path: &str) -> Result<(), Trouble>
+        ensures works { WorksAt path.now (D.state disk.old) (D.state disk.new) }
+        ensures passes { IsTrue (D.state disk.old).told → Synced ((D.state disk.old).logs path.now) ((D.state disk.new).logs path.now) }
+        ensures done { IsTrue (D.state disk.old).told → OnOk result (((D.state disk.new).logs path.now).state ≡ settled ((D.state disk.old).logs path.now).state.now) }
+        ensures failed { IsTrue (D.state disk.old).told → OnErr result (((D.state disk.new).logs path.now).state ≡ ((D.state disk.old).logs path.now).state) }
+    {
+        disk.look(&self.file, path, self.left)?;
+        disk.sync(&self.file, path, self.left)
+    }
 }
 
 /// Whether a log holds the seal of a journal.
@@ -333,7 +344,7 @@ impl<D: Disk + Drop, N: Write + Drop> LogFiles<D, N> {
         let Some(file) = self.files.get(&log) else {
             return Err(Failed);
         };
-        match self.disk.sync(&file.file, self.path.as_str(), file.left) {
+        match file.sync(&mut self.disk, self.path.as_str()) {
             Ok(()) => Ok(()),
             Err(trouble) => Err(note(&mut self.notes, self.path.as_str(), &trouble)),
         }

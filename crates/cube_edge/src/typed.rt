@@ -1,7 +1,7 @@
 // For a person who types queries: a mark under the byte at which one is wrong.
 ghost use Rattle.std.specs.Prelude.{◌≡◌};
 
-use cube_io::{Failed, Sink, Source};
+use cube_io::{Failed, Sink, Source, Store};
 use std::cell::Cell;
 use std::io::Write;
 
@@ -117,12 +117,14 @@ fn write_mark<W: Write>(notes: &mut W, place: usize) {
 impl<'a, O: Sink + Drop, W: Write + Drop> Sink for MarkingSink<'a, O, W> {
     ghost state = { λ s. O.state s.inner };
 
-    fn put(&mut self, piece: &[u8]) -> Result<(), Failed> {
+    ghost allows = { O.allows };
+
+    fn put<S: Store>(&mut self, store: &S, piece: &[u8]) -> Result<(), Failed> {
         if self.marks {
             if let Some(place) = lone_body(piece).and_then(named_byte) {
                 write_mark(&mut self.notes, place.saturating_add(self.start.get()));
             }
         }
-        self.inner.put(piece)
+        self.inner.put(store, piece)
     }
 }

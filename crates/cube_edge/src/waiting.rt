@@ -1,15 +1,15 @@
-// Bytes that wait to be sent.
+// Bytes that wait.
 ghost use Rattle.std.specs.Prelude.{◌≡◌, ◌==◌, ◌≤◌, ◌++◌, [], List, ℕ, length, drop, OnOk, OnErr};
 
 use cube_model::{NoMemory, Text};
 use std::alloc::Global;
 use std::marker::Model;
 
-/// The most bytes that wait on one connection. The longest answer fits: 65,536 rows, each of eight names, which have at most
+/// The most bytes that wait to be sent on one connection. The longest answer fits: 65,536 rows, each of eight names, which have at most
 /// 258 bytes as fields, and a number of at most 20 digits, with a byte behind each.
 const MAX_WAITING: usize = 268_435_456;
 
-/// Bytes that wait to be sent on one connection. It takes memory only while some do.
+/// Bytes of one connection that wait: to be sent, or to be heard. They take memory only while there are some.
 #[derive(Drop)]
 pub struct Waiting {
     alloc: Global,
@@ -62,7 +62,7 @@ impl Waiting {
         self.bytes.extend(piece)
     }
 
-    /// So many bytes went out.
+    /// So many bytes wait no more.
     pub fn shorten(&mut self, count: usize)
         requires { count ≤ length self.old }
         ensures { self.new ≡ drop count self.old }
@@ -72,5 +72,12 @@ impl Waiting {
         } else {
             *self = Waiting::new(self.alloc);
         }
+    }
+
+    /// None of them waits any more.
+    pub fn clear(&mut self)
+        ensures { self.new ≡ [] }
+    {
+        *self = Waiting::new(self.alloc);
     }
 }

@@ -1,14 +1,15 @@
 // The wire over sockets.
-ghost use Rattle.std.specs.Prelude.{◌≡◌, ◌<◌, [], length, IsTrue, IfOk, IfSome};
+ghost use Rattle.std.specs.Prelude.{◌≡◌, ◌<◌, ⊤, [], length, IsTrue, IfOk, IfSome};
 ghost use Rattle.cube_io.specs.Causes.{HasCause};
 ghost use Rattle.cube_io.specs.Wires.{FitsBuffer};
 ghost use Rattle.cube_edge.specs.Flows.{AreTied};
+ghost use Rattle.cube_edge.specs.Lines.{GivesLine};
 ghost use Rattle.cube_edge.specs.Watches.{NotesNext, wire_over};
 
 use crate::hub::{Hub, MAX_LINKS};
 use crate::sockets::Sockets;
 use crate::watch::Watch;
-use cube_io::{Event, Failed, Wire};
+use cube_io::{Event, Failed, Store, Wire};
 use cube_model::{NoMemory, Text};
 use std::alloc::Global;
 
@@ -22,12 +23,17 @@ const SETTLING: u64 = 2_000;
 /// The connections of sockets, side by side in one thread. Its watch is told of each event, send and close, and it tells what
 /// the watch tells. One that tells stands over sockets that tell their bytes, and then these are at any time the same: which
 /// connections are open by the log, and which are; of each that is there, what went out by the log since it was opened, and what
-/// its socket was given, followed by what waits; and while it is open, what came by the log, and what was taken from its socket.
+/// its socket was given, followed by what waits; and while it is open, what came by the log, followed by what is unread, and what
+/// was taken from its socket.
 ///
-/// A number belongs to one open connection, and another one gets it only once that one was closed. What a connection does not
-/// take of a reply waits, and nothing is read of it meanwhile; the others do not wait for it. A connection whose read or write
-/// fails counts as closed by the other side, and one that for too long was sent nothing and took nothing is closed. The wire has
-/// no end. Where the watch has no space for what is to come, `next`, `listen` and `send` fail.
+/// A number belongs to one open connection, and another one gets it only once that one was closed. What is sent waits, and no
+/// socket is touched until the next event is looked for. What a connection does not take of a reply then still waits, and no piece
+/// of it is given meanwhile; the others do not wait for it. A piece ends behind the first line feed of what came. The rest is unread,
+/// and while something is, the socket is not read. Behind a piece the same connection has the next turn if a line of what is unread
+/// ends and nothing was sent on it; else the others have theirs first, so that each is looked at between two requests of one. A
+/// connection whose read or write fails, or for whose unread bytes there is no memory, counts as closed by the other side, and one
+/// that for too long was sent nothing and took nothing is closed. What is unread of a connection that is closed is dropped. The wire
+/// has no end. Where the watch has no space for what is to come, `next`, `listen` and `send` fail.
 #[derive(Drop)]
 pub struct SocketWire<S: Sockets + Drop, N: Watch + Drop> {
     hub: Hub<S>,
@@ -118,6 +124,7 @@ impl<S: Sockets + Drop, N: Watch + Drop> SocketWire<S, N> {
         requires capacity { length buf.old < (N.state self.old.watch).capacity }
         ensures size { length buf.new ≡ length buf.old }
         ensures fits { IfOk result (λ found. IfSome found (λ event. FitsBuffer event buf.new)) }
+        ensures line { IfOk result (λ found. IfSome found (λ event. GivesLine event buf.new)) }
         ensures cause { HasCause (S.state self.old.hub.sockets).faults (S.state self.new.hub.sockets).faults result }
         ensures faults { (N.state self.new.watch).faults ≡ (N.state self.old.watch).faults }
         ensures sends { self.new.send_faults ≡ self.old.send_faults }
@@ -137,6 +144,8 @@ impl<S: Sockets + Drop, N: Watch + Drop> SocketWire<S, N> {
 impl<S: Sockets + Drop, N: Watch + Drop> Wire for SocketWire<S, N> {
     ghost state = { λ w. wire_over (S.state w.hub.sockets) (N.state w.watch) w.send_faults };
 
+    ghost allows = { λ store log. ⊤ };
+
     fn listen(&mut self, address: &Text, idle: u32) -> Result<(), Failed> {
         match self.watch.listen(address) {
             Ok(()) => self.hub.listen(address, idle),
@@ -144,7 +153,7 @@ impl<S: Sockets + Drop, N: Watch + Drop> Wire for SocketWire<S, N> {
         }
     }
 
-    fn next(&mut self, buf: &mut [u8]) -> Result<Event, Failed> {
+    fn next<D: Store>(&mut self, _store: &D, buf: &mut [u8]) -> Result<Event, Failed> {
         match self.watch.expect_event(buf.len()) {
             Ok(()) => {}
             Err(Failed) => return Err(Failed),
@@ -170,8 +179,8 @@ impl<S: Sockets + Drop, N: Watch + Drop> Wire for SocketWire<S, N> {
                 self.watch.sent(c, piece);
                 Ok(())
             }
-            Err(count) => {
-                self.watch.torn(c, &piece[..count], piece.len());
+            Err(Failed) => {
+                self.watch.torn(c, b"", piece.len());
                 self.send_faults = self.send_faults.saturating_add(1);
                 Err(Failed)
             }

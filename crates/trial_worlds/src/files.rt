@@ -70,8 +70,8 @@ fn try_calls(alloc: Global, failing: u64, notes: &mut [u8]) -> Result<(Went, Tex
 
 #[test]
 fn a_call_that_fails_is_noted_and_the_next_goes_on(rt: HostRuntime) -> Result<(), Fail> {
-    // Attaching is four calls. The look is the next, and the piece is written in two.
-    let cases: &[(u64, Went, &[u8], &[u8]); 6] = &[
+    // Attaching is four calls. The look is the next, and the piece is written in two. A sync looks before it, too.
+    let cases: &[(u64, Went, &[u8], &[u8]); 7] = &[
         (4, (false, true, true), b"more", b"log: moved or deleted\n"),
         (5, (false, true, true), b"more", b"log: no storage space\n"),
         (
@@ -84,10 +84,16 @@ fn a_call_that_fails_is_noted_and_the_next_goes_on(rt: HostRuntime) -> Result<()
             7,
             (true, false, true),
             b"kept\nmore",
-            b"log: no storage space\n",
+            b"log: moved or deleted\n",
         ),
         (
             8,
+            (true, false, true),
+            b"kept\nmore",
+            b"log: no storage space\n",
+        ),
+        (
+            9,
             (true, true, false),
             b"kept\n",
             b"log: moved or deleted\n",

@@ -1,7 +1,7 @@
 // Outputs that are put whole into a file, over a disk in memory whose calls fail, and one of two sinks.
 use crate::mem_disk::MemDisk;
 use cube_edge::{EitherSink, OutFile, replace_whole};
-use cube_io::{MemSink, Sink};
+use cube_io::{MemSink, NullStore, Sink};
 use cube_model::Text;
 use std::alloc::Global;
 use std::test::Fail;
@@ -44,12 +44,12 @@ fn replace_twice(
 
 #[test]
 fn a_file_is_the_old_one_or_the_new(rt: HostRuntime) -> Result<(), Fail> {
-    // The first takes eleven calls, and the next one more, since it writes twice. Behind call 21 the file has its place.
-    for failing in 11u64..24 {
+    // The first takes twelve calls, and the next one more, since it writes twice. Behind call 23 the file has its place.
+    for failing in 12u64..26 {
         let (first, next) = replace_twice(rt.alloc(), failing, b"old", b"newer")?;
-        let wanted: &[u8] = if failing < 22 { b"old" } else { b"newer" };
+        let wanted: &[u8] = if failing < 24 { b"old" } else { b"newer" };
         assert!(rt; is(&first, true, b"old"));
-        assert!(rt; is(&next, failing == 23, wanted));
+        assert!(rt; is(&next, failing == 25, wanted));
     }
     Ok(())
 }
@@ -57,7 +57,7 @@ fn a_file_is_the_old_one_or_the_new(rt: HostRuntime) -> Result<(), Fail> {
 #[test]
 fn what_a_failed_call_left_beside_is_no_part_of_the_next(rt: HostRuntime) -> Result<(), Fail> {
     // The first fails at its second write, or before the file has its place.
-    for failing in 7u64..11 {
+    for failing in 7u64..12 {
         let (first, next) = replace_twice(rt.alloc(), failing, b"longer", b"new")?;
         assert!(rt; is(&first, false, b""));
         assert!(rt; is(&next, true, b"new"));
@@ -77,7 +77,7 @@ fn make_out<'a>(
 
 // Puts a piece at the end of what was put.
 fn put(alloc: Global, out: &mut OutFile<MemDisk, &mut [u8]>, piece: &[u8]) -> Result<Went, Fail> {
-    let done = out.put(piece).is_ok();
+    let done = out.put(&NullStore::new(), piece).is_ok();
     let holds = out.disk().bytes_at(b"out").unwrap_or(&[]);
     Ok((done, Text::from_bytes(alloc, holds)?))
 }
@@ -123,10 +123,11 @@ fn make_sink(alloc: Global) -> Result<MemSink, Fail> {
 #[test]
 fn one_of_two_sinks_is_put_to(rt: HostRuntime) -> Result<(), Fail> {
     let alloc = rt.alloc();
+    let store = NullStore::new();
     let mut first: EitherSink<MemSink, MemSink> = EitherSink::First(make_sink(alloc)?);
     let mut second: EitherSink<MemSink, MemSink> = EitherSink::Second(make_sink(alloc)?);
-    assert!(rt; first.put(b"a").is_ok());
-    assert!(rt; second.put(b"b").is_ok());
+    assert!(rt; first.put(&store, b"a").is_ok());
+    assert!(rt; second.put(&store, b"b").is_ok());
     assert!(rt; matches!(&first, EitherSink::First(sink) if sink.bytes() == b"a".as_slice()));
     assert!(rt; matches!(&second, EitherSink::Second(sink) if sink.bytes() == b"b".as_slice()));
     Ok(())

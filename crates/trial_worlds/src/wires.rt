@@ -3,7 +3,7 @@ ghost use Rattle.std.specs.Prelude.{◌≡◌, [], length, IfOk};
 
 use crate::mem_sockets::MemSockets;
 use cube_edge::{MemWatch, SocketWire};
-use cube_io::{Event, Note, Wire};
+use cube_io::{Event, Note, NullStore, Wire};
 use cube_model::Text;
 use std::alloc::Global;
 use std::test::Fail;
@@ -25,10 +25,11 @@ fn answer(wire: &mut TrialWire, buf: &mut [u8]) -> Result<(), Fail>
     requires log { (⟦<TrialWire as Wire>⟧.state wire.old).log ≡ [] }
     requires buf { length buf.old ≡ 65536 }
 {
-    let Ok(Event::Opened(c)) = wire.next(buf) else {
+    let store = NullStore::new();
+    let Ok(Event::Opened(c)) = wire.next(&store, buf) else {
         return Err("no client".into());
     };
-    let Ok(Event::Piece(_, _)) = wire.next(buf) else {
+    let Ok(Event::Piece(_, _)) = wire.next(&store, buf) else {
         return Err("no byte".into());
     };
     let Ok(()) = wire.send(c, b"hello") else {

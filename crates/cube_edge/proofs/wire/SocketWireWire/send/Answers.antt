@@ -1,4 +1,4 @@
-use Rattle.std.proofs.Common.{refl, length, take, drop, sym, take-append-drop, []}
+use Rattle.std.proofs.Common.{refl, ap, length, []}
 use Rattle.cube_edge.proofs.Tying.{still_tells, told_step, no_send_takes}
 use Rattle.cube_io.specs.Wires.LogEntry.{Sent, Torn}
 use Rattle.cube_edge.proofs.wire.SocketWireWire.send.Goals as goal
@@ -11,15 +11,15 @@ invariant_of-self g c = record {
 
 pub invariant_of-self-in-Ok : goal.invariant_of-self-in-Ok
 invariant_of-self-in-Ok g c = record {
-  tells = still_tells (g.N.Watch.state c.args.self.now.watch) (g.N.Watch.state c.sent.new.self) (g.S.Sockets.state c.args.self.now.hub.sockets) (g.S.Sockets.state c.send.new.self.sockets) c.sent.ensures.told c.send.ensures.told c.args.self.now.tells;
+  tells = still_tells (g.N.Watch.state c.args.self.now.watch) (g.N.Watch.state c.sent.new.self) (g.S.Sockets.state c.args.self.now.hub.sockets) (g.S.Sockets.state c.send.new.self.sockets) c.sent.ensures.told (ap (λ s. (g.S.Sockets.state s).told) c.send.ensures.sockets) c.args.self.now.tells;
   tied = told_step (Sent c.args.c c.args.piece.now) (g.N.Watch.state c.args.self.now.watch) (g.N.Watch.state c.sent.new.self) (g.S.Sockets.state c.args.self.now.hub.sockets) (g.S.Sockets.state c.send.new.self.sockets) c.args.self.now.hub.links.items c.send.new.self.links.items c.sent.ensures c.in-Ok.ensures.takes c.args.self.now.tells c.args.self.now.tied;
 }
 
 pub invariant_of-self-in-Err : goal.invariant_of-self-in-Err
 invariant_of-self-in-Err g c = record {
-  tells = still_tells (g.N.Watch.state c.args.self.now.watch) (g.N.Watch.state c.torn-in-Err.new.self) (g.S.Sockets.state c.args.self.now.hub.sockets) (g.S.Sockets.state c.send.new.self.sockets) c.torn-in-Err.ensures.told c.send.ensures.told c.args.self.now.tells;
-  tied = told_step (Torn c.args.c (take c.in-Err.count c.args.piece.now) (length c.args.piece.now)) (g.N.Watch.state c.args.self.now.watch) (g.N.Watch.state c.torn-in-Err.new.self) (g.S.Sockets.state c.args.self.now.hub.sockets) (g.S.Sockets.state c.send.new.self.sockets) c.args.self.now.hub.links.items c.send.new.self.links.items c.torn-in-Err.ensures c.in-Err.ensures.takes c.args.self.now.tells c.args.self.now.tied;
+  tells = still_tells (g.N.Watch.state c.args.self.now.watch) (g.N.Watch.state c.torn-in-Err.new.self) (g.S.Sockets.state c.args.self.now.hub.sockets) (g.S.Sockets.state c.send.new.self.sockets) c.torn-in-Err.ensures.told (ap (λ s. (g.S.Sockets.state s).told) c.send.ensures.sockets) c.args.self.now.tells;
+  tied = told_step (Torn c.args.c [] (length c.args.piece.now)) (g.N.Watch.state c.args.self.now.watch) (g.N.Watch.state c.torn-in-Err.new.self) (g.S.Sockets.state c.args.self.now.hub.sockets) (g.S.Sockets.state c.send.new.self.sockets) c.args.self.now.hub.links.items c.send.new.self.links.items c.torn-in-Err.ensures c.in-Err.ensures.takes c.args.self.now.tells c.args.self.now.tied;
 }
 
 pub returns-in-Err-clause-log : goal.returns-in-Err-clause-log
-returns-in-Err-clause-log g c = λ told. (take c.in-Err.count c.args.piece.now, drop c.in-Err.count c.args.piece.now, sym (take-append-drop c.in-Err.count c.args.piece.now), c.torn-in-Err.ensures.log told)
+returns-in-Err-clause-log g c = λ told. ([], c.args.piece.now, refl, c.torn-in-Err.ensures.log told)
