@@ -6,6 +6,7 @@ use Rattle.cube_io.specs.Desks.{IsConstant, Answered, ForeignStay, GivesRooms, L
 use Rattle.cube_io.specs.Seen.{StoreState}
 use Rattle.cube_io.specs.States.{State, Log, Gained}
 use Rattle.cube_io.proofs.Leaving.{leaves_all_none, leaves_all_map}
+use Rattle.cube_io.proofs.Outcomes.{memory_or_not}
 use Rattle.cube_io.proofs.Trails.{gained_none, gained_map}
 use Rattle.cube_model.specs.declared.outcome.Outcome.{Outcome}
 use Rattle.cube_model.specs.declared.outcome.Outcome.TheVariants.{Given, JournalFault, NoMemory}
@@ -76,11 +77,6 @@ answered_one x y line reply short same some left a =
       risen = risen_by a.outcome x.store.faults y.store.faults a.later (λ is. (a.failed is).0);
       fresh = (λ long. tt, λ ask. (λ is. (a.failed is).1, tt));
     }
-
-memory_or_not : (o : Outcome) → (o ≡ NoMemory) ⊎ (o ≢ NoMemory)
-memory_or_not Given = inr (λ e. cc)
-memory_or_not JournalFault = inr (λ e. cc)
-memory_or_not NoMemory = inl refl
 
 -- what a desk says of one ask is what is said of its line
 pub one_serves : (x y : Moment) (line : List ℕ) (reply : Reply)

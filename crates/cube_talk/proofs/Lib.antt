@@ -3,6 +3,7 @@ pub mod AskCrash
 pub mod Cuts
 pub mod Kept
 pub mod Pieces
+pub mod Puttings
 pub mod Settled
 pub mod Speech
 pub mod Spoken

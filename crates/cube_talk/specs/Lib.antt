@@ -5,6 +5,7 @@ pub mod Replies
 pub mod Sums
 pub mod SumLaws
 pub mod Moments
+pub mod Putting
 pub mod Asks
 pub mod AskLaws
 pub mod Crashes

@@ -1,9 +1,11 @@
 // The lines of `ask`, each of which a desk answers.
-ghost use Rattle.std.specs.Prelude.{◌≡◌, ◌≢◌, ◌==◌, ◌≤◌, ◌∷◌, [], true, false, length, IfOk};
+ghost use Rattle.std.specs.Prelude.{◌≡◌, ◌≢◌, ◌==◌, ◌≤◌, ◌∷◌, [], IsTrue, true, false, length, IfOk};
+ghost use Rattle.cube_io.specs.Desks.{entries};
 ghost use Rattle.cube_io.specs.Seen.{seen};
 ghost use Rattle.cube_talk.specs.Asks.{ask_of as ask_in, question_of as question_in};
 ghost use Rattle.cube_talk.specs.Crashes.{AnswersDurably, TalkedOver};
 ghost use Rattle.cube_talk.specs.Moments.{moment};
+ghost use Rattle.cube_talk.specs.Putting.{Permits};
 ghost use Rattle.cube_talk.specs.Replies.{reply_text};
 ghost use Rattle.cube_talk.specs.Talk.{RoseWhere};
 ghost use Rattle.cube_talk.specs.CrashLaws.{serves_none, serves_onward, serves_alike};
@@ -61,6 +63,7 @@ fn ask<S: Store, D: Desk<S>>(alloc: Global, desk: &mut D, store: &mut S, line: &
     ensures serves { let at = moment D.manner D.rooms D.outcomes D.capacity D.exact D.within in
         AnswersDurably (at desk.old (S.state store.old)) (at desk.new (S.state store.new)) (line.now ∷ []) (reply_text result) }
     ensures fits { D.fits desk.new store.new }
+    ensures told { (S.state store.new).told ≡ (S.state store.old).told }
 {
     match ask_of(alloc, line) {
         Ok(ask) => desk.answer(alloc, store, &ask),
@@ -76,6 +79,8 @@ impl<S: Store, D: Desk<S> + Drop> Responder<S> for Asks<D> {
     ghost stands = { λ x s. D.fits x.desk s };
 
     ghost done = { λ x. D.capacity x.desk == 0 };
+
+    ghost kept = { λ x. entries (D.rooms x.desk) };
 
     ghost lacks = { false };
 
@@ -97,6 +102,10 @@ impl<S: Store, D: Desk<S> + Drop> Responder<S> for Asks<D> {
         Ok(Said::Reply(reply))
     }
 
+    fn held(&self) -> u64 {
+        self.desk.held()
+    }
+
     fn is_done(&self) -> bool {
         self.desk.left() == 0
     }
@@ -115,9 +124,12 @@ pub fn converse_by_asks<S: Store, D: Desk<S> + Drop, I: Source, O: Sink>(
     requires fits { D.fits desk store.old }
     requires capacity { 1 ≤ D.capacity desk }
     requires fresh { D.outcomes desk ≡ [] }
+    requires permits { let at = moment D.manner D.rooms D.outcomes D.capacity D.exact D.within in
+        Permits (λ d s ls e t text. AnswersDurably (at d (S.state s)) (at e (S.state t)) ls text) (λ d. entries (D.rooms d)) S.state O.allows desk store.old (O.state out.old).written }
     ensures talked { let at = moment D.manner D.rooms D.outcomes D.capacity D.exact D.within in
         TalkedOver (at desk (S.state store.old)) (at result.1 (S.state store.new)) result.0 (seen I.state input.old input.new) (seen O.state out.old out.new) }
     ensures later { (S.state store.old).faults ≤ (S.state store.new).faults }
+    ensures sight { IsTrue (S.state store.old).told → (O.state out.new).loose ≡ (O.state out.old).loose }
     ensures memory { result.0.ending ≢ Ending.NoMemory }
     ensures ended { result.0.ending ≡ Ending.Ended → (I.state input.new).ended ≡ true }
     ensures input { RoseWhere (result.0.ending ≡ Ending.InputFailed) (I.state input.old).faults (I.state input.new).faults }

@@ -1,13 +1,14 @@
 // What is said to the lines of an input.
-ghost use Rattle.std.specs.Prelude.{◌≡◌, ◌≤◌, ◌<◌, ◌+◌, ◌++◌, [], length, take, IsOk, OnOk, OnErr};
+ghost use Rattle.std.specs.Prelude.{◌≡◌, ◌≤◌, ◌<◌, ◌+◌, ◌++◌, [], length, take, IsTrue, IsOk, OnOk, OnErr};
 ghost use Rattle.std.specs.Io.KnownBytes.{Appends};
 ghost use Rattle.cube_io.specs.Causes.{HasCause};
 ghost use Rattle.cube_io.specs.Content.{AppendsPrefix};
+ghost use Rattle.cube_talk.specs.Putting.{MayPut};
 ghost use Rattle.cube_talk.specs.Replies.{head_text, reply_text, said_text};
 ghost use Rattle.cube_talk.specs.Talk.{Spoke};
 
 use cube_http::{body_of, status_of};
-use cube_io::{Failed, Sink};
+use cube_io::{Failed, Sink, Store};
 use cube_model::{Reply, Text};
 use cube_text::{LINE, write_at};
 use itoa::Buffer;
@@ -61,53 +62,71 @@ impl Replies {
     }
 
     /// Writes all that waits.
-    pub fn flush<O: Sink>(&mut self, out: &mut O) -> Result<(), Failed>
+    pub fn flush<S: Store, O: Sink>(&mut self, store: &S, out: &mut O) -> Result<(), Failed>
+        requires { MayPut O.allows (S.state store.now) (O.state out.old).written self.old }
         ensures ok { OnOk result ((self.new ≡ []) × Appends (O.state out.old).written (O.state out.new).written self.old) }
         ensures err { OnErr result (AppendsPrefix (O.state out.old).written (O.state out.new).written self.old) }
         ensures empty { self.old ≡ [] → IsOk result }
         ensures cause { HasCause (O.state out.old).faults (O.state out.new).faults result }
+        ensures sight { IsTrue (S.state store.now).told → (O.state out.new).loose ≡ (O.state out.old).loose }
     {
-        out.put(self.waiting.as_slice())?;
+        out.put(store, self.waiting.as_slice())?;
         self.waiting.clear();
         Ok(())
     }
 
     // Says some bytes.
-    #[tactic(auto, using(crate::proofs::Spoken::spoke_kept, crate::proofs::Spoken::spoke_put, crate::proofs::Spoken::broken_before, crate::proofs::Spoken::broken_behind))]
-    fn put<O: Sink>(&mut self, out: &mut O, bytes: &[u8]) -> Result<(), Failed>
+    #[tactic(auto, using(crate::proofs::Spoken::spoke_kept, crate::proofs::Spoken::spoke_put, crate::proofs::Spoken::broken_before, crate::proofs::Spoken::broken_behind, crate::proofs::Puttings::may_front))]
+    fn put<S: Store, O: Sink>(&mut self, store: &S, out: &mut O, bytes: &[u8]) -> Result<(), Failed>
+        requires { MayPut O.allows (S.state store.now) (O.state out.old).written (self.old ++ bytes.now) }
         ensures ok { OnOk result (Spoke bytes.now self.old self.new (O.state out.old).written (O.state out.new).written) }
         ensures err { OnErr result (AppendsPrefix (O.state out.old).written (O.state out.new).written (self.old ++ bytes.now)) }
         ensures cause { HasCause (O.state out.old).faults (O.state out.new).faults result }
+        ensures sight { IsTrue (S.state store.now).told → (O.state out.new).loose ≡ (O.state out.old).loose }
     {
         if self.waiting.extend_from_slice(bytes).is_ok() {
             return Ok(());
         }
-        self.flush(out)?;
-        out.put(bytes)
+        self.flush(store, out)?;
+        out.put(store, bytes)
     }
 
-    fn put_reply<O: Sink>(&mut self, out: &mut O, reply: &Reply) -> Result<(), Failed>
+    fn put_reply<S: Store, O: Sink>(
+        &mut self,
+        store: &S,
+        out: &mut O,
+        reply: &Reply,
+    ) -> Result<(), Failed>
+        requires { MayPut O.allows (S.state store.now) (O.state out.old).written (self.old ++ reply_text reply.now) }
         ensures ok { OnOk result (Spoke (reply_text reply.now) self.old self.new (O.state out.old).written (O.state out.new).written) }
         ensures err { OnErr result (AppendsPrefix (O.state out.old).written (O.state out.new).written (self.old ++ reply_text reply.now)) }
         ensures cause { HasCause (O.state out.old).faults (O.state out.new).faults result }
+        ensures sight { IsTrue (S.state store.now).told → (O.state out.new).loose ≡ (O.state out.old).loose }
     {
         let body = body_of(reply);
         let mut head = [0u8; LINE];
         let end = write_prefix(&mut head, status_of(reply), body.len());
-        self.put(out, &head[..end])?;
-        self.put(out, body)?;
+        self.put(store, out, &head[..end])?;
+        self.put(store, out, body)?;
         Ok(())
     }
 
     /// Says what is said to a line.
-    pub fn say<O: Sink>(&mut self, out: &mut O, said: &Said) -> Result<(), Failed>
+    pub fn say<S: Store, O: Sink>(
+        &mut self,
+        store: &S,
+        out: &mut O,
+        said: &Said,
+    ) -> Result<(), Failed>
+        requires { MayPut O.allows (S.state store.now) (O.state out.old).written (self.old ++ said_text said.now) }
         ensures ok { OnOk result (Spoke (said_text said.now) self.old self.new (O.state out.old).written (O.state out.new).written) }
         ensures err { OnErr result (AppendsPrefix (O.state out.old).written (O.state out.new).written (self.old ++ said_text said.now)) }
         ensures cause { HasCause (O.state out.old).faults (O.state out.new).faults result }
+        ensures sight { IsTrue (S.state store.now).told → (O.state out.new).loose ≡ (O.state out.old).loose }
     {
         match said {
-            Said::Text(text) => self.put(out, text.as_slice()),
-            Said::Reply(reply) => self.put_reply(out, reply),
+            Said::Text(text) => self.put(store, out, text.as_slice()),
+            Said::Reply(reply) => self.put_reply(store, out, reply),
         }
     }
 }

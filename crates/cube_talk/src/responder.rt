@@ -1,5 +1,5 @@
 // Who answers the lines of an input.
-ghost use Rattle.std.specs.Prelude.{◌≡◌, ◌<◌, ◌++◌, ◌∷◌, [], ℕ, List, Bool, true, false, length, IfOk, OnErr};
+ghost use Rattle.std.specs.Prelude.{◌≡◌, ◌<◌, ◌-◌, ◌^◌, ◌++◌, ◌∷◌, [], ℕ, min, List, Bool, true, false, length, IfOk, OnErr};
 ghost use Rattle.cube_talk.specs.Replies.{said_text};
 
 use crate::replies::Said;
@@ -21,6 +21,9 @@ pub trait Responder<S: Store> {
     /// It answers no more lines.
     ghost done: { Self → Bool };
 
+    /// How many requests it keeps.
+    ghost kept: { Self → ℕ };
+
     /// Whether it may find no memory for an answer.
     ghost lacks: { Bool };
 
@@ -30,7 +33,12 @@ pub trait Responder<S: Store> {
         requires going { done self.old ≡ false }
         ensures ok { IfOk result (λ said. says self.old store.old (line.now ∷ []) self.new store.new (said_text said)) }
         ensures err { OnErr result ((self.new ≡ self.old) × (store.new ≡ store.old) × (lacks ≡ true)) }
-        ensures stands { stands self.new store.new };
+        ensures stands { stands self.new store.new }
+        ensures told { (S.state store.new).told ≡ (S.state store.old).told };
+
+    /// How many requests it keeps, up to the end of the type.
+    fn held(&self) -> u64
+        ensures { result ≡ min (kept self.now) (2 ^ 64 - 1) };
 
     /// Whether it answers no more lines.
     fn is_done(&self) -> bool

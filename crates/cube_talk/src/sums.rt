@@ -1,5 +1,5 @@
 // The lines of `sum`, each of which is answered by the sum of the rows that match it.
-ghost use Rattle.std.specs.Prelude.{◌≡◌, [], ⊤, true, refl, IfOk};
+ghost use Rattle.std.specs.Prelude.{◌≡◌, [], ℕ, List, IsTrue, ⊤, true, refl, IfOk};
 ghost use Rattle.std.proofs.Common.{◌∙◌};
 ghost use Rattle.cube_io.specs.Seen.{seen};
 ghost use Rattle.cube_talk.specs.Sums.{AnswersSums, answer, shown, is_done, Talked};
@@ -57,6 +57,8 @@ impl<S: Store> Responder<S> for Sums {
 
     ghost done = { is_done };
 
+    ghost kept = { λ x. 0 };
+
     ghost lacks = { true };
 
     ghost silent = { λ x s. (none x, refl) };
@@ -69,6 +71,10 @@ impl<S: Store> Responder<S> for Sums {
         let text = answer_by_sum(alloc, &self.flat, line)?;
         self.lines += 1;
         Ok(Said::Text(text))
+    }
+
+    fn held(&self) -> u64 {
+        0
     }
 
     fn is_done(&self) -> bool {
@@ -86,11 +92,13 @@ pub fn converse_by_sums<S: Store, I: Source, O: Sink>(
     input: &mut I,
     out: &mut O,
 ) -> (TalkEnd, u64)
-    requires { carry ≡ [] }
+    requires carry { carry ≡ [] }
+    requires permits { IsTrue (S.state store.old).told → (bytes piece : List ℕ) → O.allows (S.state store.old) bytes piece }
     ensures talked { Talked flat result.0 result.1 (seen I.state input.old input.new) (seen O.state out.old out.new) }
     ensures ended { result.0.ending ≡ Ending.Ended → (I.state input.new).ended ≡ true }
     ensures input { RoseWhere (result.0.ending ≡ Ending.InputFailed) (I.state input.old).faults (I.state input.new).faults }
     ensures output { RoseWhere (result.0.ending ≡ Ending.OutputFailed) (O.state out.old).faults (O.state out.new).faults }
+    ensures sight { IsTrue (S.state store.old).told → (O.state out.new).loose ≡ (O.state out.old).loose }
     ensures store { store.new ≡ store.old }
 {
     let mut sums = Sums { flat, lines: 0 };

@@ -1,5 +1,5 @@
 // The answers to the lines of an input.
-ghost use Rattle.std.specs.Prelude.{position, ◌≡◌, ◌≢◌, ◌⊎◌, ◌<◌, ◌≤◌, ◌+◌, ◌-◌, ◌++◌, ◌∷◌, [], ℕ, List, length, take, false, true, All, IfOk, OnOk, OnErr, IfSome, IfNone, Ok, Some, None, Option};
+ghost use Rattle.std.specs.Prelude.{position, min, ◌^◌, IsTrue, ◌≡◌, ◌≢◌, ◌⊎◌, ◌<◌, ◌≤◌, ◌+◌, ◌-◌, ◌++◌, ◌∷◌, [], ℕ, List, length, take, false, true, All, IfOk, OnOk, OnErr, IfSome, IfNone, Ok, Some, None, Option};
 ghost use Rattle.std.specs.Str.Lines.{strip_carriage_return};
 ghost use Rattle.std.specs.Io.KnownBytes.{Appends, Consumes};
 ghost use Rattle.cube_io.specs.Causes.{Rose, HasCause};
@@ -7,10 +7,12 @@ ghost use Rattle.cube_io.specs.Content.{AppendsPrefix};
 ghost use Rattle.cube_io.specs.Seen.{seen};
 ghost use Rattle.cube_talk.specs.Lines.{is_feed};
 ghost use Rattle.cube_talk.specs.Talk.{IsKept, Spoke, Puts, RoseWhere, Conversed};
+ghost use Rattle.cube_talk.specs.Putting.{Permits, MayPut, MayAnswer, InSight};
+ghost use Rattle.cube_talk.specs.Replies.{said_text};
 ghost use Rattle.cube_talk.specs.Piece.{PieceSays, HeardLine, HeardAll, HeardSome, PutsBy, Follows, Stops};
 
 use crate::carry::Carry;
-use crate::replies::Replies;
+use crate::replies::{Replies, Said};
 use crate::responder::Responder;
 use cube_io::{Failed, Sink, Source, Store};
 use std::alloc::Global;
@@ -69,7 +71,37 @@ enum Heard {
     OutputFailed,
 }
 
-// Answers a line.
+// Whether a count may have changed. It stays at the end of its type, and tells nothing there.
+fn is_kept(before: u64, now: u64) -> bool
+    ensures { (m n : ℕ) → before ≡ min m (2 ^ 64 - 1) → now ≡ min n (2 ^ 64 - 1) → result ≡ false → n ≡ m }
+{
+    now != before || now == u64::MAX
+}
+
+// Says what is said to a line. Where the line was kept, all that waits is written.
+#[tactic(auto, using(crate::proofs::Puttings::may_wait, crate::proofs::Puttings::spoke_written, crate::proofs::Spoken::spoke_half))]
+fn say_line<S: Store, O: Sink>(
+    store: &S,
+    said: &Said,
+    kept: bool,
+    replies: &mut Replies,
+    out: &mut O,
+) -> Result<(), Failed>
+    requires { MayPut O.allows (S.state store.now) (O.state out.old).written (replies.old ++ said_text said.now) }
+    ensures ok { OnOk result (Spoke (said_text said.now) replies.old replies.new (O.state out.old).written (O.state out.new).written) }
+    ensures at_once { kept ≡ true → OnOk result (replies.new ≡ []) }
+    ensures err { OnErr result (AppendsPrefix (O.state out.old).written (O.state out.new).written (replies.old ++ said_text said.now)) }
+    ensures cause { HasCause (O.state out.old).faults (O.state out.new).faults result }
+    ensures sight { IsTrue (S.state store.now).told → (O.state out.new).loose ≡ (O.state out.old).loose }
+{
+    replies.say(store, out, said)?;
+    if kept {
+        replies.flush(store, out)?;
+    }
+    Ok(())
+}
+
+// Answers a line. All that waits is written, unless the count shows that nothing was kept.
 fn answer_line<S: Store, R: Responder<S>, O: Sink>(
     alloc: Global,
     responder: &mut R,
@@ -80,18 +112,23 @@ fn answer_line<S: Store, R: Responder<S>, O: Sink>(
 ) -> Heard
     requires stands { R.stands responder.old store.old }
     requires going { R.done responder.old ≡ false }
+    requires permits { MayAnswer R.says S.state O.allows responder.old store.old (line.now ∷ []) (O.state out.old).written replies.old }
     ensures said { result ≢ Heard.NoMemory → HeardLine R.says (PieceSays result replies.old replies.new (O.state out.old).written (O.state out.new).written) responder.old responder.new store.old store.new line.now }
+    ensures settled { result ≢ Heard.OutputFailed → (R.kept responder.new ≡ R.kept responder.old) ⊎ (replies.new ≡ []) }
     ensures memory { result ≡ Heard.NoMemory → (responder.new ≡ responder.old) × (store.new ≡ store.old) × (replies.new ≡ replies.old) × (out.new ≡ out.old) × (R.lacks ≡ true) }
     ensures going { result ≡ Heard.All → R.done responder.new ≡ false }
     ensures spent { result ≡ Heard.Spent → R.done responder.new ≡ true }
     ensures faults { RoseWhere (result ≡ Heard.OutputFailed) (O.state out.old).faults (O.state out.new).faults }
+    ensures sight { InSight (S.state store.old) (S.state store.new) (O.state out.old).loose (O.state out.new).loose }
     ensures stands { R.stands responder.new store.new }
 {
+    let before = responder.held();
     let said = match responder.answer(alloc, store, line) {
         Ok(said) => said,
         Err(_) => return Heard::NoMemory,
     };
-    match replies.say(out, &said) {
+    let kept = is_kept(before, responder.held());
+    match say_line(store, &said, kept, replies, out) {
         Ok(()) => {}
         Err(_) => return Heard::OutputFailed,
     }
@@ -113,14 +150,18 @@ fn answer_piece<S: Store, R: Responder<S>, O: Sink>(
 ) -> Heard
     requires stands { R.stands responder.old store.old }
     requires going { R.done responder.old ≡ false }
+    requires empty { replies.old ≡ [] }
+    requires permits { Permits R.says R.kept S.state O.allows responder.old store.old (O.state out.old).written }
     ensures all { result ≡ Heard.All → (open_part : List ℕ) → IsKept carry.old open_part
         → HeardAll R.says (PieceSays result replies.old replies.new (O.state out.old).written (O.state out.new).written) responder.old responder.new store.old store.new open_part piece.now carry.new }
     ensures some { result ≢ Heard.All → (open_part : List ℕ) → IsKept carry.old open_part
         → HeardSome R.says (PieceSays result replies.old replies.new (O.state out.old).written (O.state out.new).written) responder.old responder.new store.old store.new open_part piece.now }
+    ensures may { result ≢ Heard.OutputFailed → MayPut O.allows (S.state store.new) (O.state out.new).written replies.new }
     ensures going { result ≡ Heard.All → R.done responder.new ≡ false }
     ensures spent { result ≡ Heard.Spent → R.done responder.new ≡ true }
     ensures memory { result ≡ Heard.NoMemory → R.lacks ≡ true }
     ensures faults { RoseWhere (result ≡ Heard.OutputFailed) (O.state out.old).faults (O.state out.new).faults }
+    ensures sight { InSight (S.state store.old) (S.state store.new) (O.state out.old).loose (O.state out.new).loose }
     ensures stands { R.stands responder.new store.new }
 {
     let mut rest = piece;
@@ -142,18 +183,25 @@ fn answer_piece<S: Store, R: Responder<S>, O: Sink>(
 
 // Writes what waits behind lines that were answered so far. Says how the talk ends, if it does.
 #[tactic(auto, using(crate::proofs::Spoken::spoke_flushed, crate::proofs::Spoken::spoke_half))]
-fn flush_heard<O: Sink>(heard: Heard, replies: &mut Replies, out: &mut O) -> Option<Ending>
+fn flush_heard<S: Store, O: Sink>(
+    heard: Heard,
+    store: &S,
+    replies: &mut Replies,
+    out: &mut O,
+) -> Option<Ending>
+    requires { heard ≢ Heard.OutputFailed → MayPut O.allows (S.state store.now) (O.state out.old).written replies.old }
     ensures puts { (start : Option (List ℕ)) (text : List ℕ) → PieceSays heard [] replies.old start (O.state out.old).written text → PutsBy result start (O.state out.new).written text }
     ensures follows { Follows heard result }
     ensures empty { result ≡ None → replies.new ≡ [] }
     ensures quiet { replies.old ≡ [] → heard ≢ Heard.OutputFailed → result ≢ Some Ending.OutputFailed }
     ensures failed { result ≡ Some Ending.OutputFailed → ((heard ≡ Heard.OutputFailed) × (out.new ≡ out.old)) ⊎ ((heard ≢ Heard.OutputFailed) × Rose (O.state out.old).faults (O.state out.new).faults) }
     ensures steady { result ≢ Some Ending.OutputFailed → (heard ≢ Heard.OutputFailed) × ((O.state out.new).faults ≡ (O.state out.old).faults) }
+    ensures sight { IsTrue (S.state store.now).told → (O.state out.new).loose ≡ (O.state out.old).loose }
 {
     if heard == Heard::OutputFailed {
         return Some(Ending::OutputFailed);
     }
-    match replies.flush(out) {
+    match replies.flush(store, out) {
         Ok(()) => {}
         Err(_) => return Some(Ending::OutputFailed),
     }
@@ -177,6 +225,7 @@ fn take_piece<S: Store, R: Responder<S>, O: Sink>(
     requires stands { R.stands responder.old store.old }
     requires going { R.done responder.old ≡ false }
     requires empty { replies.old ≡ [] }
+    requires permits { Permits R.says R.kept S.state O.allows responder.old store.old (O.state out.old).written }
     ensures all { result ≡ None → (open_part : List ℕ) → IsKept carry.old open_part
         → HeardAll R.says (Appends (O.state out.old).written (O.state out.new).written) responder.old responder.new store.old store.new open_part piece.now carry.new }
     ensures some { IfSome result (λ ending. (open_part : List ℕ) → IsKept carry.old open_part
@@ -184,10 +233,11 @@ fn take_piece<S: Store, R: Responder<S>, O: Sink>(
     ensures stops { IfSome result (λ ending. Stops ending (R.done responder.new) R.lacks) }
     ensures going { result ≡ None → (R.done responder.new ≡ false) × (replies.new ≡ []) }
     ensures faults { RoseWhere (result ≡ Some Ending.OutputFailed) (O.state out.old).faults (O.state out.new).faults }
+    ensures sight { InSight (S.state store.old) (S.state store.new) (O.state out.old).loose (O.state out.new).loose }
     ensures stands { R.stands responder.new store.new }
 {
     let heard = answer_piece(alloc, responder, store, piece, carry, replies, out);
-    flush_heard(heard, replies, out)
+    flush_heard(heard, store, replies, out)
 }
 
 /// How a talk ended, and how many bytes of the input were taken.
@@ -227,6 +277,7 @@ fn finish<S: Store, R: Responder<S>, O: Sink>(
     requires stands { R.stands responder.old store.old }
     requires going { R.done responder.old ≡ false }
     requires empty { replies.old ≡ [] }
+    requires permits { Permits R.says R.kept S.state O.allows responder.old store.old (O.state out.old).written }
     ensures none { carry.now ≡ [] → (result ≡ Ending.Ended) × (responder.new ≡ responder.old) × (store.new ≡ store.old) × (out.new ≡ out.old) }
     ensures said { carry.now ≢ [] → result ≢ Ending.NoMemory → HeardLine R.says (Puts result (O.state out.old).written (O.state out.new).written) responder.old responder.new store.old store.new carry.now }
     ensures memory { result ≡ Ending.NoMemory → (responder.new ≡ responder.old) × (store.new ≡ store.old) × Appends (O.state out.old).written (O.state out.new).written [] × (R.lacks ≡ true) }
@@ -234,19 +285,21 @@ fn finish<S: Store, R: Responder<S>, O: Sink>(
     ensures spent { result ≡ Ending.Spent → R.done responder.new ≡ true }
     ensures others { result ≢ Ending.InputFailed }
     ensures faults { RoseWhere (result ≡ Ending.OutputFailed) (O.state out.old).faults (O.state out.new).faults }
+    ensures sight { InSight (S.state store.old) (S.state store.new) (O.state out.old).loose (O.state out.new).loose }
     ensures stands { R.stands responder.new store.new }
 {
     if carry.as_slice().is_empty() {
         return Ending::Ended;
     }
     let heard = answer_line(alloc, responder, store, carry.as_slice(), replies, out);
-    match flush_heard(heard, replies, out) {
+    match flush_heard(heard, store, replies, out) {
         Some(ending) => ending,
         None => Ending::Ended,
     }
 }
 
-/// Answers the lines of the input in turn. The answers to the lines that end in one piece of the input are put together.
+/// Answers the lines of the input in turn. The answers to the lines that end in one piece of the input are put together, up to a line
+/// that was kept: its answer is written before the next line is answered.
 pub fn converse<S: Store, R: Responder<S>, I: Source, O: Sink>(
     alloc: Global,
     carry: Carry,
@@ -258,11 +311,13 @@ pub fn converse<S: Store, R: Responder<S>, I: Source, O: Sink>(
     requires carry { carry ≡ [] }
     requires stands { R.stands responder.old store.old }
     requires going { R.done responder.old ≡ false }
+    requires permits { Permits R.says R.kept S.state O.allows responder.old store.old (O.state out.old).written }
     ensures conversed { Conversed R.says responder.old responder.new store.old store.new (R.done responder.new) result (seen I.state input.old input.new) (seen O.state out.old out.new) }
     ensures ended { result.ending ≡ Ending.Ended → (I.state input.new).ended ≡ true }
     ensures memory { result.ending ≡ Ending.NoMemory → R.lacks ≡ true }
     ensures input { RoseWhere (result.ending ≡ Ending.InputFailed) (I.state input.old).faults (I.state input.new).faults }
     ensures output { RoseWhere (result.ending ≡ Ending.OutputFailed) (O.state out.old).faults (O.state out.new).faults }
+    ensures sight { InSight (S.state store.old) (S.state store.new) (O.state out.old).loose (O.state out.new).loose }
     ensures stands { R.stands responder.new store.new }
 {
     let mut buf = [0u8; PIECE];

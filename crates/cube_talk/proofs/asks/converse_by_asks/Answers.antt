@@ -6,6 +6,9 @@ use Rattle.cube_io.specs.Desks.{faults_in}
 use Rattle.cube_talk.specs.Asks.{FailedFresh, rooms_behind}
 use Rattle.cube_talk.specs.Crashes.{Survives}
 use Rattle.cube_talk.specs.Moments.{moment}
+use Rattle.cube_io.specs.Desks.{entries}
+use Rattle.cube_talk.specs.Crashes.{AnswersDurably}
+use Rattle.cube_talk.proofs.Puttings.{permits_by}
 use Rattle.cube_talk.proofs.AskTalk.{added_are, said_of}
 use Rattle.cube_talk.proofs.asks.converse_by_asks.Goals as goal
 
@@ -31,3 +34,9 @@ returns-clause-talked g c =
 
 pub returns-clause-later : goal.returns-clause-later
 returns-clause-later g c = c.converse-end.ensures.conversed.answered.0.later
+
+pub converse-end-requires-clause-permits : goal.converse-end-requires-clause-permits
+converse-end-requires-clause-permits g c =
+    let at = moment g.D.Desk.manner g.D.Desk.rooms g.D.Desk.outcomes g.D.Desk.capacity g.D.Desk.exact g.D.Desk.within in
+    permits_by (λ x. x.desk) (λ d s ls e t text. AnswersDurably (at d (g.S.Store.state s)) (at e (g.S.Store.state t)) ls text) (λ d. entries (g.D.Desk.rooms d)) g.S.Store.state g.O.Sink.allows (record { desk = c.args.desk }) c.args.store.now
+    (g.O.Sink.state c.args.out.now).written c.requires.permits

@@ -1,5 +1,7 @@
 use Rattle.std.proofs.Common.{◌∙◌, refl, rules, sym, arith, take, length-take-le, ap}
 use Rattle.cube_io.specs.Seen.{seen}
+use Rattle.cube_talk.specs.Lines.{ended_lines}
+use Rattle.cube_talk.proofs.Puttings.{permits_on, sight_none, sight_then}
 use Rattle.cube_talk.proofs.Speech.{Speech}
 use Rattle.cube_talk.proofs.Talks.{stands_start, stands_more, piece_ends, input_failed, input_spent, Finished, finished}
 use Rattle.cube_talk.proofs.talk.converse.Given.{Over}
@@ -19,6 +21,7 @@ reads-init g c =
       empty = c.new-replies.ensures;
       input_steady = refl;
       output_steady = refl;
+      sight = sight_none (g.S.Store.state c.args.store.now) (g.O.Sink.state c.args.out.now).loose;
     }
 
 pub returns-in-Ok-eq0-clause-conversed : goal.returns-in-Ok-eq0-clause-conversed
@@ -57,6 +60,8 @@ reads-preserved g c =
       empty = (c.take_piece.ensures.going c.in-None.is).1;
       input_steady = c.in-Ok.ensures.cause.steady ∙ c.reads.invariant.input_steady;
       output_steady = c.in-None.ensures.faults.steady (λ e. cc) ∙ c.reads.invariant.output_steady;
+      sight = sight_then (g.S.Store.state c.args.store.now) (g.S.Store.state c.reads.store) (g.S.Store.state c.take_piece.new.store) (g.O.Sink.state c.args.out.now).loose (g.O.Sink.state c.reads.out).loose (g.O.Sink.state c.take_piece.new.out).loose
+          c.reads.invariant.sight c.take_piece.ensures.sight;
     }
 
 pub returns-in-Some-clause-conversed : goal.returns-in-Some-clause-conversed
@@ -71,3 +76,25 @@ pub returns-clause-conversed : goal.returns-clause-conversed
 returns-clause-conversed g c =
     input_spent (speech g) (g.R.Responder.done c.reads.responder) c.args.responder.now c.reads.responder c.args.store.now c.reads.store (seen g.I.Source.state c.args.input.now c.reads.input) (seen g.O.Sink.state c.args.out.now c.reads.out)
     c.reads.carry c.reads.bytes c.reads.invariant.talks c.reads.invariant.going (omega (arith, c.reads.invariant.few_bytes, c.reads-test.false))
+
+pub finish-ending-requires-clause-permits : goal.finish-ending-requires-clause-permits
+finish-ending-requires-clause-permits g c =
+    let s = c.reads.invariant.talks in
+    permits_on (speech g) g.R.Responder.kept g.S.Store.state g.O.Sink.allows c.args.responder.now c.reads.responder c.args.store.now c.reads.store (g.O.Sink.state c.args.out.now).written (g.O.Sink.state c.reads.out).written
+    (ended_lines s.text) s.said c.requires.permits s.answered s.put
+
+pub take_piece-requires-clause-permits : goal.take_piece-requires-clause-permits
+take_piece-requires-clause-permits g c =
+    let s = c.reads.invariant.talks in
+    permits_on (speech g) g.R.Responder.kept g.S.Store.state g.O.Sink.allows c.args.responder.now c.reads.responder c.args.store.now c.reads.store (g.O.Sink.state c.args.out.now).written (g.O.Sink.state c.reads.out).written
+    (ended_lines s.text) s.said c.requires.permits s.answered s.put
+
+pub returns-in-Ok-eq0-clause-sight : goal.returns-in-Ok-eq0-clause-sight
+returns-in-Ok-eq0-clause-sight g c =
+    sight_then (g.S.Store.state c.args.store.now) (g.S.Store.state c.reads.store) (g.S.Store.state c.finish-ending.new.store) (g.O.Sink.state c.args.out.now).loose (g.O.Sink.state c.reads.out).loose (g.O.Sink.state c.finish-ending.new.out).loose
+    c.reads.invariant.sight c.finish-ending.ensures.sight
+
+pub returns-in-Some-clause-sight : goal.returns-in-Some-clause-sight
+returns-in-Some-clause-sight g c =
+    sight_then (g.S.Store.state c.args.store.now) (g.S.Store.state c.reads.store) (g.S.Store.state c.take_piece.new.store) (g.O.Sink.state c.args.out.now).loose (g.O.Sink.state c.reads.out).loose (g.O.Sink.state c.take_piece.new.out).loose
+    c.reads.invariant.sight c.take_piece.ensures.sight

@@ -1,4 +1,5 @@
 use Rattle.std.proofs.Common.{◌≡◌, ◌≤◌, ◌-◌, [], false}
+use Rattle.cube_talk.specs.Putting.{InSight}
 use Rattle.cube_talk.proofs.Talks.{Stands}
 use Rattle.cube_talk.proofs.talk.converse.Given as goal
 
@@ -11,6 +12,7 @@ invariant-reads g l = record {
   empty : l.replies ≡ [];
   input_steady : (g.I.Source.state l.input).faults ≡ (g.I.Source.state l.initial.input).faults;
   output_steady : (g.O.Sink.state l.out).faults ≡ (g.O.Sink.state l.initial.out).faults;
+  sight : InSight (g.S.Store.state l.initial.store) (g.S.Store.state l.store) (g.O.Sink.state l.initial.out).loose (g.O.Sink.state l.out).loose;
 }
 
 abbrev pub decreases-reads : goal.decreases-reads
