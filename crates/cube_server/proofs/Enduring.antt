@@ -12,6 +12,7 @@ use Rattle.cube_io.specs.Desks.{Manner, Answered, ForeignStay, GivesRooms, Leave
 use Rattle.cube_io.specs.Seen.{StoreState}
 use Rattle.cube_io.specs.States.{State, Log, Gained, settled}
 use Rattle.cube_io.proofs.Leaving.{leaves_all_map, leaves_all_none, leaves_all_then}
+use Rattle.cube_io.proofs.Outcomes.{memory_or_not}
 use Rattle.cube_io.proofs.Trails.{gained_none, gained_then, gained_map}
 use Rattle.cube_server.specs.Logs.{Call}
 use Rattle.cube_server.specs.Seen.{DeskState}
@@ -33,30 +34,29 @@ pub fresh_more : (m : Manner) (rooms : List Room) (xs ys : List Call) → Failed
 fresh_more m rooms [] ys f g = g
 fresh_more m rooms (x ∷ xs) ys f g = (f.0, fresh_more m (m.next rooms x.ask x.outcome) xs ys f.1 g)
 
-abbrev pub called_none : (d : DeskState) → Called d d
-called_none d = record { calls = []; rooms_are = refl; added = []; outcomes_are = sym (append-nil d.outcomes); matched = refl; fresh = tt }
+abbrev pub called_none : (d : DeskState) → Called d d []
+called_none d = record { rooms_are = refl; added = []; outcomes_are = sym (append-nil d.outcomes); matched = refl; fresh = tt }
 
-abbrev pub called_once : (ask : Ask) (o : Outcome) (a b : DeskState) → b.outcomes ≡ a.outcomes ++ o ∷ [] → b.rooms ≡ a.manner.next a.rooms ask o → (o ≡ JournalFault → a.manner.next a.rooms ask Given ≢ a.rooms) → Called a b
-called_once ask o a b added moved fresh = record { calls = record { ask = ask; outcome = o } ∷ []; rooms_are = moved; added = o ∷ []; outcomes_are = added; matched = refl; fresh = (fresh, tt) }
+abbrev pub called_once : (ask : Ask) (o : Outcome) (a b : DeskState) → b.outcomes ≡ a.outcomes ++ o ∷ [] → b.rooms ≡ a.manner.next a.rooms ask o → (o ≡ JournalFault → a.manner.next a.rooms ask Given ≢ a.rooms) → Called a b (record { ask = ask; outcome = o } ∷ [])
+called_once ask o a b added moved fresh = record { rooms_are = moved; added = o ∷ []; outcomes_are = added; matched = refl; fresh = (fresh, tt) }
 
-abbrev pub called_then : (a b c : DeskState) → b.manner ≡ a.manner → Called a b → Called b c → Called a c
-called_then a b c same f g =
+abbrev pub called_then : (a b c : DeskState) (xs ys : List Call) → b.manner ≡ a.manner → Called a b xs → Called b c ys → Called a c (xs ++ ys)
+called_then a b c xs ys same f g =
     let outcome_of = λ (x : Call). x.outcome in
     record {
-      calls = f.calls ++ g.calls;
       rooms_are = g.rooms_are
-          ∙ ap (λ (m : Manner). after m b.rooms g.calls) same
-          ∙ ap (λ (r : List Room). after a.manner r g.calls) f.rooms_are
-          ∙ sym (after_more a.manner a.rooms f.calls g.calls);
+          ∙ ap (λ (m : Manner). after m b.rooms ys) same
+          ∙ ap (λ (r : List Room). after a.manner r ys) f.rooms_are
+          ∙ sym (after_more a.manner a.rooms xs ys);
       added = f.added ++ g.added;
       outcomes_are = g.outcomes_are ∙ ap (λ (l : List Outcome). l ++ g.added) f.outcomes_are ∙ append_assoc a.outcomes f.added g.added;
       matched = filter-append found_memory f.added g.added
           ∙ ap (λ (l : List Outcome). l ++ filter found_memory g.added) f.matched
-          ∙ ap (λ (l : List Outcome). filter found_memory (map outcome_of f.calls) ++ l) g.matched
-          ∙ sym (filter-append found_memory (map outcome_of f.calls) (map outcome_of g.calls))
-          ∙ ap (filter found_memory) (sym (map-append outcome_of f.calls g.calls));
-      fresh = fresh_more a.manner a.rooms f.calls g.calls f.fresh
-          (subst (λ (r : List Room). FailedFresh a.manner r g.calls) f.rooms_are (subst (λ (m : Manner). FailedFresh m b.rooms g.calls) same g.fresh));
+          ∙ ap (λ (l : List Outcome). filter found_memory (map outcome_of xs) ++ l) g.matched
+          ∙ sym (filter-append found_memory (map outcome_of xs) (map outcome_of ys))
+          ∙ ap (filter found_memory) (sym (map-append outcome_of xs ys));
+      fresh = fresh_more a.manner a.rooms xs ys f.fresh
+          (subst (λ (r : List Room). FailedFresh a.manner r ys) f.rooms_are (subst (λ (m : Manner). FailedFresh m b.rooms ys) same g.fresh));
     }
 
 -- ---- what is in the hand of asks
@@ -91,7 +91,7 @@ same_holds : (P : Type 0) → P ↔ P
 same_holds P = (λ p. p, λ p. p)
 
 -- nothing was asked
-pub endures_none : (w x : List Room → ℕ → State → Type 0) (d : DeskState) (s : StoreState) → Endures w w x x d d s s
+pub endures_none : (w x : List Room → ℕ → State → Type 0) (d : DeskState) (s : StoreState) → Endures w w x x d d s s []
 endures_none w x d s = record {
   manner = refl;
   counted = refl;
@@ -119,19 +119,19 @@ both_ways : (P Q R : Type 0) → Q ↔ P → R ↔ Q → R ↔ P
 both_ways P Q R f g = (λ r. f.0 (g.0 r), λ p. g.1 (f.1 p))
 
 -- some asks, and then more
-pub endures_then : (w w' w'' x x' x'' : List Room → ℕ → State → Type 0) (a b c : DeskState) (s t u : StoreState) → Endures w w' x x' a b s t → Endures w' w'' x' x'' b c t u → Endures w w'' x x'' a c s u
-endures_then w w' w'' x x' x'' a b c s t u f g =
+pub endures_then : (w w' w'' x x' x'' : List Room → ℕ → State → Type 0) (a b c : DeskState) (s t u : StoreState) (xs ys : List Call) → Endures w w' x x' a b s t xs → Endures w' w'' x' x'' b c t u ys → Endures w w'' x x'' a c s u (xs ++ ys)
+endures_then w w' w'' x x' x'' a b c s t u xs ys f g =
     let fewer = f.more in
     let few = g.more in
-    let first : Reaches a.manner a.rooms b.rooms = (f.asked.calls, f.asked.rooms_are) in
-    let onward : Reaches a.manner b.rooms c.rooms = subst (λ (m : Manner). Reaches m b.rooms c.rooms) f.manner (g.asked.calls, g.asked.rooms_are) in
+    let first : Reaches a.manner a.rooms b.rooms = (xs, f.asked.rooms_are) in
+    let onward : Reaches a.manner b.rooms c.rooms = subst (λ (m : Manner). Reaches m b.rooms c.rooms) f.manner (ys, g.asked.rooms_are) in
     record {
       manner = g.manner ∙ f.manner;
       counted = g.counted ∙ f.counted;
       fewer = omega (arith, f.fewer, g.fewer);
       told = g.told ∙ f.told;
       names = λ h. g.names (rw f.told h) ∙ f.names h;
-      asked = called_then a b c f.manner f.asked g.asked;
+      asked = called_then a b c xs ys f.manner f.asked g.asked;
       within_stays = λ r k st. both_ways (w r k st) (w' r k st) (w'' r k st) (f.within_stays r k st) (g.within_stays r k st);
       exact_stays = λ r k st. both_ways (x r k st) (x' r k st) (x'' r k st) (f.exact_stays r k st) (g.exact_stays r k st);
       passed = λ h k e.
@@ -153,7 +153,7 @@ endures_then w w' w'' x x' x'' a b c s t u f g =
           let second : faults_in c.outcomes ≡ faults_in b.outcomes = omega (arith, same, fewer, few) in
           g.stays_exact second (rw f.told h) k (f.stays_exact first h k e);
       in_hand = λ h k e.
-          in_hand_then a.manner b.manner (GivesRooms x k) (GivesRooms x' k) a.rooms b.rooms f.asked.calls g.asked.calls (s.logs k) (t.logs k) (u.logs k) f.manner f.asked.rooms_are
+          in_hand_then a.manner b.manner (GivesRooms x k) (GivesRooms x' k) a.rooms b.rooms xs ys (s.logs k) (t.logs k) (u.logs k) f.manner f.asked.rooms_are
           (λ r bytes y. (f.exact_stays r k (settled bytes)).0 y) (f.in_hand h k e) (g.in_hand (rw f.told h) k (f.stays_within h k e));
       others = λ h k no. g.others (rw f.told h) k (λ r st y. no r st ((f.within_stays r k st).0 y)) ∙ f.others h k no;
       more = omega (arith, fewer, few);
@@ -182,11 +182,6 @@ is_or_not Given = inr (λ e. cc)
 is_or_not JournalFault = inl refl
 is_or_not NoMemory = inr (λ e. cc)
 
-memory_or_not : (o : Outcome) → (o ≡ NoMemory) ⊎ (o ≢ NoMemory)
-memory_or_not Given = inr (λ e. cc)
-memory_or_not JournalFault = inr (λ e. cc)
-memory_or_not NoMemory = inl refl
-
 -- what the clauses of one answer say
 pub record OneAnswer (ask : Ask) (reply : Reply) (w w' x x' : List Room → ℕ → State → Type 0) (a b : DeskState) (s t : StoreState) : Type 0 where
   pub answered : Answered a.manner ask a.rooms b.rooms a.outcomes b.outcomes s.faults t.faults reply
@@ -206,7 +201,7 @@ pub record OneAnswer (ask : Ask) (reply : Reply) (w w' x x' : List Room → ℕ 
 one_more : (o : Outcome) (xs ys : List Outcome) (m n : ℕ) → ys ≡ xs ++ o ∷ [] → n + 1 ≡ m → n + length ys ≡ m + length xs
 one_more o xs ys m n added one = omega (arith, one, ap length added ∙ length-append xs (o ∷ []))
 
-pub endures_answer : (ask : Ask) (reply : Reply) (w w' x x' : List Room → ℕ → State → Type 0) (a b : DeskState) (s t : StoreState) → OneAnswer ask reply w w' x x' a b s t → Endures w w' x x' a b s t
+pub endures_answer : (ask : Ask) (reply : Reply) (w w' x x' : List Room → ℕ → State → Type 0) (a b : DeskState) (s t : StoreState) → (one : OneAnswer ask reply w w' x x' a b s t) → Endures w w' x x' a b s t (record { ask = ask; outcome = one.answered.outcome } ∷ [])
 endures_answer ask reply w w' x x' a b s t one = by (is_or_not one.answered.outcome)
   where
     out : Outcome
@@ -218,7 +213,7 @@ endures_answer ask reply w w' x x' a b s t one = by (is_or_not one.answered.outc
     way : Reaches a.manner a.rooms b.rooms
     way = (call ∷ [], one.answered.moved)
 
-    called : Called a b
+    called : Called a b (call ∷ [])
     called = called_once ask out a b one.answered.added one.answered.moved (λ is. (one.answered.failed is).1)
 
     count : faults_in b.outcomes ≡ faults_in a.outcomes + faults_in (out ∷ [])
@@ -238,7 +233,7 @@ endures_answer ask reply w w' x x' a b s t one = by (is_or_not one.answered.outc
         (λ found. in_hand_once a.manner (GivesRooms x k) a.rooms call (s.logs k) (t.logs k) found (one.in_hand h k e))
         (memory_or_not out)
 
-    by : ((out ≡ JournalFault) ⊎ (out ≢ JournalFault)) → Endures w w' x x' a b s t
+    by : ((out ≡ JournalFault) ⊎ (out ≢ JournalFault)) → Endures w w' x x' a b s t (call ∷ [])
     by (inl is) =
         let c : faults_in b.outcomes ≡ faults_in a.outcomes + 1 = count ∙ ap (λ (z : Outcome). faults_in a.outcomes + faults_in (z ∷ [])) is in
         let rose = (one.answered.failed is).0 in
@@ -291,12 +286,12 @@ pub record OneMiss (a b : DeskState) : Type 0 where
   pub capacity : b.capacity + 1 ≡ a.capacity
   pub added : b.outcomes ≡ a.outcomes ++ NoMemory ∷ []
 
-abbrev pub called_missed : (a b : DeskState) → OneMiss a b → Called a b
-called_missed a b one = record { calls = []; rooms_are = one.rooms; added = NoMemory ∷ []; outcomes_are = one.added; matched = refl; fresh = tt }
+abbrev pub called_missed : (a b : DeskState) → OneMiss a b → Called a b []
+called_missed a b one = record { rooms_are = one.rooms; added = NoMemory ∷ []; outcomes_are = one.added; matched = refl; fresh = tt }
 
-pub endures_miss : (w w' x x' : List Room → ℕ → State → Type 0) (a b : DeskState) (s : StoreState) → OneMiss a b
-    → ((r : List Room) (log : ℕ) (state : State) → w' r log state ↔ w r log state) → ((r : List Room) (log : ℕ) (state : State) → x' r log state ↔ x r log state) → Endures w w' x x' a b s s
-endures_miss w w' x x' a b s one ws xs =
+pub endures_miss : (w w' x x' : List Room → ℕ → State → Type 0) (a b : DeskState) (s : StoreState) (calls : List Call) → OneMiss a b → Called a b calls
+    → ((r : List Room) (log : ℕ) (state : State) → w' r log state ↔ w r log state) → ((r : List Room) (log : ℕ) (state : State) → x' r log state ↔ x r log state) → Endures w w' x x' a b s s calls
+endures_miss w w' x x' a b s calls one asked ws xs =
     let c : faults_in b.outcomes ≡ faults_in a.outcomes = ap faults_in one.added ∙ count_more a.outcomes NoMemory ∙ omega arith in
     record {
       manner = one.manner;
@@ -304,13 +299,13 @@ endures_miss w w' x x' a b s one ws xs =
       fewer = omega (arith, one.capacity);
       told = refl;
       names = λ h. refl;
-      asked = called_missed a b one;
+      asked = asked;
       within_stays = ws;
       exact_stays = xs;
       passed = λ h k e. gained_none _ (s.logs k) (s.logs k) refl;
       stays_within = λ h k e. rw one.rooms ((ws a.rooms k (s.logs k).state).1 e);
       stays_exact = λ n h k e. rw one.rooms ((xs a.rooms k (s.logs k).state).1 e);
-      in_hand = λ h k e. leaves_all_none (GivesRooms x k) (IsInHand a.manner a.rooms []) (s.logs k) (s.logs k) refl;
+      in_hand = λ h k e. leaves_all_none (GivesRooms x k) (IsInHand a.manner a.rooms calls) (s.logs k) (s.logs k) refl;
       others = λ h k no. refl;
       more = omega (arith, c);
       later = omega arith;

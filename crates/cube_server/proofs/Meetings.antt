@@ -20,7 +20,7 @@ use Rattle.cube_server.proofs.Streams.{keeps_none}
 
 -- nothing was sent and nothing asked
 quiet_meets : (op : Run → Run) (lines : List Line) (conns conns' : List (ℕ × List ℕ)) (desk : DeskState) (log : List LogEntry) → AreKept lines conns' → AreOpen lines log
-    → ((r : Run) → r.conns ≡ conns → op r ≡ record r { conns = conns' }) → Meets op lines conns desk desk log log
+    → ((r : Run) → r.conns ≡ conns → op r ≡ record r { conns = conns' }) → Meets op lines conns desk desk log log []
 quiet_meets op lines conns conns' desk log k o same = record {
   conns' = conns';
   kept = λ some. k;
@@ -50,13 +50,13 @@ left_open c e old new log t o = rw t.now (taken_open c e t.front t.after log t.f
 -- ---- closed
 
 pub closed_meets : (m : Manner) (c : ℕ) (e : Ear) (old new last : List Line) (conns : List (ℕ × List ℕ)) (desk : DeskState) (log : List LogEntry)
-    → IsTakenOut c e old new → last ≡ new → AreKept old conns → AreOpenBut c old log → Meets (met m (Closed c)) last conns desk desk log log
+    → IsTakenOut c e old new → last ≡ new → AreKept old conns → AreOpenBut c old log → Meets (met m (Closed c)) last conns desk desk log log []
 closed_meets m c e old new last conns desk log t l k o =
     let one = take_one c e old new conns t k in
     rw l (quiet_meets (met m (Closed c)) new conns (without c conns) desk log one.kept ((left_open c e old new log t o).1) (λ r is. ap (λ (z : List (ℕ × List ℕ)). record r { conns = without c z }) is))
 
 pub unknown_closed : (m : Manner) (c : ℕ) (old new : List Line) (conns : List (ℕ × List ℕ)) (desk : DeskState) (log : List LogEntry)
-    → has c old ≡ false → new ≡ old → AreKept old conns → AreOpenBut c old log → Meets (met m (Closed c)) new conns desk desk log log
+    → has c old ≡ false → new ≡ old → AreKept old conns → AreOpenBut c old log → Meets (met m (Closed c)) new conns desk desk log log []
 unknown_closed m c old new conns desk log none same k o =
     let n = none_kept c old conns none k in
     rw same (quiet_meets (met m (Closed c)) old conns conns desk log k (all_open c old log none o) (λ r is. ap (λ (z : List (ℕ × List ℕ)). record r { conns = without c z }) is ∙ ap (λ (z : List (ℕ × List ℕ)). record r { conns = z }) n.1))
@@ -73,7 +73,7 @@ or_true false b e = e
 
 new_conn : (m : Manner) (c : ℕ) (new : List Line) (e : Ear) (conns : List (ℕ × List ℕ)) (desk : DeskState) (log : List LogEntry)
     → capacity_for c conns ≡ true → AreKept new (without c conns) → has c new ≡ false → AreOpen new log → IsSound c log → kept_bytes e ≡ []
-    → Meets (met m (Opened c)) (new ++ line c e ∷ []) conns desk desk log log
+    → Meets (met m (Opened c)) (new ++ line c e ∷ []) conns desk desk log log []
 new_conn m c new e conns desk log capacity k none o here fresh =
     quiet_meets (met m (Opened c)) (new ++ line c e ∷ []) conns (without c conns ++ (c, []) ∷ []) desk log
     (put_kept c e [] new (without c conns) k (rw fresh keeps_none)) (put_open c e new log none o here)
@@ -81,7 +81,7 @@ new_conn m c new e conns desk log capacity k none o here fresh =
 
 pub opened_meets : (m : Manner) (c : ℕ) (old new last : List Line) (e : Ear) (conns : List (ℕ × List ℕ)) (desk : DeskState) (log : List LogEntry)
     → IsAnew c old new → last ≡ new ++ line c e ∷ [] → kept_bytes e ≡ [] → AreKept old conns → AreOpenBut c old log → IsSound c log
-    → Meets (met m (Opened c)) last conns desk desk log log
+    → Meets (met m (Opened c)) last conns desk desk log log []
 opened_meets m c old new last e conns desk log (inl (was, t)) l fresh k o here =
     let one = take_one c was old new conns t k in
     let opened = left_open c was old new log t o in
@@ -96,7 +96,7 @@ opened_meets m c old new last e conns desk log (inr (none, few, same)) l fresh k
 -- there was no space
 pub busy_meets : (m : Manner) (c : ℕ) (old new : List Line) (conns : List (ℕ × List ℕ)) (desk : DeskState) (log log' : List LogEntry) (live : Bool)
     → has c old ≡ false → length old ≡ 64 → new ≡ old → AreKept old conns → AreOpenBut c old log → Speaks c (replied c (reply.Fixed constant.Busy) true false) log log' live
-    → Meets (met m (Opened c)) new conns desk desk log log'
+    → Meets (met m (Opened c)) new conns desk desk log log' []
 busy_meets m c old new conns desk log log' live none full same k o s =
     let n = none_kept c old conns none k in
     let many = as_many old conns k in
@@ -117,7 +117,7 @@ busy_meets m c old new conns desk log log' live none full same k o s =
 -- ---- a piece came
 
 pub dropped_meets : (m : Manner) (c : ℕ) (piece : List ℕ) (old new : List Line) (conns : List (ℕ × List ℕ)) (desk : DeskState) (log : List LogEntry)
-    → has c old ≡ false → new ≡ old → AreKept old conns → AreOpen old log → Meets (met m (Came c piece)) new conns desk desk log log
+    → has c old ≡ false → new ≡ old → AreKept old conns → AreOpen old log → Meets (met m (Came c piece)) new conns desk desk log log []
 dropped_meets m c piece old new conns desk log none same k o =
     let n = none_kept c old conns none k in
     rw same (quiet_meets (met m (Came c piece)) old conns conns desk log k o (λ r is. let t : is_open c r.conns ≡ false = rw is n.0 in rw t (ap (λ (z : List (ℕ × List ℕ)). record r { conns = z }) is)))
@@ -126,10 +126,10 @@ dropped_meets m c piece old new conns desk log none same k o =
 abbrev pub left_conns : Bool → ℕ → List ℕ → List (ℕ × List ℕ) → List (ℕ × List ℕ)
 left_conns live c text conns = without c conns ++ (if live then (c, text) ∷ [] else [])
 
-came_meets : (m : Manner) (c : ℕ) (piece : List ℕ) (live : Bool) (last : List Line) (conns : List (ℕ × List ℕ)) (x y : DeskState) (u v : List LogEntry) → is_open c conns ≡ true
-    → Deals c (dealt_all m c (behind (length (came_on c conns)) (came_on c conns ++ piece))) x y u v live
-    → (0 < y.capacity → AreKept last (left_conns live c (came_on c conns ++ piece) conns)) → AreOpen last v → Meets (met m (Came c piece)) last conns x y u v
-came_meets m c piece live last conns x y u v is d k opens = record {
+came_meets : (m : Manner) (c : ℕ) (piece : List ℕ) (live : Bool) (last : List Line) (conns : List (ℕ × List ℕ)) (x y : DeskState) (u v : List LogEntry) (calls : List Call) → is_open c conns ≡ true
+    → Deals c (dealt_all m c (behind (length (came_on c conns)) (came_on c conns ++ piece))) x y u v live calls
+    → (0 < y.capacity → AreKept last (left_conns live c (came_on c conns ++ piece) conns)) → AreOpen last v → Meets (met m (Came c piece)) last conns x y u v calls
+came_meets m c piece live last conns x y u v calls is d k opens = record {
   conns' = left_conns live c (came_on c conns ++ piece) conns;
   kept = k;
   live = opens;
@@ -143,26 +143,26 @@ came_meets m c piece live last conns x y u v is d k opens = record {
 }
 
 -- the connection stays open
-pub piece_on : (c : ℕ) (piece : List ℕ) (e e' : Ear) (old new last : List Line) (conns : List (ℕ × List ℕ)) (x y : DeskState) (u v : List LogEntry)
+pub piece_on : (c : ℕ) (piece : List ℕ) (e e' : Ear) (old new last : List Line) (conns : List (ℕ × List ℕ)) (x y : DeskState) (u v : List LogEntry) (calls : List Call)
     → IsTakenOut c e old new → last ≡ new ++ line c e' ∷ [] → AreKept old conns → AreOpen old u
-    → ((stream : List ℕ) → Keeps stream (kept_bytes e) → HearsPiece c stream piece x y u v (left.On e'))
-    → Meets (met x.manner (Came c piece)) last conns x y u v
-piece_on c piece e e' old new last conns x y u v t l k opens heard =
+    → ((stream : List ℕ) → Keeps stream (kept_bytes e) → HearsPiece c stream piece x y u v (left.On e') calls)
+    → Meets (met x.manner (Came c piece)) last conns x y u v calls
+piece_on c piece e e' old new last conns x y u v calls t l k opens heard =
     let one = take_one c e old new conns t k in
     let text = came_on c conns in
     let h = heard text one.keeps in
     let d = h.deals in
     let opened = left_open c e old new v t (others_stay c old u v d.talks.others (but_one c old u opens)) in
     let here : IsSound c v = rw (d.talks.stays refl) (taken_is_open c e t.front t.after u (rw t.was at opens)) in
-    came_meets x.manner c piece true last conns x y u v one.is d (λ some. rw l (put_kept c e' (text ++ piece) new (without c conns) one.kept (h.goes some))) (rw l (put_open c e' new v opened.0 opened.1 here))
+    came_meets x.manner c piece true last conns x y u v calls one.is d (λ some. rw l (put_kept c e' (text ++ piece) new (without c conns) one.kept (h.goes some))) (rw l (put_open c e' new v opened.0 opened.1 here))
 
 -- it was closed
-pub piece_off : (c : ℕ) (piece : List ℕ) (e : Ear) (head : List ℕ) (old new last : List Line) (conns : List (ℕ × List ℕ)) (x y : DeskState) (u v : List LogEntry)
+pub piece_off : (c : ℕ) (piece : List ℕ) (e : Ear) (head : List ℕ) (old new last : List Line) (conns : List (ℕ × List ℕ)) (x y : DeskState) (u v : List LogEntry) (calls : List Call)
     → IsTakenOut c e old new → last ≡ new → AreKept old conns → AreOpen old u
-    → ((stream : List ℕ) → Keeps stream (kept_bytes e) → HearsPiece c stream piece x y u v (left.Off head))
-    → Meets (met x.manner (Came c piece)) last conns x y u v
-piece_off c piece e head old new last conns x y u v t l k opens heard =
+    → ((stream : List ℕ) → Keeps stream (kept_bytes e) → HearsPiece c stream piece x y u v (left.Off head) calls)
+    → Meets (met x.manner (Came c piece)) last conns x y u v calls
+piece_off c piece e head old new last conns x y u v calls t l k opens heard =
     let one = take_one c e old new conns t k in
     let d = (heard (came_on c conns) one.keeps).deals in
     let opened = left_open c e old new v t (others_stay c old u v d.talks.others (but_one c old u opens)) in
-    came_meets x.manner c piece false last conns x y u v one.is d (λ some. rw (l, append-nil (without c conns)) one.kept) (rw l opened.1)
+    came_meets x.manner c piece false last conns x y u v calls one.is d (λ some. rw (l, append-nil (without c conns)) one.kept) (rw l opened.1)

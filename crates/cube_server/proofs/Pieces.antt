@@ -43,19 +43,19 @@ dealt_more m c (x ∷ xs) ys t = by (goes t) refl (dealt_more m c xs ys (dealt_w
 -- ---- the piece
 
 -- Of a piece a front has been heard, and what it says was dealt with.
-pub record Progress (m : Manner) (c : ℕ) (stream piece rest bytes : List ℕ) (old new : DeskState) (log log' : List LogEntry) : Type 0 where
+pub record Progress (m : Manner) (c : ℕ) (stream piece rest bytes : List ℕ) (old new : DeskState) (log log' : List LogEntry) (calls : List Call) : Type 0 where
   pub past : List ℕ
   pub split : piece ≡ past ++ rest
   pub keeps : Keeps (stream ++ past) bytes
-  pub asked : Called old new
+  pub asked : Called old new calls
   pub sends : List (Option ℕ)
   pub starved : List Bool
   pub shown : sends_in log' ≡ sends_in log ++ sends
   pub runs : (os : List Outcome) (ss : List (Option ℕ)) (bs : List Bool) (cs : List Call)
       → dealt_all m c (behind (length stream) (stream ++ piece)) (turn (course old.rooms old.capacity (asked.added ++ os) (sends ++ ss) (starved ++ bs) cs log) true)
-      ≡ dealt_all m c (behind (length (stream ++ past)) (stream ++ piece)) (turn (course new.rooms new.capacity os ss bs (cs ++ asked.calls) log') true)
+      ≡ dealt_all m c (behind (length (stream ++ past)) (stream ++ piece)) (turn (course new.rooms new.capacity os ss bs (cs ++ calls) log') true)
 
-pub progress_start : (m : Manner) (c : ℕ) (stream piece bytes : List ℕ) (desk : DeskState) (log : List LogEntry) → Keeps stream bytes → Progress m c stream piece piece bytes desk desk log log
+pub progress_start : (m : Manner) (c : ℕ) (stream piece bytes : List ℕ) (desk : DeskState) (log : List LogEntry) → Keeps stream bytes → Progress m c stream piece piece bytes desk desk log log []
 progress_start m c stream piece bytes desk log k = record {
   past = [];
   split = refl;
@@ -86,33 +86,33 @@ next_said stream past t rest piece h n split one =
     ∙ ap (λ (l : List ℕ). said h n ++ behind (length (stream ++ (past ++ t))) l) (sym whole)
 
 -- one part more was heard and dealt with
-onward : (m : Manner) (c : ℕ) (stream piece t rest bytes : List ℕ) (h : Heard) (n : Conn) (a x y : DeskState) (log u v : List LogEntry) (live : Bool)
-    → (g : Progress m c stream piece (t ++ rest) bytes a x log u) → OneHeard (stream ++ g.past) t h n → (d : Deals c (dealt_all m c (said h n)) x y u v live)
+onward : (m : Manner) (c : ℕ) (stream piece t rest bytes : List ℕ) (h : Heard) (n : Conn) (a x y : DeskState) (log u v : List LogEntry) (live : Bool) (xs ys : List Call)
+    → (g : Progress m c stream piece (t ++ rest) bytes a x log u xs) → OneHeard (stream ++ g.past) t h n → (d : Deals c (dealt_all m c (said h n)) x y u v live ys)
     → (os : List Outcome) (ss : List (Option ℕ)) (bs : List Bool) (cs : List Call)
     → dealt_all m c (behind (length stream) (stream ++ piece)) (turn (course a.rooms a.capacity ((g.asked.added ++ d.asked.added) ++ os) ((g.sends ++ d.sends) ++ ss) ((g.starved ++ d.starved) ++ bs) cs log) true)
-    ≡ dealt_all m c (behind (length (stream ++ (g.past ++ t))) (stream ++ piece)) (turn (course y.rooms y.capacity os ss bs (cs ++ (g.asked.calls ++ d.asked.calls)) v) live)
-onward m c stream piece t rest bytes h n a x y log u v live g one d os ss bs cs =
+    ≡ dealt_all m c (behind (length (stream ++ (g.past ++ t))) (stream ++ piece)) (turn (course y.rooms y.capacity os ss bs (cs ++ (xs ++ ys)) v) live)
+onward m c stream piece t rest bytes h n a x y log u v live xs ys g one d os ss bs cs =
     let after = behind (length (stream ++ (g.past ++ t))) (stream ++ piece) in
     rw (append_assoc g.asked.added d.asked.added os, append_assoc g.sends d.sends ss, append_assoc g.starved d.starved bs) (
     g.runs (d.asked.added ++ os) (d.sends ++ ss) (d.starved ++ bs) cs
-    ∙ ap (λ (l : List Item). dealt_all m c l (turn (course x.rooms x.capacity (d.asked.added ++ os) (d.sends ++ ss) (d.starved ++ bs) (cs ++ g.asked.calls) u) true)) (next_said stream g.past t rest piece h n g.split one)
-    ∙ dealt_more m c (said h n) after (turn (course x.rooms x.capacity (d.asked.added ++ os) (d.sends ++ ss) (d.starved ++ bs) (cs ++ g.asked.calls) u) true)
-    ∙ ap (dealt_all m c after) (d.runs os ss bs (cs ++ g.asked.calls))
-    ∙ ap (λ (l : List Call). dealt_all m c after (turn (course y.rooms y.capacity os ss bs l v) live)) (append_assoc cs g.asked.calls d.asked.calls)
+    ∙ ap (λ (l : List Item). dealt_all m c l (turn (course x.rooms x.capacity (d.asked.added ++ os) (d.sends ++ ss) (d.starved ++ bs) (cs ++ xs) u) true)) (next_said stream g.past t rest piece h n g.split one)
+    ∙ dealt_more m c (said h n) after (turn (course x.rooms x.capacity (d.asked.added ++ os) (d.sends ++ ss) (d.starved ++ bs) (cs ++ xs) u) true)
+    ∙ ap (dealt_all m c after) (d.runs os ss bs (cs ++ xs))
+    ∙ ap (λ (l : List Call). dealt_all m c after (turn (course y.rooms y.capacity os ss bs l v) live)) (append_assoc cs xs ys)
     )
 
-pub one_more : (m : Manner) (c : ℕ) (stream piece t rest bytes bytes' : List ℕ) (h : Heard) (n : Conn) (a x y : DeskState) (log u v : List LogEntry)
-    → x.manner ≡ a.manner → (g : Progress m c stream piece (t ++ rest) bytes a x log u) → OneHeard (stream ++ g.past) t h n → Deals c (dealt_all m c (said h n)) x y u v true → Keeps (stream ++ (g.past ++ t)) bytes'
-    → Progress m c stream piece rest bytes' a y log v
-one_more m c stream piece t rest bytes bytes' h n a x y log u v same g one d k = record {
+pub one_more : (m : Manner) (c : ℕ) (stream piece t rest bytes bytes' : List ℕ) (h : Heard) (n : Conn) (a x y : DeskState) (log u v : List LogEntry) (xs ys : List Call)
+    → x.manner ≡ a.manner → (g : Progress m c stream piece (t ++ rest) bytes a x log u xs) → OneHeard (stream ++ g.past) t h n → Deals c (dealt_all m c (said h n)) x y u v true ys → Keeps (stream ++ (g.past ++ t)) bytes'
+    → Progress m c stream piece rest bytes' a y log v (xs ++ ys)
+one_more m c stream piece t rest bytes bytes' h n a x y log u v xs ys same g one d k = record {
   past = g.past ++ t;
   split = g.split ∙ sym (append_assoc g.past t rest);
   keeps = k;
-  asked = called_then a x y same g.asked d.asked;
+  asked = called_then a x y xs ys same g.asked d.asked;
   sends = g.sends ++ d.sends;
   starved = g.starved ++ d.starved;
   shown = d.shown ∙ ap (λ (l : List (Option ℕ)). l ++ d.sends) g.shown ∙ append_assoc (sends_in log) g.sends d.sends;
-  runs = onward m c stream piece t rest bytes h n a x y log u v true g one d;
+  runs = onward m c stream piece t rest bytes h n a x y log u v true xs ys g one d;
 }
 
 -- ---- its end
@@ -121,37 +121,37 @@ no_asks : nat_lt 0 0 ≡ false
 no_asks = refl
 
 -- the connection was closed
-pub piece_closed : (m : Manner) (c : ℕ) (stream piece t rest bytes : List ℕ) (h : Heard) (n : Conn) (a x y : DeskState) (log u v : List LogEntry)
-    → x.manner ≡ a.manner → (g : Progress m c stream piece (t ++ rest) bytes a x log u) → OneHeard (stream ++ g.past) t h n → Deals c (dealt_all m c (said h n)) x y u v false → Talks c log u true
-    → Deals c (dealt_all m c (behind (length stream) (stream ++ piece))) a y log v false
-piece_closed m c stream piece t rest bytes h n a x y log u v same g one d talks = record {
+pub piece_closed : (m : Manner) (c : ℕ) (stream piece t rest bytes : List ℕ) (h : Heard) (n : Conn) (a x y : DeskState) (log u v : List LogEntry) (xs ys : List Call)
+    → x.manner ≡ a.manner → (g : Progress m c stream piece (t ++ rest) bytes a x log u xs) → OneHeard (stream ++ g.past) t h n → Deals c (dealt_all m c (said h n)) x y u v false ys → Talks c log u true
+    → Deals c (dealt_all m c (behind (length stream) (stream ++ piece))) a y log v false (xs ++ ys)
+piece_closed m c stream piece t rest bytes h n a x y log u v xs ys same g one d talks = record {
   talks = talks_then c log u v false talks d.talks;
-  asked = called_then a x y same g.asked d.asked;
+  asked = called_then a x y xs ys same g.asked d.asked;
   sends = g.sends ++ d.sends;
   starved = g.starved ++ d.starved;
   shown = d.shown ∙ ap (λ (l : List (Option ℕ)). l ++ d.sends) g.shown ∙ append_assoc (sends_in log) g.sends d.sends;
   runs = λ os ss bs cs.
-      onward m c stream piece t rest bytes h n a x y log u v false g one d os ss bs cs
-      ∙ stopped m c (behind (length (stream ++ (g.past ++ t))) (stream ++ piece)) (turn (course y.rooms y.capacity os ss bs (cs ++ (g.asked.calls ++ d.asked.calls)) v) false) refl;
+      onward m c stream piece t rest bytes h n a x y log u v false xs ys g one d os ss bs cs
+      ∙ stopped m c (behind (length (stream ++ (g.past ++ t))) (stream ++ piece)) (turn (course y.rooms y.capacity os ss bs (cs ++ (xs ++ ys)) v) false) refl;
 }
 
 -- the asks are used up
-pub piece_spent : (m : Manner) (c : ℕ) (stream piece rest bytes : List ℕ) (a x : DeskState) (log u : List LogEntry) → Progress m c stream piece rest bytes a x log u → Talks c log u true → x.capacity ≡ 0
-    → Deals c (dealt_all m c (behind (length stream) (stream ++ piece))) a x log u true
-piece_spent m c stream piece rest bytes a x log u g talks none = record {
+pub piece_spent : (m : Manner) (c : ℕ) (stream piece rest bytes : List ℕ) (a x : DeskState) (log u : List LogEntry) (calls : List Call) → Progress m c stream piece rest bytes a x log u calls → Talks c log u true → x.capacity ≡ 0
+    → Deals c (dealt_all m c (behind (length stream) (stream ++ piece))) a x log u true calls
+piece_spent m c stream piece rest bytes a x log u calls g talks none = record {
   talks = talks;
   asked = g.asked;
   sends = g.sends;
   starved = g.starved;
   shown = g.shown;
   runs = λ os ss bs cs.
-      g.runs os ss bs cs ∙ stopped m c (behind (length (stream ++ g.past)) (stream ++ piece)) (turn (course x.rooms x.capacity os ss bs (cs ++ g.asked.calls) u) true) (ap (nat_lt 0) none);
+      g.runs os ss bs cs ∙ stopped m c (behind (length (stream ++ g.past)) (stream ++ piece)) (turn (course x.rooms x.capacity os ss bs (cs ++ calls) u) true) (ap (nat_lt 0) none);
 }
 
 -- all of it was heard
-pub piece_heard : (m : Manner) (c : ℕ) (stream piece bytes : List ℕ) (a x : DeskState) (log u : List LogEntry) → Progress m c stream piece [] bytes a x log u → Talks c log u true
-    → Deals c (dealt_all m c (behind (length stream) (stream ++ piece))) a x log u true × Keeps (stream ++ piece) bytes
-piece_heard m c stream piece bytes a x log u g talks =
+pub piece_heard : (m : Manner) (c : ℕ) (stream piece bytes : List ℕ) (a x : DeskState) (log u : List LogEntry) (calls : List Call) → Progress m c stream piece [] bytes a x log u calls → Talks c log u true
+    → Deals c (dealt_all m c (behind (length stream) (stream ++ piece))) a x log u true calls × Keeps (stream ++ piece) bytes
+piece_heard m c stream piece bytes a x log u calls g talks =
     let all : piece ≡ g.past = g.split ∙ append-nil g.past in (
       record {
         talks = talks;
@@ -161,8 +161,8 @@ piece_heard m c stream piece bytes a x log u g talks =
         shown = g.shown;
         runs = λ os ss bs cs.
             g.runs os ss bs cs
-            ∙ ap (λ (l : List ℕ). dealt_all m c (behind (length (stream ++ l)) (stream ++ piece)) (turn (course x.rooms x.capacity os ss bs (cs ++ g.asked.calls) u) true)) (sym all)
-            ∙ ap (λ (l : List Item). dealt_all m c l (turn (course x.rooms x.capacity os ss bs (cs ++ g.asked.calls) u) true)) (behind_all (stream ++ piece));
+            ∙ ap (λ (l : List ℕ). dealt_all m c (behind (length (stream ++ l)) (stream ++ piece)) (turn (course x.rooms x.capacity os ss bs (cs ++ calls) u) true)) (sym all)
+            ∙ ap (λ (l : List Item). dealt_all m c l (turn (course x.rooms x.capacity os ss bs (cs ++ calls) u) true)) (behind_all (stream ++ piece));
       },
       rw all g.keeps,
     )
@@ -177,32 +177,32 @@ none_left (x ∷ xs) e = absurd (some_left x xs e)
 -- ---- one feed
 
 -- the rest of a piece, as what was used and what is left
-cut_rest : (m : Manner) (c : ℕ) (stream piece rest bytes : List ℕ) (used : ℕ) (a x : DeskState) (log u : List LogEntry) → Progress m c stream piece rest bytes a x log u
-    → Progress m c stream piece (take used rest ++ drop used rest) bytes a x log u
-cut_rest m c stream piece rest bytes used a x log u g = subst (λ (l : List ℕ). Progress m c stream piece l bytes a x log u) (sym (take-append-drop used rest)) g
+cut_rest : (m : Manner) (c : ℕ) (stream piece rest bytes : List ℕ) (used : ℕ) (a x : DeskState) (log u : List LogEntry) (calls : List Call) → Progress m c stream piece rest bytes a x log u calls
+    → Progress m c stream piece (take used rest ++ drop used rest) bytes a x log u calls
+cut_rest m c stream piece rest bytes used a x log u calls g = subst (λ (l : List ℕ). Progress m c stream piece l bytes a x log u calls) (sym (take-append-drop used rest)) g
 
 used_some : (used : ℕ) (rest : List ℕ) → 0 < used → used ≤ length rest → 0 < length (take used rest)
 used_some used rest some few = omega (arith, some, length-take-le used rest few)
 
 -- the connection is open behind what was used
-pub step_on : (m : Manner) (c : ℕ) (stream piece rest : List ℕ) (used : ℕ) (e next : Ear) (h : Heard) (n : Conn) (a x y : DeskState) (log u v : List LogEntry)
-    → Progress m c stream piece rest (kept_bytes e) a x log u → x.manner ≡ m → x.manner ≡ a.manner → 0 < used → used ≤ length rest → Hears (said_before e) (kept_bytes e ++ take used rest) h n
-    → Deals c (dealt_all x.manner c (said h n)) x y u v true → OnLeaves (left.On next) n → Progress m c stream piece (drop used rest) (kept_bytes next) a y log v
-step_on m c stream piece rest used e next h n a x y log u v was same kept some few hears deals leaves =
-    let d : Deals c (dealt_all m c (said h n)) x y u v true = subst (λ (k : Manner). Deals c (dealt_all k c (said h n)) x y u v true) same deals in
-    let g = cut_rest m c stream piece rest (kept_bytes e) used a x log u was in
+pub step_on : (m : Manner) (c : ℕ) (stream piece rest : List ℕ) (used : ℕ) (e next : Ear) (h : Heard) (n : Conn) (a x y : DeskState) (log u v : List LogEntry) (xs ys : List Call)
+    → Progress m c stream piece rest (kept_bytes e) a x log u xs → x.manner ≡ m → x.manner ≡ a.manner → 0 < used → used ≤ length rest → Hears (said_before e) (kept_bytes e ++ take used rest) h n
+    → Deals c (dealt_all x.manner c (said h n)) x y u v true ys → OnLeaves (left.On next) n → Progress m c stream piece (drop used rest) (kept_bytes next) a y log v (xs ++ ys)
+step_on m c stream piece rest used e next h n a x y log u v xs ys was same kept some few hears deals leaves =
+    let d : Deals c (dealt_all m c (said h n)) x y u v true ys = subst (λ (k : Manner). Deals c (dealt_all k c (said h n)) x y u v true ys) same deals in
+    let g = cut_rest m c stream piece rest (kept_bytes e) used a x log u xs was in
     let t = take used rest in
     let one = one_heard e (stream ++ g.past) t h n g.keeps (used_some used rest some few) hears in
     let keeps : Keeps (stream ++ (g.past ++ t)) (kept_bytes next) = subst (λ (l : List ℕ). Keeps l (kept_bytes next)) (append_assoc stream g.past t) (goes_left (left.On next) n ((stream ++ g.past) ++ t) leaves one.goes) in
-    one_more m c stream piece t (drop used rest) (kept_bytes e) (kept_bytes next) h n a x y log u v kept g one d keeps
+    one_more m c stream piece t (drop used rest) (kept_bytes e) (kept_bytes next) h n a x y log u v xs ys kept g one d keeps
 
 -- it was closed there
-pub step_off : (m : Manner) (c : ℕ) (stream piece rest : List ℕ) (used : ℕ) (e : Ear) (h : Heard) (n : Conn) (a x y : DeskState) (log u v : List LogEntry)
-    → Progress m c stream piece rest (kept_bytes e) a x log u → x.manner ≡ m → x.manner ≡ a.manner → 0 < used → used ≤ length rest → Hears (said_before e) (kept_bytes e ++ take used rest) h n
-    → Deals c (dealt_all x.manner c (said h n)) x y u v false → Talks c log u true → Deals c (dealt_all m c (behind (length stream) (stream ++ piece))) a y log v false
-step_off m c stream piece rest used e h n a x y log u v was same kept some few hears deals talks =
-    let d : Deals c (dealt_all m c (said h n)) x y u v false = subst (λ (k : Manner). Deals c (dealt_all k c (said h n)) x y u v false) same deals in
-    let g = cut_rest m c stream piece rest (kept_bytes e) used a x log u was in
+pub step_off : (m : Manner) (c : ℕ) (stream piece rest : List ℕ) (used : ℕ) (e : Ear) (h : Heard) (n : Conn) (a x y : DeskState) (log u v : List LogEntry) (xs ys : List Call)
+    → Progress m c stream piece rest (kept_bytes e) a x log u xs → x.manner ≡ m → x.manner ≡ a.manner → 0 < used → used ≤ length rest → Hears (said_before e) (kept_bytes e ++ take used rest) h n
+    → Deals c (dealt_all x.manner c (said h n)) x y u v false ys → Talks c log u true → Deals c (dealt_all m c (behind (length stream) (stream ++ piece))) a y log v false (xs ++ ys)
+step_off m c stream piece rest used e h n a x y log u v xs ys was same kept some few hears deals talks =
+    let d : Deals c (dealt_all m c (said h n)) x y u v false ys = subst (λ (k : Manner). Deals c (dealt_all k c (said h n)) x y u v false ys) same deals in
+    let g = cut_rest m c stream piece rest (kept_bytes e) used a x log u xs was in
     let t = take used rest in
     let one = one_heard e (stream ++ g.past) t h n g.keeps (used_some used rest some few) hears in
-    piece_closed m c stream piece t (drop used rest) (kept_bytes e) h n a x y log u v kept g one d talks
+    piece_closed m c stream piece t (drop used rest) (kept_bytes e) h n a x y log u v xs ys kept g one d talks

@@ -45,27 +45,26 @@ found_memory NoMemory = false
 
 -- These asks reached the desk and lead from its rooms to its rooms. The new outcomes are theirs in turn, but for asks that found no
 -- memory, which may not have reached it. The journal failed only for asks that would have added to a history.
-pub record Called (old new : DeskState) : Type 0 where
-  pub calls : List Call
+pub record Called (old new : DeskState) (calls : List Call) : Type 0 where
   pub rooms_are : new.rooms ≡ after old.manner old.rooms calls
   pub added : List Outcome
   pub outcomes_are : new.outcomes ≡ old.outcomes ++ added
   pub matched : filter found_memory added ≡ filter found_memory (map (λ c. c.outcome) calls)
   pub fresh : FailedFresh old.manner old.rooms calls
 
--- What asks do to a desk and to a store. The desk's manner stays, and each ask takes space for one and leaves one outcome. The store
+-- What these asks do to a desk and to a store. The desk's manner stays, and each ask takes space for one and leaves one outcome. The store
 -- tells what it told and was asked for no name. Where `within` held of the rooms at entry, it holds at each state that a log gains of the
 -- rooms that some of the asks leave, and at exit of the last rooms. Beyond what a crash could leave before, it leaves the history of such
 -- rooms, or that with the request of the ask in hand. Where `exact` held and the journal failed in no ask, it holds at exit. The count
 -- of the store's faults rose by one or more for each ask in which the journal failed, and stayed where it failed in none. Logs that keep
 -- no room's history stayed.
-pub record Endures (within within' exact exact' : List Room → ℕ → State → Type 0) (old new : DeskState) (store store' : StoreState) : Type 0 where
+pub record Endures (within within' exact exact' : List Room → ℕ → State → Type 0) (old new : DeskState) (store store' : StoreState) (calls : List Call) : Type 0 where
   pub manner : new.manner ≡ old.manner
   pub counted : new.capacity + length new.outcomes ≡ old.capacity + length old.outcomes
   pub fewer : new.capacity ≤ old.capacity
   pub told : store'.told ≡ store.told
   pub names : IsTrue store.told → store'.names ≡ store.names
-  pub asked : Called old new
+  pub asked : Called old new calls
   pub within_stays : (r : List Room) (log : ℕ) (state : State) → within' r log state ↔ within r log state
   pub exact_stays : (r : List Room) (log : ℕ) (state : State) → exact' r log state ↔ exact r log state
   pub passed : IsTrue store.told → (log : ℕ) → within old.rooms log (store.logs log).state
@@ -74,7 +73,7 @@ pub record Endures (within within' exact exact' : List Room → ℕ → State �
   pub stays_exact : faults_in new.outcomes ≡ faults_in old.outcomes → IsTrue store.told → (log : ℕ) → exact old.rooms log (store.logs log).state
       → exact' new.rooms log (store'.logs log).state
   pub in_hand : IsTrue store.told → (log : ℕ) → within old.rooms log (store.logs log).state
-      → LeavesAll (GivesRooms exact log) (IsInHand old.manner old.rooms asked.calls) (store.logs log) (store'.logs log)
+      → LeavesAll (GivesRooms exact log) (IsInHand old.manner old.rooms calls) (store.logs log) (store'.logs log)
   pub others : ForeignStay within store store'
   pub more : faults_in old.outcomes ≤ faults_in new.outcomes
   pub later : store.faults ≤ store'.faults

@@ -16,7 +16,9 @@ use Rattle.cube_http.specs.Stream.{Request}
 use Rattle.cube_http.specs.declared.connection.Heard.{Heard as Sound}
 use Rattle.cube_http.specs.declared.connection.Heard.TheVariants as heard
 use Rattle.cube_http.specs.declared.targets.Wanted.{Wanted}
-use Rattle.cube_server.specs.Crashes.{FailedFresh, Called}
+use Rattle.cube_io.specs.Seen.{StoreState}
+use Rattle.cube_io.specs.States.{State}
+use Rattle.cube_server.specs.Crashes.{FailedFresh, Called, Endures}
 use Rattle.cube_server.specs.Logs.{Luck, Call, Course, Turn, Run, spoken, replied, answered, wanted_by, dealt_all, behind, run_of, log_of, calls_of, end_of, met}
 use Rattle.cube_server.specs.declared.serving.ServeFault.{ServeFault}
 use Rattle.cube_server.specs.declared.serving.ServeFault.TheVariants as fault
@@ -68,25 +70,25 @@ pub record Speaks (c : ℕ) (op : Turn → Turn) (log log' : List LogEntry) (liv
   pub shown : sends_in log' ≡ sends_in log ++ sends
   pub runs : (k : Course) (left : List (Option ℕ)) → op (turn (speaking k (sends ++ left) log) true) ≡ turn (speaking k left log') live
 
--- a step of the definition that may ask the desk too
-pub record Deals (c : ℕ) (op : Turn → Turn) (old new : DeskState) (log log' : List LogEntry) (live : Bool) : Type 0 where
+-- a step of the definition that may ask the desk too, and asks it just this
+pub record Deals (c : ℕ) (op : Turn → Turn) (old new : DeskState) (log log' : List LogEntry) (live : Bool) (calls : List Call) : Type 0 where
   pub talks : Talks c log log' live
-  pub asked : Called old new
+  pub asked : Called old new calls
   pub sends : List (Option ℕ)
   pub starved : List Bool
   pub shown : sends_in log' ≡ sends_in log ++ sends
   pub runs : (os : List Outcome) (ss : List (Option ℕ)) (bs : List Bool) (cs : List Call)
-      → op (turn (course old.rooms old.capacity (asked.added ++ os) (sends ++ ss) (starved ++ bs) cs log) true) ≡ turn (course new.rooms new.capacity os ss bs (cs ++ asked.calls) log') live
+      → op (turn (course old.rooms old.capacity (asked.added ++ os) (sends ++ ss) (starved ++ bs) cs log) true) ≡ turn (course new.rooms new.capacity os ss bs (cs ++ calls) log') live
 
 -- the reply to what a request wants: where it goes out, the request was dealt with
-abbrev pub MakesReply : Wanted → DeskState → DeskState → Reply → Type 0
-MakesReply w old new r =
-    (q : Request) (c : ℕ) (log log' : List LogEntry) (live : Bool) → Speaks c (answered c q r) log log' live → Deals c (wanted_by old.manner w c q) old new log log' live
+abbrev pub MakesReply : Wanted → DeskState → DeskState → Reply → List Call → Type 0
+MakesReply w old new r calls =
+    (q : Request) (c : ℕ) (log log' : List LogEntry) (live : Bool) → Speaks c (answered c q r) log log' live → Deals c (wanted_by old.manner w c q) old new log log' live calls
 
 -- A piece on a connection on which a stream came before: what the items whose last byte lies in it lead to, and, while asks may be made,
 -- that an open connection keeps what goes on as the stream with the piece does.
-pub record HearsPiece (c : ℕ) (stream piece : List ℕ) (old new : DeskState) (log log' : List LogEntry) (left : Left) : Type 0 where
-  pub deals : Deals c (dealt_all old.manner c (behind (length stream) (stream ++ piece))) old new log log' (is_on left)
+pub record HearsPiece (c : ℕ) (stream piece : List ℕ) (old new : DeskState) (log log' : List LogEntry) (left : Left) (calls : List Call) : Type 0 where
+  pub deals : Deals c (dealt_all old.manner c (behind (length stream) (stream ++ piece))) old new log log' (is_on left) calls
   pub goes : 0 < new.capacity → OnGoes left (stream ++ piece)
 
 -- what is sent where the client may wait for leave
@@ -101,21 +103,21 @@ dead_said c heard.Whole t = t
 dead_said c (heard.Bad fixed) t = replied c (reply.Fixed fixed) true false t
 
 -- a step of the definition at an event: which connections are open behind it is told too
-pub record Meets (op : Run → Run) (lines' : List Line) (conns : List (ℕ × List ℕ)) (old new : DeskState) (log log' : List LogEntry) : Type 0 where
+pub record Meets (op : Run → Run) (lines' : List Line) (conns : List (ℕ × List ℕ)) (old new : DeskState) (log log' : List LogEntry) (calls : List Call) : Type 0 where
   pub conns' : List (ℕ × List ℕ)
   pub kept : 0 < new.capacity → AreKept lines' conns'
   pub live : AreOpen lines' log'
   pub quiet : events_in log' ≡ events_in log
-  pub asked : Called old new
+  pub asked : Called old new calls
   pub sends : List (Option ℕ)
   pub starved : List Bool
   pub shown : sends_in log' ≡ sends_in log ++ sends
   pub runs : (n : ℕ) (os : List Outcome) (ss : List (Option ℕ)) (bs : List Bool) (cs : List Call)
-      → op (run conns n (course old.rooms old.capacity (asked.added ++ os) (sends ++ ss) (starved ++ bs) cs log)) ≡ run conns' n (course new.rooms new.capacity os ss bs (cs ++ asked.calls) log')
+      → op (run conns n (course old.rooms old.capacity (asked.added ++ os) (sends ++ ss) (starved ++ bs) cs log)) ≡ run conns' n (course new.rooms new.capacity os ss bs (cs ++ calls) log')
 
 -- the same, whatever came on the connections that were open before
-abbrev pub MeetsAll : (Run → Run) → List Line → List Line → DeskState → DeskState → List LogEntry → List LogEntry → Type 0
-MeetsAll op lines lines' old new log log' = (conns : List (ℕ × List ℕ)) → AreKept lines conns → Meets op lines' conns old new log log'
+abbrev pub MeetsAll : (Run → Run) → List Line → List Line → DeskState → DeskState → List LogEntry → List LogEntry → List Call → Type 0
+MeetsAll op lines lines' old new log log' calls = (conns : List (ℕ × List ℕ)) → AreKept lines conns → Meets op lines' conns old new log log' calls
 
 -- the stated numbers of asks and of events
 pub record Stated : Type 0 where
@@ -132,9 +134,9 @@ stated_at desk events = record { asks = desk.capacity; events = events }
 
 -- The log of a whole call that takes so many events at most. It is the log of the definition for the rooms at entry, the events that it
 -- shows, and the stated numbers, the outcomes that were gained, the sends as the log shows them, and what constant replies starved. No
--- outcome is left over, the rooms are those at the end of the definition's run, and as many asks are left as the desk has space for. The
--- journal failed only for asks that would have added to a history.
-pub record Serves (old new : DeskState) (events : ℕ) (log : List LogEntry) : Type 0 where
+-- outcome is left over, the rooms are those at the end of the definition's run, and as many asks are left as the desk has space for. What
+-- the definition's run asks is just this. The journal failed only for asks that would have added to a history.
+pub record Serves (old new : DeskState) (events : ℕ) (log : List LogEntry) (calls : List Call) : Type 0 where
   pub outcomes : List Outcome
   pub starved : List Bool
   pub gained : new.outcomes ≡ old.outcomes ++ outcomes
@@ -142,6 +144,7 @@ pub record Serves (old new : DeskState) (events : ℕ) (log : List LogEntry) : T
   pub ended : new.rooms ≡ end_of old.manner old.rooms (events_in log) (luck_of (stated_at old events) outcomes (sends_in log) starved)
   pub none_left : (run_of old.manner old.rooms (events_in log) (luck_of (stated_at old events) outcomes (sends_in log) starved)).course.outcomes ≡ []
   pub asks_left : (run_of old.manner old.rooms (events_in log) (luck_of (stated_at old events) outcomes (sends_in log) starved)).course.asks ≡ new.capacity
+  pub called : calls_of old.manner old.rooms (events_in log) (luck_of (stated_at old events) outcomes (sends_in log) starved) ≡ calls
   pub fresh : FailedFresh old.manner old.rooms (calls_of old.manner old.rooms (events_in log) (luck_of (stated_at old events) outcomes (sends_in log) starved))
 
 abbrev pub is_end : Arrival → Bool
@@ -155,14 +158,14 @@ abbrev pub has_end : List LogEntry → Bool
 has_end log = list_any is_end (events_in log)
 
 -- an event that is not the end was taken, and what it leads to was done
-pub record Takes (lines' : List Line) (conns : List (ℕ × List ℕ)) (old new : DeskState) (log log' : List LogEntry) : Type 0 where
+pub record Takes (lines' : List Line) (conns : List (ℕ × List ℕ)) (old new : DeskState) (log log' : List LogEntry) (calls : List Call) : Type 0 where
   pub event : Arrival
   pub more : is_end event ≡ false
-  pub meets : Meets (met old.manner event) lines' conns old new (log ++ Heard event ∷ []) log'
+  pub meets : Meets (met old.manner event) lines' conns old new (log ++ Heard event ∷ []) log' calls
 
 -- the same, whatever came on the connections that were open before
-abbrev pub TakesAll : List Line → List Line → DeskState → DeskState → List LogEntry → List LogEntry → Type 0
-TakesAll lines lines' old new log log' = (conns : List (ℕ × List ℕ)) → AreKept lines conns → Takes lines' conns old new log log'
+abbrev pub TakesAll : List Line → List Line → DeskState → DeskState → List LogEntry → List LogEntry → List Call → Type 0
+TakesAll lines lines' old new log log' calls = (conns : List (ℕ × List ℕ)) → AreKept lines conns → Takes lines' conns old new log log' calls
 
 -- What is said by the fault that ends a call of at most so many events: the wire failed before the stated asks and events were used up;
 -- or one of these was, and both were counted.
@@ -170,3 +173,10 @@ abbrev pub IsCounted : ServeFault → Bool → DeskState → DeskState → ℕ �
 IsCounted fault.WireFailed told old new events log = (0 < new.capacity) × (IsTrue told → length (events_in log) < events)
 IsCounted (fault.Spent requests taken) told old new events log =
     (length new.outcomes ≡ length old.outcomes + requests) × (IsTrue told → length (events_in log) ≡ taken) × (taken ≤ events) × ((new.capacity ≡ 0) ⊎ (taken ≡ events))
+
+-- The wire allows that the next event is looked for at each moment of a call of which all is true that is promised of a call which ends
+-- there since the wire fails: the log so far is that of the definition, and what its asks leave is on the store.
+abbrev pub Permits : {D S : Type 0} → (D → DeskState) → (D → List Room → ℕ → State → Type 0) → (D → List Room → ℕ → State → Type 0) → (S → StoreState) → (StoreState → List LogEntry → Type 0) → ℕ → D → S → Type 0
+Permits {D} {S} at within exact tells allows events desk store = (d : D) (t : S) (log : List LogEntry) (calls : List Call)
+    → Serves (at desk) (at d) events log calls → IsCounted fault.WireFailed true (at desk) (at d) events log → has_end log ≡ false
+    → Endures (within desk) (within d) (exact desk) (exact d) (at desk) (at d) (tells store) (tells t) calls → allows (tells t) log

@@ -4,7 +4,7 @@ ghost use Rattle.cube_io.specs.Wires.{IsSound};
 ghost use Rattle.cube_http.specs.Targets.{wanted};
 ghost use Rattle.cube_server.specs.Crashes.{Endures};
 ghost use Rattle.cube_server.specs.Ears.{kept_bytes, said, Fits, Keeps, is_on, is_continue, IsBad, OnKeeps, OnLeaves};
-ghost use Rattle.cube_server.specs.Logs.{wanted_by, dealt_all};
+ghost use Rattle.cube_server.specs.Logs.{Call, wanted_by, dealt_all};
 ghost use Rattle.cube_server.specs.Seen.{desk_of, OnlySends};
 ghost use Rattle.cube_server.specs.Steps.{Speaks, Deals, MakesReply, HearsPiece, IsPhrased, body_said, dead_said};
 ghost use Rattle.cube_http.specs.Responses.{has_phrase, status_of};
@@ -38,10 +38,9 @@ fn reply_to<S: Store, D: Desk<S>>(
     requires fits { D.fits desk.old store.old }
     requires capacity { 1 ≤ D.capacity desk.old }
     requires phrased { IsPhrased (D.manner desk.old) }
-    ensures deals { let at = desk_of D.manner D.rooms D.capacity D.outcomes in MakesReply wanted.now (at desk.old) (at desk.new) result }
+    ensures does { let at = desk_of D.manner D.rooms D.capacity D.outcomes in (calls : List Call) × Endures (D.within desk.old) (D.within desk.new) (D.exact desk.old) (D.exact desk.new) (at desk.old) (at desk.new) (S.state store.old) (S.state store.new) calls × MakesReply wanted.now (at desk.old) (at desk.new) result calls }
     ensures phrase { IsTrue (has_phrase (status_of result)) }
     ensures fits { D.fits desk.new store.new }
-    ensures endures { let at = desk_of D.manner D.rooms D.capacity D.outcomes in Endures (D.within desk.old) (D.within desk.new) (D.exact desk.old) (D.exact desk.new) (at desk.old) (at desk.new) (S.state store.old) (S.state store.new) }
 {
     match wanted {
         Wanted::Asked(ask) => desk.answer(alloc, store, ask),
@@ -59,10 +58,9 @@ fn make_reply<S: Store, D: Desk<S>>(
     requires fits { D.fits desk.old store.old }
     requires capacity { 1 ≤ D.capacity desk.old }
     requires phrased { IsPhrased (D.manner desk.old) }
-    ensures deals { let at = desk_of D.manner D.rooms D.capacity D.outcomes in MakesReply (wanted done.now) (at desk.old) (at desk.new) result }
+    ensures does { let at = desk_of D.manner D.rooms D.capacity D.outcomes in (calls : List Call) × Endures (D.within desk.old) (D.within desk.new) (D.exact desk.old) (D.exact desk.new) (at desk.old) (at desk.new) (S.state store.old) (S.state store.new) calls × MakesReply (wanted done.now) (at desk.old) (at desk.new) result calls }
     ensures phrase { IsTrue (has_phrase (status_of result)) }
     ensures fits { D.fits desk.new store.new }
-    ensures endures { let at = desk_of D.manner D.rooms D.capacity D.outcomes in Endures (D.within desk.old) (D.within desk.new) (D.exact desk.old) (D.exact desk.new) (at desk.old) (at desk.new) (S.state store.old) (S.state store.new) }
 {
     match done.wanted(alloc) {
         Ok(wanted) => reply_to(alloc, desk, store, &wanted),
@@ -83,9 +81,8 @@ fn answer_request<S: Store, D: Desk<S>, W: Wire>(
     requires capacity { 1 ≤ D.capacity desk.old }
     requires phrased { IsPhrased (D.manner desk.old) }
     requires live { IsTrue (W.state wire.old).told → IsSound c (W.state wire.old).log }
-    ensures deals { let at = desk_of D.manner D.rooms D.capacity D.outcomes in IsTrue (W.state wire.old).told → Deals c (wanted_by (D.manner desk.old) (wanted done.now) c done.now) (at desk.old) (at desk.new) (W.state wire.old).log (W.state wire.new).log result }
+    ensures does { let at = desk_of D.manner D.rooms D.capacity D.outcomes in (calls : List Call) × Endures (D.within desk.old) (D.within desk.new) (D.exact desk.old) (D.exact desk.new) (at desk.old) (at desk.new) (S.state store.old) (S.state store.new) calls × (IsTrue (W.state wire.old).told → Deals c (wanted_by (D.manner desk.old) (wanted done.now) c done.now) (at desk.old) (at desk.new) (W.state wire.old).log (W.state wire.new).log result calls) }
     ensures fits { D.fits desk.new store.new }
-    ensures endures { let at = desk_of D.manner D.rooms D.capacity D.outcomes in Endures (D.within desk.old) (D.within desk.new) (D.exact desk.old) (D.exact desk.new) (at desk.old) (at desk.new) (S.state store.old) (S.state store.new) }
     ensures sending { OnlySends (W.state wire.old) (W.state wire.new) }
 {
     let reply = make_reply(alloc, desk, store, done);
@@ -149,10 +146,9 @@ fn deal_done<S: Store, D: Desk<S>, W: Wire>(
     requires capacity { 1 ≤ D.capacity desk.old }
     requires phrased { IsPhrased (D.manner desk.old) }
     requires live { IsTrue (W.state wire.old).told → IsSound c (W.state wire.old).log }
-    ensures deals { let at = desk_of D.manner D.rooms D.capacity D.outcomes in IsTrue (W.state wire.old).told → Deals c (wanted_by (D.manner desk.old) (wanted done) c done) (at desk.old) (at desk.new) (W.state wire.old).log (W.state wire.new).log (is_on result) }
+    ensures does { let at = desk_of D.manner D.rooms D.capacity D.outcomes in (calls : List Call) × Endures (D.within desk.old) (D.within desk.new) (D.exact desk.old) (D.exact desk.new) (at desk.old) (at desk.new) (S.state store.old) (S.state store.new) calls × (IsTrue (W.state wire.old).told → Deals c (wanted_by (D.manner desk.old) (wanted done) c done) (at desk.old) (at desk.new) (W.state wire.old).log (W.state wire.new).log (is_on result) calls) }
     ensures keeps { OnKeeps result [] }
     ensures fits { D.fits desk.new store.new }
-    ensures endures { let at = desk_of D.manner D.rooms D.capacity D.outcomes in Endures (D.within desk.old) (D.within desk.new) (D.exact desk.old) (D.exact desk.new) (at desk.old) (at desk.new) (S.state store.old) (S.state store.new) }
     ensures sending { OnlySends (W.state wire.old) (W.state wire.new) }
 {
     if answer_request(alloc, desk, store, wire, c, &done) {
@@ -177,10 +173,9 @@ fn deal<S: Store, D: Desk<S>, W: Wire>(
     requires phrased { IsPhrased (D.manner desk.old) }
     requires live { IsTrue (W.state wire.old).told → IsSound c (W.state wire.old).log }
     requires heard { Fits heard conn }
-    ensures deals { let at = desk_of D.manner D.rooms D.capacity D.outcomes in IsTrue (W.state wire.old).told → Deals c (dealt_all (D.manner desk.old) c (said heard conn)) (at desk.old) (at desk.new) (W.state wire.old).log (W.state wire.new).log (is_on result) }
+    ensures does { let at = desk_of D.manner D.rooms D.capacity D.outcomes in (calls : List Call) × Endures (D.within desk.old) (D.within desk.new) (D.exact desk.old) (D.exact desk.new) (at desk.old) (at desk.new) (S.state store.old) (S.state store.new) calls × (IsTrue (W.state wire.old).told → Deals c (dealt_all (D.manner desk.old) c (said heard conn)) (at desk.old) (at desk.new) (W.state wire.old).log (W.state wire.new).log (is_on result) calls) }
     ensures leaves { OnLeaves result conn }
     ensures fits { D.fits desk.new store.new }
-    ensures endures { let at = desk_of D.manner D.rooms D.capacity D.outcomes in Endures (D.within desk.old) (D.within desk.new) (D.exact desk.old) (D.exact desk.new) (at desk.old) (at desk.new) (S.state store.old) (S.state store.new) }
     ensures sending { OnlySends (W.state wire.old) (W.state wire.new) }
 {
     match conn {
@@ -213,10 +208,9 @@ pub fn hear_piece<S: Store, D: Desk<S>, W: Wire>(
     requires capacity { 1 ≤ D.capacity desk.old }
     requires phrased { IsPhrased (D.manner desk.old) }
     requires live { IsTrue (W.state wire.old).told → IsSound c (W.state wire.old).log }
-    ensures deals { let at = desk_of D.manner D.rooms D.capacity D.outcomes in IsTrue (W.state wire.old).told → (stream : List ℕ) → Keeps stream (kept_bytes ear)
-        → HearsPiece c stream piece.now (at desk.old) (at desk.new) (W.state wire.old).log (W.state wire.new).log result }
+    ensures does { let at = desk_of D.manner D.rooms D.capacity D.outcomes in (calls : List Call) × Endures (D.within desk.old) (D.within desk.new) (D.exact desk.old) (D.exact desk.new) (at desk.old) (at desk.new) (S.state store.old) (S.state store.new) calls × (IsTrue (W.state wire.old).told → (stream : List ℕ) → Keeps stream (kept_bytes ear)
+        → HearsPiece c stream piece.now (at desk.old) (at desk.new) (W.state wire.old).log (W.state wire.new).log result calls) }
     ensures fits { D.fits desk.new store.new }
-    ensures endures { let at = desk_of D.manner D.rooms D.capacity D.outcomes in Endures (D.within desk.old) (D.within desk.new) (D.exact desk.old) (D.exact desk.new) (at desk.old) (at desk.new) (S.state store.old) (S.state store.new) }
     ensures sending { OnlySends (W.state wire.old) (W.state wire.new) }
 {
     let mut ear = ear;

@@ -7,10 +7,10 @@ ghost use Rattle.cube_io.specs.Wires.LogEntry.{Heard};
 ghost use Rattle.cube_io.specs.Wires.Arrival.{Opened, Came, Closed, End};
 ghost use Rattle.cube_server.specs.Crashes.{Endures};
 ghost use Rattle.cube_server.specs.Ears.{has, IsAnew, HasCapacity, AreOpen, AreOpenBut, AreOpenAt, is_last};
-ghost use Rattle.cube_server.specs.Logs.{met};
+ghost use Rattle.cube_server.specs.Logs.{Call, met};
 ghost use Rattle.cube_server.specs.Pools.{IsFree};
 ghost use Rattle.cube_server.specs.Seen.{DeskState, desk_of, OnlySends};
-ghost use Rattle.cube_server.specs.Steps.{IsPhrased, IsCounted, MeetsAll, TakesAll, Serves, has_end};
+ghost use Rattle.cube_server.specs.Steps.{IsPhrased, IsCounted, MeetsAll, Permits, TakesAll, Serves, has_end};
 
 use crate::deal::{Left, hear_piece};
 use crate::lines::{Ear, Lines};
@@ -64,7 +64,7 @@ fn open_conn<W: Wire>(wire: &mut W, lines: &mut Lines, c: u32)
     requires live { IsTrue (W.state wire.old).told → IsSound c (W.state wire.old).log }
     ensures capacity { HasCapacity lines.new 0 }
     ensures meets { IsTrue (W.state wire.old).told → AreOpenBut c lines.old.lines.items (W.state wire.old).log
-        → (desk : DeskState) → MeetsAll (met desk.manner (Opened c)) lines.old.lines.items lines.new.lines.items desk desk (W.state wire.old).log (W.state wire.new).log }
+        → (desk : DeskState) → MeetsAll (met desk.manner (Opened c)) lines.old.lines.items lines.new.lines.items desk desk (W.state wire.old).log (W.state wire.new).log [] }
     ensures sending { OnlySends (W.state wire.old) (W.state wire.new) }
 {
     match fresh_ear(lines, c) {
@@ -80,7 +80,7 @@ fn close_conn(lines: &mut Lines, c: u32)
     requires { HasCapacity lines.old 0 }
     ensures capacity { HasCapacity lines.new 0 }
     ensures meets { (log : List LogEntry) → AreOpenBut c lines.old.lines.items log
-        → (desk : DeskState) → MeetsAll (met desk.manner (Closed c)) lines.old.lines.items lines.new.lines.items desk desk log log }
+        → (desk : DeskState) → MeetsAll (met desk.manner (Closed c)) lines.old.lines.items lines.new.lines.items desk desk log log [] }
 {
     match lines.take(c) {
         Some(ear) => lines.give(ear.renew()),
@@ -104,10 +104,9 @@ fn hear<S: Store, D: Desk<S>, W: Wire>(
     requires lines { HasCapacity lines.old 0 }
     requires live { IsTrue (W.state wire.old).told → AreOpen lines.old.lines.items (W.state wire.old).log }
     ensures lines { HasCapacity lines.new 0 }
-    ensures meets { let at = desk_of D.manner D.rooms D.capacity D.outcomes in IsTrue (W.state wire.old).told → MeetsAll (met (D.manner desk.old) (Came c piece.now)) lines.old.lines.items lines.new.lines.items
-        (at desk.old) (at desk.new) (W.state wire.old).log (W.state wire.new).log }
+    ensures does { let at = desk_of D.manner D.rooms D.capacity D.outcomes in (calls : List Call) × Endures (D.within desk.old) (D.within desk.new) (D.exact desk.old) (D.exact desk.new) (at desk.old) (at desk.new) (S.state store.old) (S.state store.new) calls × (IsTrue (W.state wire.old).told → MeetsAll (met (D.manner desk.old) (Came c piece.now)) lines.old.lines.items lines.new.lines.items
+        (at desk.old) (at desk.new) (W.state wire.old).log (W.state wire.new).log calls) }
     ensures fits { D.fits desk.new store.new }
-    ensures endures { let at = desk_of D.manner D.rooms D.capacity D.outcomes in Endures (D.within desk.old) (D.within desk.new) (D.exact desk.old) (D.exact desk.new) (at desk.old) (at desk.new) (S.state store.old) (S.state store.new) }
     ensures sending { OnlySends (W.state wire.old) (W.state wire.new) }
 {
     let Some(ear) = lines.take(c) else {
@@ -137,10 +136,9 @@ fn meet<S: Store, D: Desk<S>, W: Wire>(
     requires live { IsTrue (W.state wire.old).told → AreOpenAt event lines.old.lines.items (W.state wire.old).log }
     requires more { is_last event ≡ false }
     ensures lines { HasCapacity lines.new 0 }
-    ensures meets { let at = desk_of D.manner D.rooms D.capacity D.outcomes in IsTrue (W.state wire.old).told → MeetsAll (met (D.manner desk.old) (arrival_of event buf.now)) lines.old.lines.items lines.new.lines.items
-        (at desk.old) (at desk.new) (W.state wire.old).log (W.state wire.new).log }
+    ensures does { let at = desk_of D.manner D.rooms D.capacity D.outcomes in (calls : List Call) × Endures (D.within desk.old) (D.within desk.new) (D.exact desk.old) (D.exact desk.new) (at desk.old) (at desk.new) (S.state store.old) (S.state store.new) calls × (IsTrue (W.state wire.old).told → MeetsAll (met (D.manner desk.old) (arrival_of event buf.now)) lines.old.lines.items lines.new.lines.items
+        (at desk.old) (at desk.new) (W.state wire.old).log (W.state wire.new).log calls) }
     ensures fits { D.fits desk.new store.new }
-    ensures endures { let at = desk_of D.manner D.rooms D.capacity D.outcomes in Endures (D.within desk.old) (D.within desk.new) (D.exact desk.old) (D.exact desk.new) (at desk.old) (at desk.new) (S.state store.old) (S.state store.new) }
     ensures sending { OnlySends (W.state wire.old) (W.state wire.new) }
 {
     match event {
@@ -176,18 +174,18 @@ fn take_event<S: Store, D: Desk<S>, W: Wire>(
     requires lines { HasCapacity lines.old 0 }
     requires buf { length buf.old ≡ 65536 }
     requires live { IsTrue (W.state wire.old).told → AreOpen lines.old.lines.items (W.state wire.old).log }
+    requires allowed { IsTrue (W.state wire.old).told → W.allows (S.state store.old) (W.state wire.old).log }
     ensures lines { HasCapacity lines.new 0 }
-    ensures takes { let at = desk_of D.manner D.rooms D.capacity D.outcomes in result ≡ Taken.More → IsTrue (W.state wire.old).told → TakesAll lines.old.lines.items lines.new.lines.items
-        (at desk.old) (at desk.new) (W.state wire.old).log (W.state wire.new).log }
+    ensures does { let at = desk_of D.manner D.rooms D.capacity D.outcomes in (calls : List Call) × Endures (D.within desk.old) (D.within desk.new) (D.exact desk.old) (D.exact desk.new) (at desk.old) (at desk.new) (S.state store.old) (S.state store.new) calls × (result ≡ Taken.More → IsTrue (W.state wire.old).told → TakesAll lines.old.lines.items lines.new.lines.items
+        (at desk.old) (at desk.new) (W.state wire.old).log (W.state wire.new).log calls) }
     ensures ended { result ≡ Taken.Ended → (desk.new ≡ desk.old) × (store.new ≡ store.old) × (IsTrue (W.state wire.old).told → (W.state wire.new).log ≡ (W.state wire.old).log ++ Heard End ∷ []) }
     ensures failed { result ≡ Taken.Failed → (desk.new ≡ desk.old) × (store.new ≡ store.old) × (IsTrue (W.state wire.old).told → (W.state wire.new).log ≡ (W.state wire.old).log) × Rose (W.state wire.old).faults (W.state wire.new).faults }
     ensures fits { D.fits desk.new store.new }
-    ensures endures { let at = desk_of D.manner D.rooms D.capacity D.outcomes in Endures (D.within desk.old) (D.within desk.new) (D.exact desk.old) (D.exact desk.new) (at desk.old) (at desk.new) (S.state store.old) (S.state store.new) }
     ensures plays { PlaysOn (W.state wire.old) (W.state wire.new) }
     ensures steady { result ≢ Taken.Failed → (W.state wire.new).faults ≡ (W.state wire.old).faults }
     ensures sends { (W.state wire.old).send_faults ≤ (W.state wire.new).send_faults }
 {
-    let event = match wire.next(buf) {
+    let event = match wire.next(&*store, buf) {
         Ok(event) => event,
         Err(_) => return Taken::Failed,
     };
@@ -216,8 +214,9 @@ fn serve_lines<S: Store, D: Desk<S>, W: Wire>(
     requires none { lines.old.lines.items ≡ [] }
     requires buf { length buf.old ≡ 65536 }
     requires log { IsTrue (W.state wire.old).told → (W.state wire.old).log ≡ [] }
+    requires permits { let at = desk_of D.manner D.rooms D.capacity D.outcomes in IsTrue (W.state wire.old).told → Permits {D = D} {S = S} at D.within D.exact S.state W.allows events desk.old store.old }
     ensures lines { HasCapacity lines.new 0 }
-    ensures log { let at = desk_of D.manner D.rooms D.capacity D.outcomes in IsTrue (W.state wire.old).told → Serves (at desk.old) (at desk.new) events (W.state wire.new).log }
+    ensures serves { let at = desk_of D.manner D.rooms D.capacity D.outcomes in (calls : List Call) × Endures (D.within desk.old) (D.within desk.new) (D.exact desk.old) (D.exact desk.new) (at desk.old) (at desk.new) (S.state store.old) (S.state store.new) calls × (IsTrue (W.state wire.old).told → Serves (at desk.old) (at desk.new) events (W.state wire.new).log calls) }
     ensures ended { IsTrue (W.state wire.old).told → OnOk result ((es : List Arrival) × (events_in (W.state wire.new).log ≡ es ++ End ∷ []) × (length es < events)) }
     ensures unended { IsTrue (W.state wire.old).told → OnErr result (has_end (W.state wire.new).log ≡ false) }
     ensures capacity { OnOk result (0 < D.capacity desk.new) }
@@ -227,7 +226,6 @@ fn serve_lines<S: Store, D: Desk<S>, W: Wire>(
     ensures sends { (W.state wire.old).send_faults ≤ (W.state wire.new).send_faults }
     ensures plays { PlaysOn (W.state wire.old) (W.state wire.new) }
     ensures fits { D.fits desk.new store.new }
-    ensures endures { let at = desk_of D.manner D.rooms D.capacity D.outcomes in Endures (D.within desk.old) (D.within desk.new) (D.exact desk.old) (D.exact desk.new) (at desk.old) (at desk.new) (S.state store.old) (S.state store.new) }
 {
     let capacity = desk.left();
     let mut taken = 0u64;
@@ -255,6 +253,9 @@ fn serve_lines<S: Store, D: Desk<S>, W: Wire>(
 ///
 /// Each request whose last byte lies in a piece is answered before a later byte is looked at. A failed send closes its
 /// connection alone.
+///
+/// Each time that it looks for the next event, behind which what it sent may go out, the log so far is that of the definition, and
+/// the store has behind it what was answered: who gives the wire has to allow just that.
 pub fn serve<S: Store, D: Desk<S>, W: Wire>(
     alloc: Global,
     desk: &mut D,
@@ -269,7 +270,8 @@ pub fn serve<S: Store, D: Desk<S>, W: Wire>(
     requires phrased { IsPhrased (D.manner desk.old) }
     requires pool { IsFree pool.old }
     requires log { IsTrue (W.state wire.old).told → (W.state wire.old).log ≡ [] }
-    ensures log { let at = desk_of D.manner D.rooms D.capacity D.outcomes in IsTrue (W.state wire.old).told → Serves (at desk.old) (at desk.new) events (W.state wire.new).log }
+    requires permits { let at = desk_of D.manner D.rooms D.capacity D.outcomes in IsTrue (W.state wire.old).told → Permits {D = D} {S = S} at D.within D.exact S.state W.allows events desk.old store.old }
+    ensures serves { let at = desk_of D.manner D.rooms D.capacity D.outcomes in (calls : List Call) × Endures (D.within desk.old) (D.within desk.new) (D.exact desk.old) (D.exact desk.new) (at desk.old) (at desk.new) (S.state store.old) (S.state store.new) calls × (IsTrue (W.state wire.old).told → Serves (at desk.old) (at desk.new) events (W.state wire.new).log calls) }
 
     // Ok comes exactly at the end, and a fault only before it.
     ensures ended { IsTrue (W.state wire.old).told → OnOk result ((es : List Arrival) × (events_in (W.state wire.new).log ≡ es ++ End ∷ []) × (length es < events)) }
@@ -281,7 +283,6 @@ pub fn serve<S: Store, D: Desk<S>, W: Wire>(
     ensures sends { (W.state wire.old).send_faults ≤ (W.state wire.new).send_faults }
     ensures plays { PlaysOn (W.state wire.old) (W.state wire.new) }
     ensures fits { D.fits desk.new store.new }
-    ensures endures { let at = desk_of D.manner D.rooms D.capacity D.outcomes in Endures (D.within desk.old) (D.within desk.new) (D.exact desk.old) (D.exact desk.new) (at desk.old) (at desk.new) (S.state store.old) (S.state store.new) }
 {
     serve_lines(
         alloc,

@@ -123,6 +123,10 @@ impl<S: Store> Desk<S> for Tabled {
         self.left
     }
 
+    fn held(&self) -> u64 {
+        0
+    }
+
     ghost failures = { λ d. table_is_constant d.table.items };
 }
 
@@ -157,12 +161,14 @@ fn write_sent(text: &mut Text, c: u32, piece: &[u8]) -> Result<(), NoMemory> {
 impl Wire for Noted {
     ghost state = { λ w. ⟦<MemWire as Wire>⟧.state w.wire };
 
+    ghost allows = { λ store log. ⊤ };
+
     fn listen(&mut self, address: &Text, idle: u32) -> Result<(), Failed> {
         self.wire.listen(address, idle)
     }
 
-    fn next(&mut self, buf: &mut [u8]) -> Result<Event, Failed> {
-        self.wire.next(buf)
+    fn next<S: Store>(&mut self, store: &S, buf: &mut [u8]) -> Result<Event, Failed> {
+        self.wire.next(store, buf)
     }
 
     fn send(&mut self, c: u32, piece: &[u8]) -> Result<(), Failed> {
