@@ -7,7 +7,7 @@ ghost use Rattle.cube_demo.specs.declared.fault.DemoFault.TheVariants as fault;
 use crate::DemoFault;
 use crate::asking::ask_all;
 use crate::summary::summary;
-use cube_io::Sink;
+use cube_io::{NullStore, Sink};
 use cube_made::make_cube;
 use cube_model::{NoMemory, Text};
 use std::alloc::Global;
@@ -40,7 +40,7 @@ pub fn demo<S: Sink>(alloc: Global, number: u64, size: u32, out: &mut S) -> Resu
     ensures nothing { IfErr result (λ e. e ≢ fault.OutputFailed → out.new ≡ out.old) }
 {
     let text = summary_of(alloc, number, size)?;
-    match out.put(text.as_slice()) {
+    match out.put(&NullStore::new(), text.as_slice()) {
         Ok(()) => Ok(()),
         Err(_) => Err(DemoFault::OutputFailed),
     }

@@ -8,7 +8,7 @@ ghost use Rattle.cube_io.specs.Wires.{render, rendered};
 ghost use Rattle.cube_io.specs.Wires.LogEntry.{Sent, Shut};
 ghost use Rattle.cube_script.specs.Heads.{sent_head, shut_line};
 
-use cube_io::{Failed, Note, Scroll, Sink};
+use cube_io::{Failed, Note, NullStore, Scroll, Sink};
 use cube_text::{LINE, write_at};
 use itoa::Buffer;
 
@@ -44,9 +44,10 @@ fn put_sent<O: Sink>(out: &mut O, c: u32, piece: &[u8]) -> Result<(), Failed>
 {
     let mut head = [0u8; LINE];
     let end = write_sent(&mut head, c, piece);
-    out.put(&head[..end])?;
-    out.put(piece)?;
-    out.put(b"\n")?;
+    let none = NullStore::new();
+    out.put(&none, &head[..end])?;
+    out.put(&none, piece)?;
+    out.put(&none, b"\n")?;
     Ok(())
 }
 
@@ -58,7 +59,7 @@ fn put_shut<O: Sink>(out: &mut O, c: u32) -> Result<(), Failed>
 {
     let mut line = [0u8; LINE];
     let end = write_shut(&mut line, c);
-    out.put(&line[..end])?;
+    out.put(&NullStore::new(), &line[..end])?;
     Ok(())
 }
 

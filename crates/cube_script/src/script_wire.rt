@@ -1,5 +1,5 @@
 // A wire that plays a script.
-ghost use Rattle.std.specs.Prelude.{◌≡◌, ◌<◌, ◌+◌, ◌-◌, ◌^◌, ◌++◌, ◌∷◌, [], ◌↔◌, true, false, min, length, is_ok, is_err, Some, None, Ok, IsTrue, IfOk, OnOk, OnErr, MatchResult};
+ghost use Rattle.std.specs.Prelude.{◌≡◌, ◌<◌, ◌+◌, ◌-◌, ◌^◌, ◌++◌, ◌∷◌, [], ◌↔◌, ⊤, true, false, min, length, is_ok, is_err, Some, None, Ok, IsTrue, IfOk, OnOk, OnErr, MatchResult};
 ghost use Rattle.std.specs.Io.KnownBytes.{Appends};
 ghost use Rattle.cube_model.specs.Answers.{Answers};
 ghost use Rattle.cube_io.specs.Causes.{HasCause};
@@ -15,7 +15,7 @@ use crate::capacity::{capacity_for, entries_owed, next_play, play_event};
 use crate::play::{Play, ScriptFault};
 use crate::read::read_script;
 use crate::render::put_log;
-use cube_io::{Event, Failed, Note, Scroll, Sink, Wire};
+use cube_io::{Event, Failed, Note, Scroll, Sink, Store, Wire};
 use cube_model::Text;
 use std::alloc::Global;
 use std::marker::Model;
@@ -155,6 +155,8 @@ impl ScriptWire {
 impl Wire for ScriptWire {
     ghost state = { λ w. record { faults = w.faults; send_faults = w.send_faults; told = true; log = w.log; heard = w.heard; plan = record { events = w.script; sends = w.most.sends; bytes = w.most.bytes; refused = w.spilled } } };
 
+    ghost allows = { λ store log. ⊤ };
+
     fn listen(&mut self, address: &Text, _idle: u32) -> Result<(), Failed>
         ensures cause { HasCause self.old.faults self.new.faults result }
         ensures sends { self.new.send_faults ≡ self.old.send_faults }
@@ -174,7 +176,7 @@ impl Wire for ScriptWire {
         Ok(())
     }
 
-    fn next(&mut self, buf: &mut [u8]) -> Result<Event, Failed>
+    fn next<S: Store>(&mut self, _store: &S, buf: &mut [u8]) -> Result<Event, Failed>
         requires { length buf.old ≡ 65536 }
         ensures cause { HasCause self.old.faults self.new.faults result }
         ensures sends { self.new.send_faults ≡ self.old.send_faults }
