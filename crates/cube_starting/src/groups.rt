@@ -1,5 +1,5 @@
 // Groups: books with names, each kept in a log of one store, and the desk over them.
-ghost use Rattle.std.specs.Prelude.{◌≡◌, ◌≢◌, ◌<◌, ◌≤◌, ◌+◌, ◌++◌, ◌∷◌, [], None, Some, IsTrue, IfOk, IfErr, OnOk, OnErr, length, option_map, slice_get};
+ghost use Rattle.std.specs.Prelude.{◌≡◌, ◌≢◌, ◌<◌, ◌≤◌, ◌+◌, ◌-◌, ◌^◌, ◌++◌, ◌∷◌, [], min, None, Some, IsTrue, IfOk, IfErr, OnOk, OnErr, length, option_map, slice_get};
 ghost use Rattle.std.specs.List.{position};
 ghost use Rattle.cube_model.specs.declared.outcome.Outcome.{Outcome};
 ghost use Rattle.cube_model.specs.declared.outcome.Outcome.TheVariants as outcome;
@@ -7,7 +7,7 @@ ghost use Rattle.cube_model.specs.Cubes.{Each};
 ghost use Rattle.cube_model.specs.Dims.{Dims};
 ghost use Rattle.cube_model.specs.Policies.{IsPolicy};
 ghost use Rattle.cube_model.specs.Rooms.{aim, room_of, missed_by};
-ghost use Rattle.cube_io.specs.Desks.{most_calls};
+ghost use Rattle.cube_io.specs.Desks.{most_calls, entries};
 ghost use Rattle.cube_io.specs.States.{Gained};
 ghost use Rattle.cube_io.specs.Told.{Works, OthersStay};
 ghost use Rattle.cube_journal.specs.Keeping.{IsInRecovery};
@@ -158,6 +158,16 @@ fn add_book<S: Store>(
     }
 }
 
+// How many requests the histories of some books hold, up to the end of the type.
+fn held_by(books: &[NamedBook]) -> u64
+    ensures { result ≡ min (entries (rooms_of books.now)) (2 ^ 64 - 1) }
+{
+    match books.split_first() {
+        Some((first, others)) => first.held().saturating_add(held_by(others)),
+        None => 0,
+    }
+}
+
 /// Groups of users, each with a book of its own, and the outcomes of their asks. Group number k from 0 is kept in log k of
 /// the store.
 #[derive(Drop)]
@@ -294,6 +304,13 @@ impl Groups {
     {
         self.turns.left()
     }
+
+    // How many requests the histories hold, up to the end of the type.
+    fn entries_held(&self) -> u64
+        ensures { result ≡ min (entries (rooms_of self.now.books)) (2 ^ 64 - 1) }
+    {
+        held_by(self.books.as_slice())
+    }
 }
 
 impl<S: Store> Desk<S> for Groups {
@@ -322,6 +339,10 @@ impl<S: Store> Desk<S> for Groups {
 
     fn left(&self) -> u64 {
         self.capacity()
+    }
+
+    fn held(&self) -> u64 {
+        self.entries_held()
     }
 
     ghost failures = { λ e. manner_is_constant (dims_of e.books) };

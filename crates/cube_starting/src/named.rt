@@ -1,4 +1,5 @@
 // A book with a name.
+ghost use Rattle.std.specs.Prelude.{◌≡◌, length};
 
 use cube_engine::Book;
 use cube_model::Text;
@@ -8,4 +9,13 @@ use cube_model::Text;
 pub(crate) struct NamedBook {
     pub(crate) name: Text,
     pub(crate) book: Book,
+}
+
+impl NamedBook {
+    /// How many requests its history holds.
+    pub(crate) fn held(&self) -> u64
+        ensures { result ≡ length self.now.book.history }
+    {
+        self.book.state().history().len() as u64
+    }
 }
