@@ -8,7 +8,7 @@ use Rattle.cube_model.specs.Dims.{Dims}
 use Rattle.cube_model.specs.Rooms.{Room, turns_to, ended}
 use Rattle.cube_model.specs.Runs.{end}
 use Rattle.cube_model.specs.TwoWorlds.{Extends}
-use Rattle.cube_io.specs.Desks.{Manner, GivesRooms, LeavesAll}
+use Rattle.cube_io.specs.Desks.{Manner, GivesRooms}
 use Rattle.cube_io.specs.Seen.{StoreState, Seen}
 use Rattle.cube_io.specs.States.{State, Gained, settled}
 use Rattle.cube_io.proofs.Trails.{gained_then, gained_map}
@@ -116,9 +116,7 @@ behind s calls b = (ended (by_words s) (map turn_of calls) (room b)).history
 pub record WereAsked (s : Dims) (calls : List Reached) (within exact : List Room → ℕ → State → Type 0) (stated : ℕ) (last : DeskState) (store store' : StoreState) (bs : List NamedBook) : Type 0 where
   pub numbered : AreNumbered 0 bs
   pub leads : last.rooms ≡ after (manner s) (rooms_of bs) calls
-  pub endures : Endures (HoldsAt IsWithin (places_of bs)) within (HoldsAt IsExact (places_of bs)) exact (record { manner = manner s; rooms = rooms_of bs; capacity = stated; outcomes = [] }) last store store'
-  pub in_hand : IsTrue store.told → (log : ℕ) → HoldsAt IsWithin (places_of bs) (rooms_of bs) log (store.logs log).state
-      → LeavesAll (GivesRooms (HoldsAt IsExact (places_of bs)) log) (IsInHand (manner s) (rooms_of bs) calls) (store.logs log) (store'.logs log)
+  pub endures : Endures (HoldsAt IsWithin (places_of bs)) within (HoldsAt IsExact (places_of bs)) exact (record { manner = manner s; rooms = rooms_of bs; capacity = stated; outcomes = [] }) last store store' calls
 
 -- what is in hand is behind some asks, of which the last may be the one in hand
 hand_calls : (m : Manner) (rooms : List Room) (calls : List Reached) (here : List Room) → IsInHand m rooms calls here → (cs : List Reached) × (here ≡ after m rooms cs)
@@ -205,4 +203,4 @@ module _ {S : Type 0} (s : Dims) (calls : List Reached) (within exact : List Roo
   held_meanwhile is_exact opened =
       held k g.book.core g.book.policy g.book.history these (GivesRooms (HoldsAt IsExact (places_of bs)) k) (IsInHand (manner s) (rooms_of bs) calls) mid store
       (rooms_of bs, hand_starts (manner s) (rooms_of bs) calls, history_first front back g) in_book is_exact opened
-      (w.in_hand are k (own_at IsWithin front back g (mid.logs k).state w.numbered (λ b image. inl (is_exact b image))))
+      (w.endures.in_hand are k (own_at IsWithin front back g (mid.logs k).state w.numbered (λ b image. inl (is_exact b image))))

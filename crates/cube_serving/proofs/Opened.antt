@@ -50,8 +50,8 @@ module _ {F S : Type 0} (cube : RuledFiles) (more : List (List ℕ)) (files : Se
       → AllRecover core 0 gs (seen tells old mid) → (w : ServeWire tells core e last end heard_told log mid new) → RoseBy (faults_in last.outcomes) (tells mid).faults (tells new).faults → Served cube more files (seen tells old new) w.asking end told log
   served new e last end told heard_told log is same_heard stays told_same steady passed w failed =
       let runs : AreRunsOf bs w.asking.groups = subst (λ (xs : List NamedBook). AreRunsOf xs w.asking.groups) (sym is) w.runs in
-      let both : (v : Wired core w.asking end told log) × HoldFrom tells core w.asking.groups v.asked.calls mid new =
-      subst (λ (b : Bool). (v : Wired core w.asking end b log) × HoldFrom tells core w.asking.groups v.asked.calls mid new) same_heard (w.wired, w.held) in
+      let both : (v : Wired core w.asking end told log) × HoldFrom tells core w.asking.groups v.calls mid new =
+      subst (λ (b : Bool). (v : Wired core w.asking end b log) × HoldFrom tells core w.asking.groups v.calls mid new) same_heard (w.wired, w.held) in
       record {
         core = core;
         opened = are_open cube more files fs core gs tells old mid bs make behind started over rules few held new w.asking.groups runs stays;
@@ -61,7 +61,7 @@ module _ {F S : Type 0} (cube : RuledFiles) (more : List (List ℕ)) (files : Se
               (w.survived (subst IsTrue (sym told_same) are) old (sym told_same))
               (runs_exact core (seen tells old mid) 0 gs bs w.asking.groups started runs are)
               (all_unmap (λ k (g : RuledGroup). RecoversIn k core g.policy (seen tells old mid)) ruled_by 0 w.asking.groups (run_recovers cube more files fs core gs tells old mid bs make behind started over rules few held w.asking.groups runs passed));
-          held = λ are. all_three (λ k (g : GroupRun). IsExact core g.policy g.first ((tells mid).logs k).state) (λ k (g : GroupRun). RecoversIn k core g.policy (seen tells old mid)) (λ k (g : GroupRun). HeldIn k core g.policy (IsInTurn core w.asking.groups both.0.asked.calls k) (seen tells old new)) 0 w.asking.groups
+          held = λ are. all_three (λ k (g : GroupRun). IsExact core g.policy g.first ((tells mid).logs k).state) (λ k (g : GroupRun). RecoversIn k core g.policy (seen tells old mid)) (λ k (g : GroupRun). HeldIn k core g.policy (IsInTurn core w.asking.groups both.0.calls k) (seen tells old new)) 0 w.asking.groups
               (both.1 (subst IsTrue (sym told_same) are) old (sym told_same))
               (runs_exact core (seen tells old mid) 0 gs bs w.asking.groups started runs are)
               (all_unmap (λ k (g : RuledGroup). RecoversIn k core g.policy (seen tells old mid)) ruled_by 0 w.asking.groups (run_recovers cube more files fs core gs tells old mid bs make behind started over rules few held w.asking.groups runs passed));

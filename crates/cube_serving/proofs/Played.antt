@@ -23,6 +23,7 @@ use Rattle.cube_script.specs.Playing.{Playing, IsPlaying, Overran, starting, sta
 use Rattle.cube_script.specs.Scripts.{connection_of, bytes_of, came_of, event_of, words, lines, with_event, events_of, script_of}
 use Rattle.cube_script.specs.declared.script_wire.SendCapacity.{SendCapacity}
 use Rattle.cube_script.specs.declared.play.ScriptFault.TheVariants.{Line, NoMemory}
+use Rattle.cube_server.specs.Logs.{Call}
 use Rattle.cube_server.specs.Seen.{DeskState}
 use Rattle.cube_server.specs.Steps.{Serves, has_end, is_end, luck_of, sends_in, stated_at}
 use Rattle.cube_server.specs.declared.serving.ServeFault.{ServeFault}
@@ -186,8 +187,8 @@ unfailed w events end playing is quiet failed none sound e =
     omega (arith, failed e, zero)
 
 -- why a send failed: where no event came behind it, it is the last but for the close
-pub overran : (w : Playing) (old new : DeskState) (events : ℕ) (capacity : SendCapacity) → IsPlaying w → w.most ≡ capacity → Serves old new events w.log → has_torn w.log ≡ true → EndsOverrun capacity w.log
-overran w old new events capacity playing is served some =
+pub overran : (w : Playing) (old new : DeskState) (events : ℕ) (calls : List Call) (capacity : SendCapacity) → IsPlaying w → w.most ≡ capacity → Serves old new events w.log calls → has_torn w.log ≡ true → EndsOverrun capacity w.log
+overran w old new events calls capacity playing is served some =
     let o : Overran capacity w.log = subst (λ (most : SendCapacity). Overran most w.log) is (playing.fails.cause some) in
     let (more, shut, waits) = fails_last old.manner old.rooms (events_in w.log) (luck_of (stated_at old events) served.outcomes (sends_in w.log) served.starved) o.before o.behind o.conn [] o.size (sym served.told ∙ o.whole) in
     record { overran = o; last = closed_last o.conn o.behind more shut waits o.unheard }

@@ -10,7 +10,7 @@ use Rattle.cube_model.specs.Dims.{Dims}
 use Rattle.cube_model.specs.Policies.{IsPolicy}
 use Rattle.cube_model.specs.Rooms.{Room, AreApart, ended}
 use Rattle.cube_model.specs.Verdicts.{IsAdmissible}
-use Rattle.cube_io.specs.Desks.{Manner, GivesRooms, LeavesAll}
+use Rattle.cube_io.specs.Desks.{Manner}
 use Rattle.cube_io.specs.Seen.{StoreState, seen}
 use Rattle.cube_io.specs.States.{State, Gained}
 use Rattle.cube_journal.specs.Keeping.{IsInRecovery}
@@ -113,9 +113,9 @@ abbrev pub desk_at : Groups → DeskState
 desk_at e = record { manner = manner (dims_of e.books); rooms = rooms_of e.books; capacity = e.left; outcomes = e.outcomes }
 
 module _ (core : Core) (e last : Groups) (some : 1 ≤ length e.books) (over : Over core e.books) (rules : Each (λ b. IsRuled b.book) e.books) (order : AreInOrder e.books) (unasked : e.outcomes ≡ [])
-    (same : manner (dims_of last.books) ≡ manner (dims_of e.books)) (asked : Called (desk_at e) (desk_at last)) where
+    (same : manner (dims_of last.books) ≡ manner (dims_of e.books)) (calls : List Reached) (asked : Called (desk_at e) (desk_at last) calls) where
   abbrev gs : List GroupRun
-  gs = map (run_from core.dims asked.calls) e.books
+  gs = map (run_from core.dims calls) e.books
 
   abbrev a : Asking
   a = record { groups = gs; stated = e.left; left = last.left; outcomes = last.outcomes }
@@ -126,107 +126,102 @@ module _ (core : Core) (e last : Groups) (some : 1 ≤ length e.books) (over : O
   -- the desk before the asks and behind them, by the runs
   before_is : desk_at e ≡ desk_before core a
   unfolding desk
-  before_is = desk_is (manner (dims_of e.books)) (manner core.dims) (rooms_of e.books) (first_rooms core gs) e.left e.outcomes [] (ap manner dims_are) (sym (firsts core asked.calls e.books over)) unasked
+  before_is = desk_is (manner (dims_of e.books)) (manner core.dims) (rooms_of e.books) (first_rooms core gs) e.left e.outcomes [] (ap manner dims_are) (sym (firsts core calls e.books over)) unasked
 
-  led : rooms_of last.books ≡ map (ended (by_words core.dims) (map turn_of asked.calls)) (rooms_of e.books)
-  led = asked.rooms_are ∙ ap (λ (d : Dims). after (manner d) (rooms_of e.books) asked.calls) dims_are ∙ after_is core.dims (rooms_of e.books) asked.calls
+  led : rooms_of last.books ≡ map (ended (by_words core.dims) (map turn_of calls)) (rooms_of e.books)
+  led = asked.rooms_are ∙ ap (λ (d : Dims). after (manner d) (rooms_of e.books) calls) dims_are ∙ after_is core.dims (rooms_of e.books) calls
 
   behind_is : desk_at last ≡ desk_behind core a
   unfolding desk
-  behind_is = desk_is (manner (dims_of last.books)) (manner core.dims) (rooms_of last.books) (last_rooms core gs) last.left last.outcomes last.outcomes (same ∙ ap manner dims_are) (led ∙ sym (lasts core asked.calls e.books over)) refl
+  behind_is = desk_is (manner (dims_of last.books)) (manner core.dims) (rooms_of last.books) (last_rooms core gs) last.left last.outcomes last.outcomes (same ∙ ap manner dims_are) (led ∙ sym (lasts core calls e.books over)) refl
 
   apart : AreApart (first_rooms core gs)
-  apart = subst AreApart (sym (firsts core asked.calls e.books over)) order.apart
+  apart = subst AreApart (sym (firsts core calls e.books over)) order.apart
 
   -- what the log tells
-  told : (log : List LogEntry) → Serves (desk_before core a) (desk_behind core a) max_input log → Tells core a log
+  told : (log : List LogEntry) → Serves (desk_before core a) (desk_behind core a) max_input log calls → Tells core a log calls
   told log served =
       let events = events_in log in
       let luck = luck_in core a log served.outcomes served.starved in
       let rooms = first_rooms core gs in
       let m = manner core.dims in
-      let calls = calls_of m rooms events luck in
-      let self = logs_are_alike m rooms rooms events luck (same_self m rooms calls) in
-      let at : map (last_room core) gs ≡ map (λ g. ended (by_words core.dims) (map turn_of calls) (first_room core g)) gs =
-      served.ended ∙ self.ended ∙ after_is core.dims rooms calls ∙ map_twice (first_room core) (ended (by_words core.dims) (map turn_of calls)) (λ g. ended (by_words core.dims) (map turn_of calls) (first_room core g)) gs (λ g. refl) in
-      let known = ruled core asked.calls e.books over rules in
+      let ran = calls_of m rooms events luck in
+      let self = logs_are_alike m rooms rooms events luck (same_self m rooms ran) in
+      let at : map (last_room core) gs ≡ map (λ g. ended (by_words core.dims) (map turn_of ran) (first_room core g)) gs =
+      served.ended ∙ self.ended ∙ after_is core.dims rooms ran ∙ map_twice (first_room core) (ended (by_words core.dims) (map turn_of ran)) (λ g. ended (by_words core.dims) (map turn_of ran) (first_room core g)) gs (λ g. refl) in
+      let known = ruled core calls e.books over rules in
       record {
         served = served;
         apart = each_by_itself core gs events luck log served.told apart;
         hides = each_in _ gs (λ g k.
             let here = each_at (λ (x : GroupRun). IsPolicy core.dims x.policy × IsAdmissible (shown core x.policy) x.first) gs g known k in
             group_hides core gs events luck log served.told apart g k (first_core core e.books some over rules) here.0 here.1
-            (ap (λ (r : Room). r.history) (map_at (last_room core) (λ x. ended (by_words core.dims) (map turn_of calls) (first_room core x)) gs g at k)));
+            (ap (λ (r : Room). r.history) (map_at (last_room core) (λ x. ended (by_words core.dims) (map turn_of ran) (first_room core x)) gs g at k)));
       }
 
   -- what was asked, over the runs
-  asked_runs : Called (desk_before core a) (desk_behind core a)
+  asked_runs : Called (desk_before core a) (desk_behind core a) calls
   asked_runs = record {
-    calls = asked.calls;
-    rooms_are = lasts core asked.calls e.books over ∙ sym (after_is core.dims (rooms_of e.books) asked.calls) ∙ ap (λ (rs : List Room). after (manner core.dims) rs asked.calls) (sym (firsts core asked.calls e.books over));
+    rooms_are = lasts core calls e.books over ∙ sym (after_is core.dims (rooms_of e.books) calls) ∙ ap (λ (rs : List Room). after (manner core.dims) rs calls) (sym (firsts core calls e.books over));
     added = asked.added;
     outcomes_are = asked.outcomes_are ∙ ap (λ (os : List Outcome). os ++ asked.added) unasked;
     matched = asked.matched;
-    fresh = subst (λ (m : Manner). FailedFresh m (first_rooms core gs) asked.calls) (ap manner dims_are)
-        (subst (λ (rs : List Room). FailedFresh (manner (dims_of e.books)) rs asked.calls) (sym (firsts core asked.calls e.books over)) asked.fresh);
+    fresh = subst (λ (m : Manner). FailedFresh m (first_rooms core gs) calls) (ap manner dims_are)
+        (subst (λ (rs : List Room). FailedFresh (manner (dims_of e.books)) rs calls) (sym (firsts core calls e.books over)) asked.fresh);
   }
 
-  pub wired : (end_is : Result (Unit {0}) ServeFault) (is_told : Bool) (log : List LogEntry) → Ends end_is is_told (desk_at e) (desk_at last) log → last.left + length last.outcomes ≡ e.left + length e.outcomes → (IsTrue is_told → Serves (desk_at e) (desk_at last) max_input log) → Wired core a end_is is_told log
+  pub wired : (end_is : Result (Unit {0}) ServeFault) (is_told : Bool) (log : List LogEntry) → Ends end_is is_told (desk_at e) (desk_at last) log → last.left + length last.outcomes ≡ e.left + length e.outcomes → (IsTrue is_told → Serves (desk_at e) (desk_at last) max_input log calls) → Wired core a end_is is_told log
   wired end_is is_told log ends counted serves = record {
     ended = subst (λ (x : DeskState). Ends end_is is_told x (desk_behind core a) log) before_is (subst (λ (x : DeskState). Ends end_is is_told (desk_at e) x log) behind_is ends);
     counted = (let none = ap (λ (os : List Outcome). length os) unasked in omega (arith, counted, none));
+    calls = calls;
     asked = asked_runs;
-    tells = λ are. told log (subst (λ (x : DeskState). Serves x (desk_behind core a) max_input log) before_is (subst (λ (x : DeskState). Serves (desk_at e) x max_input log) behind_is (serves are)));
+    tells = λ are. told log (subst (λ (x : DeskState). Serves x (desk_behind core a) max_input log calls) before_is (subst (λ (x : DeskState). Serves (desk_at e) x max_input log calls) behind_is (serves are)));
   }
 
   -- what was left of the logs
   abbrev Lives : StoreState → StoreState → Type 0
-  Lives st st' = Endures (HoldsAt IsWithin (places_of e.books)) (HoldsAt IsWithin (places_of last.books)) (HoldsAt IsExact (places_of e.books)) (HoldsAt IsExact (places_of last.books)) (desk_at e) (desk_at last) st st'
+  Lives st st' = Endures (HoldsAt IsWithin (places_of e.books)) (HoldsAt IsWithin (places_of last.books)) (HoldsAt IsExact (places_of e.books)) (HoldsAt IsExact (places_of last.books)) (desk_at e) (desk_at last) st st' calls
 
-  were : (st st' : StoreState) (v : Lives st st') → v.asked ≡ asked → WereAsked core.dims asked.calls (HoldsAt IsWithin (places_of last.books)) (HoldsAt IsExact (places_of last.books)) e.left (desk_at last) st st' e.books
+  were : (st st' : StoreState) (v : Lives st st') → WereAsked core.dims calls (HoldsAt IsWithin (places_of last.books)) (HoldsAt IsExact (places_of last.books)) e.left (desk_at last) st st' e.books
   unfolding desk
-  were st st' v same_asked =
+  were st st' v =
       let bs = e.books in
       let begun = desk_is (manner (dims_of bs)) (manner core.dims) (rooms_of bs) (rooms_of bs) e.left e.outcomes [] (ap manner dims_are) refl unasked in
       record {
         numbered = order.numbered;
-        leads = asked.rooms_are ∙ ap (λ (d : Dims). after (manner d) (rooms_of bs) asked.calls) dims_are;
-        endures = subst (λ (x : DeskState). Endures (HoldsAt IsWithin (places_of bs)) (HoldsAt IsWithin (places_of last.books)) (HoldsAt IsExact (places_of bs)) (HoldsAt IsExact (places_of last.books)) x (desk_at last) st st') begun v;
-        in_hand = λ told log within.
-            subst (λ (m : Manner). LeavesAll (GivesRooms (HoldsAt IsExact (places_of bs)) log) (IsInHand m (rooms_of bs) asked.calls) (st.logs log) (st'.logs log)) (ap manner dims_are)
-            (subst (λ (x : Called (desk_at e) (desk_at last)). LeavesAll (GivesRooms (HoldsAt IsExact (places_of bs)) log) (IsInHand (manner (dims_of bs)) (rooms_of bs) x.calls) (st.logs log) (st'.logs log)) same_asked (v.in_hand told log within));
+        leads = asked.rooms_are ∙ ap (λ (d : Dims). after (manner d) (rooms_of bs) calls) dims_are;
+        endures = subst (λ (x : DeskState). Endures (HoldsAt IsWithin (places_of bs)) (HoldsAt IsWithin (places_of last.books)) (HoldsAt IsExact (places_of bs)) (HoldsAt IsExact (places_of last.books)) x (desk_at last) st st' calls) begun v;
       }
 
-  pub survive : {S : Type 0} (tells : S → StoreState) (mid new : S) (v : Lives (tells mid) (tells new)) → v.asked ≡ asked → SurviveFrom tells core a mid new
+  pub survive : {S : Type 0} (tells : S → StoreState) (mid new : S) (v : Lives (tells mid) (tells new)) → SurviveFrom tells core a mid new
   unfolding run_from
-  survive {S} tells mid new v same_asked = λ are opened told_same.
+  survive {S} tells mid new v = λ are opened told_same.
       let s = core.dims in
-      let calls = asked.calls in
       let within = HoldsAt IsWithin (places_of last.books) in
       let exact = HoldsAt IsExact (places_of last.books) in
       all_map (λ k (g : GroupRun). IsExact core g.policy g.first ((tells mid).logs k).state → RecoversIn k core g.policy (seen tells opened mid) → SurvivedIn k core g.policy g.first g.last last.outcomes (seen tells opened new)) (run_from s calls) 0 e.books
       (each_book (λ k b. IsExact core b.book.policy b.book.history ((tells mid).logs k).state → RecoversIn k core b.book.policy (seen tells opened mid) → SurvivedIn k core b.book.policy b.book.history (behind s calls b) last.outcomes (seen tells opened new)) e.books
       (λ front back g is.
       let c : g.book.core ≡ core = each_here (λ b. b.book.core ≡ core) g front back (subst (Over core) is over) in
-      let w = subst (WereAsked s calls within exact e.left (desk_at last) (tells mid) (tells new)) is (were (tells mid) (tells new) v same_asked) in
+      let w = subst (WereAsked s calls within exact e.left (desk_at last) (tells mid) (tells new)) is (were (tells mid) (tells new) v) in
       let k = length front in
       λ is_exact recovers. subst (λ (x : Core). SurvivedIn k x g.book.policy g.book.history (behind s calls g) last.outcomes (seen tells opened new)) c
       (survived s calls within exact e.left (desk_at last) (tells mid) (seen tells opened new) are front back g w (subst (λ (x : Core). IsExact x g.book.policy g.book.history ((tells mid).logs k).state) (sym c) is_exact)
       (subst (λ (x : Core). Gained (IsInRecovery (history_of x g.book.policy) ((tells opened).logs k).state) ((tells opened).logs k) ((tells mid).logs k)) (sym c) (recovers (subst IsTrue (sym told_same) are))))))
 
   -- what was in hand meanwhile
-  pub hold : {S : Type 0} (tells : S → StoreState) (mid new : S) (v : Lives (tells mid) (tells new)) → v.asked ≡ asked → HoldFrom tells core gs asked.calls mid new
+  pub hold : {S : Type 0} (tells : S → StoreState) (mid new : S) (v : Lives (tells mid) (tells new)) → HoldFrom tells core gs calls mid new
   unfolding run_from
-  hold {S} tells mid new v same_asked = λ are opened told_same.
+  hold {S} tells mid new v = λ are opened told_same.
       let s = core.dims in
-      let calls = asked.calls in
       let within = HoldsAt IsWithin (places_of last.books) in
       let exact = HoldsAt IsExact (places_of last.books) in
       all_map (λ k (g : GroupRun). IsExact core g.policy g.first ((tells mid).logs k).state → RecoversIn k core g.policy (seen tells opened mid) → HeldIn k core g.policy (IsInTurn core gs calls k) (seen tells opened new)) (run_from s calls) 0 e.books
       (each_book (λ k b. IsExact core b.book.policy b.book.history ((tells mid).logs k).state → RecoversIn k core b.book.policy (seen tells opened mid) → HeldIn k core b.book.policy (IsInTurn core gs calls k) (seen tells opened new)) e.books
       (λ front back g is.
       let c : g.book.core ≡ core = each_here (λ b. b.book.core ≡ core) g front back (subst (Over core) is over) in
-      let w = subst (WereAsked s calls within exact e.left (desk_at last) (tells mid) (tells new)) is (were (tells mid) (tells new) v same_asked) in
+      let w = subst (WereAsked s calls within exact e.left (desk_at last) (tells mid) (tells new)) is (were (tells mid) (tells new) v) in
       let k = length front in
       let rooms : rooms_of (front ++ g ∷ back) ≡ first_rooms core gs = ap rooms_of (sym is) ∙ sym (firsts core calls e.books over) in
       λ is_exact recovers.
@@ -235,20 +230,20 @@ module _ (core : Core) (e last : Groups) (some : 1 ≤ length e.books) (over : O
       (held_meanwhile s calls within exact e.left (desk_at last) (tells mid) (seen tells opened new) are front back g w (subst (λ (x : Core). IsExact x g.book.policy g.book.history ((tells mid).logs k).state) (sym c) is_exact)
       (subst (λ (x : Core). Gained (IsInRecovery (history_of x g.book.policy) ((tells opened).logs k).state) ((tells opened).logs k) ((tells mid).logs k)) (sym c) (recovers (subst IsTrue (sym told_same) are)))))))
 
-  pub serves : {S : Type 0} (tells : S → StoreState) (mid new : S) (end_is : Result (Unit {0}) ServeFault) (is_told : Bool) (log : List LogEntry) (w : Wired core a end_is is_told log) → w.asked.calls ≡ asked.calls → SurviveFrom tells core a mid new → HoldFrom tells core gs asked.calls mid new
+  pub serves : {S : Type 0} (tells : S → StoreState) (mid new : S) (end_is : Result (Unit {0}) ServeFault) (is_told : Bool) (log : List LogEntry) (w : Wired core a end_is is_told log) → w.calls ≡ calls → SurviveFrom tells core a mid new → HoldFrom tells core gs calls mid new
       → ServeWire tells core e last end_is is_told log mid new
   serves tells mid new end_is is_told log w same_calls v h = record {
     asking = a;
-    runs = runs core asked.calls e.books;
+    runs = runs core calls e.books;
     stated = refl;
     left = refl;
     outcomes = refl;
     wired = w;
     survived = v;
-    held = subst (λ (calls : List Reached). HoldFrom tells core gs calls mid new) (sym same_calls) h;
+    held = subst (λ (cs : List Reached). HoldFrom tells core gs cs mid new) (sym same_calls) h;
   }
 
-  pub wired_calls : (end_is : Result (Unit {0}) ServeFault) (is_told : Bool) (log : List LogEntry) (ends : Ends end_is is_told (desk_at e) (desk_at last) log) (counted : last.left + length last.outcomes ≡ e.left + length e.outcomes) (serves_so : IsTrue is_told → Serves (desk_at e) (desk_at last) max_input log)
-      → (wired end_is is_told log ends counted serves_so).asked.calls ≡ asked.calls
-  unfolding wired asked_runs
+  pub wired_calls : (end_is : Result (Unit {0}) ServeFault) (is_told : Bool) (log : List LogEntry) (ends : Ends end_is is_told (desk_at e) (desk_at last) log) (counted : last.left + length last.outcomes ≡ e.left + length e.outcomes) (serves_so : IsTrue is_told → Serves (desk_at e) (desk_at last) max_input log calls)
+      → (wired end_is is_told log ends counted serves_so).calls ≡ calls
+  unfolding wired
   wired_calls end_is is_told log ends counted serves_so = refl

@@ -1,5 +1,5 @@
 -- What is told to the connections of a wire on which the groups of a cube are served. Who is under one policy is a group without a name.
-use Rattle.std.specs.Prelude.{◌≡◌, ◌≢◌, ◌⊎◌, ◌<◌, ◌+◌, ⊤, ℕ, zero, suc, Bool, false, IsTrue, List, [], ◌∷◌, ◌++◌, length, map, codes, decimal}
+use Rattle.std.specs.Prelude.{◌≡◌, ◌≢◌, ◌⊎◌, ◌<◌, ◌+◌, ⊤, ℕ, zero, suc, Bool, true, false, IsTrue, List, [], ◌∷◌, ◌++◌, length, map, codes, decimal}
 use Rattle.std.specs.declared.result.Result.{Result}
 use Rattle.std.specs.declared.result.Result.TheVariants.{Ok, Err}
 use Rattle.cube_model.specs.declared.ask.Question.{Question}
@@ -8,7 +8,8 @@ use Rattle.cube_model.specs.declared.outcome.Outcome.{Outcome}
 use Rattle.cube_model.specs.Cores.{Core}
 use Rattle.cube_model.specs.Cubes.{Each}
 use Rattle.cube_model.specs.Rooms.{Room, Call, IsByItself, with_world}
-use Rattle.cube_io.specs.Causes.{Rose}
+use Rattle.cube_io.specs.Causes.{Rose, RoseBy}
+use Rattle.cube_io.specs.Desks.{faults_in}
 use Rattle.cube_io.specs.Seen.{FolderState, StoreState, WireState, Seen, Unused, seen}
 use Rattle.cube_io.specs.Wires.{Arrival, LogEntry, events_in}
 use Rattle.cube_io.specs.Wires.Arrival.{End}
@@ -26,7 +27,7 @@ use Rattle.cube_server.specs.Seen.{DeskState}
 use Rattle.cube_server.specs.Steps.{Serves, IsCounted, has_end, sends_in, luck_of, stated_at}
 use Rattle.cube_server.specs.declared.serving.ServeFault.{ServeFault}
 use Rattle.cube_server.specs.declared.serving.ServeFault.TheVariants.{WireFailed, Spent}
-use Rattle.cube_starting.specs.Grouping.{GroupRun, AllOf, AreKept, AreRunsOf, AllRecover, AreOpen, EndsClosedGroups, HaveJournals, ruled, first_room, first_rooms, last_rooms}
+use Rattle.cube_starting.specs.Grouping.{GroupRun, OnlyFrom, AllOf, AreKept, AreRunsOf, AllRecover, AreOpen, EndsClosedGroups, HaveJournals, ruled, first_room, first_rooms, last_rooms}
 use Rattle.cube_starting.specs.NamedBooks.{Groups}
 use Rattle.cube_starting.specs.Starting.{RecoversIn, SurvivedIn, HeldIn}
 use Rattle.cube_talk.specs.Talk.{max_input}
@@ -58,11 +59,11 @@ turns_of core gs log luck = map turn_of (calls_of (manner core.dims) (first_room
 abbrev pub luck_in : Core → Asking → List LogEntry → List Outcome → List Bool → Luck
 luck_in core a log outcomes starved = luck_of (stated_at (desk_before core a) max_input) outcomes (sends_in log) starved
 
--- The log is that of the definitions, over the rooms with the first histories at its start and the last at its end. The replies to what
--- reached a group are those of its room alone, so that asks of other groups do not enter. And the log hides each protected cell of each
+-- The log is that of the definitions, over the rooms with the first histories at its start and the last at its end, and what reached the
+-- groups is what the definitions' run asks. The replies to what reached a group are those of its room alone, so that asks of other groups do not enter. And the log hides each protected cell of each
 -- group: over the world with the changes in that room alone it would be the same, by the same events, outcomes and sends.
-pub record Tells (core : Core) (a : Asking) (log : List LogEntry) : Type 0 where
-  pub served : Serves (desk_before core a) (desk_behind core a) max_input log
+pub record Tells (core : Core) (a : Asking) (log : List LogEntry) (calls : List Reached) : Type 0 where
+  pub served : Serves (desk_before core a) (desk_behind core a) max_input log calls
   pub apart : Each (λ g. IsByItself (by_words core.dims) (first_rooms core a.groups) (turns_of core a.groups log (luck_in core a log served.outcomes served.starved)) (first_room core g)) a.groups
   pub hides : Each (λ g. Hides core g.policy g.last (λ w. log ≡ log_of (manner core.dims) (with_world g.name w (first_rooms core a.groups)) (events_in log) (luck_in core a log served.outcomes served.starved))) a.groups
 
@@ -89,8 +90,9 @@ served_text (Err (Spent requests events)) = codes "spent: " ++ decimal requests 
 pub record Wired (core : Core) (a : Asking) (end : Result (Unit {0}) ServeFault) (told : Bool) (log : List LogEntry) : Type 0 where
   pub ended : Ends end told (desk_before core a) (desk_behind core a) log
   pub counted : a.left + length a.outcomes ≡ a.stated
-  pub asked : Called (desk_before core a) (desk_behind core a)
-  pub tells : IsTrue told → Tells core a log
+  pub calls : List Reached
+  pub asked : Called (desk_before core a) (desk_behind core a) calls
+  pub tells : IsTrue told → Tells core a log calls
 
 -- ---- what is in hand meanwhile
 
@@ -126,7 +128,14 @@ pub record ServeWire {S : Type 0} (tells : S → StoreState) (core : Core) (old 
   pub outcomes : asking.outcomes ≡ new.outcomes
   pub wired : Wired core asking end told log
   pub survived : SurviveFrom tells core asking store store'
-  pub held : HoldFrom tells core asking.groups wired.asked.calls store store'
+  pub held : HoldFrom tells core asking.groups wired.calls store store'
+
+-- The wire allows that the next event is looked for at each moment of a serving of which all is true that is promised of one which ends there
+-- since the wire fails.
+abbrev pub PermitsGroups : {S : Type 0} → (S → StoreState) → (StoreState → List LogEntry → Type 0) → Groups → S → Type 0
+PermitsGroups {S} tells allows old store = (now : Groups) (t : S) (log : List LogEntry)
+    → ((core : Core) → Each (λ b. b.book.core ≡ core) old.books → ServeWire tells core old now (Err WireFailed) true log store t)
+    → OnlyFrom 0 (length old.books) (tells store) (tells t) → RoseBy (faults_in now.outcomes) (tells store).faults (tells t).faults → allows (tells t) log
 
 -- ---- the whole
 
@@ -135,7 +144,7 @@ pub record Served {F S : Type 0} (cube : RuledFiles) (more : List (List ℕ)) (f
   pub core : Core
   pub opened : AreOpen cube more files store core a.groups
   pub wired : Wired core a end told log
-  pub kept : AreKept core a.groups a.outcomes (IsInTurn core a.groups wired.asked.calls) store
+  pub kept : AreKept core a.groups a.outcomes (IsInTurn core a.groups wired.calls) store
 
 -- Groups were opened, and nothing was served: of each journal every crash leaves what recovers its history.
 pub record Unserved {F S : Type 0} (cube : RuledFiles) (more : List (List ℕ)) (files : Seen FolderState F) (store : Seen StoreState S) : Type 0 where
@@ -152,6 +161,12 @@ pub record ServedUpTo {F S : Type 0} (cube : RuledFiles) (more : List (List ℕ)
   pub outcomes_are : r.outcomes ≡ asking.outcomes
   pub end : Result (Unit {0}) ServeFault
   pub served : Served cube more files store asking end told log
+
+-- Of each moment at which the next event is looked for, and what was sent may go out: all is true that is promised of a run which ends
+-- there since the wire fails. So the log so far is that of the definitions, and on the store is what was answered. There the wire allows it.
+abbrev pub PermitsServing : {F S : Type 0} → RuledFiles → ℕ → (F → FolderState) → (S → StoreState) → (StoreState → List LogEntry → Type 0) → F → S → Type 0
+PermitsServing {F} {S} cube stated folder tells allows files store = (f : F) (t : S) (log : List LogEntry) (a : Asking)
+    → a.stated ≡ stated → Served cube [] (seen folder files f) (seen tells store t) a (Err WireFailed) true log → allows (tells t) log
 
 -- the connections of a wire were served so, and the report says how that ended
 pub record ServedConnections {F S W : Type 0} (cube : RuledFiles) (stated : ℕ) (files : Seen FolderState F) (store : Seen StoreState S) (wire : Seen WireState W) (r : Report) : Type 0 where

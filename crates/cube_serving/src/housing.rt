@@ -10,7 +10,7 @@ ghost use Rattle.cube_server.specs.Pools.{IsFree};
 ghost use Rattle.cube_server.specs.declared.serving.ServeFault.TheVariants as fault;
 ghost use Rattle.cube_starting.specs.Grouping.{OnlyFrom};
 ghost use Rattle.cube_starting.specs.NamedBooks.{IsKeptIn};
-ghost use Rattle.cube_serving.specs.Serving.{ServeWire};
+ghost use Rattle.cube_serving.specs.Serving.{ServeWire, PermitsGroups};
 
 use crate::serving::MAX_EVENTS;
 use cube_io::{Store, Wire};
@@ -36,6 +36,7 @@ pub fn serve_groups<S: Store, W: Wire>(
     requires capacity { 1 ≤ groups.old.left }
     requires pool { IsFree pool.old }
     requires quiet { IsTrue (W.state wire.old).told → (W.state wire.old).log ≡ [] }
+    requires permits { IsTrue (W.state wire.old).told → PermitsGroups {S = S} S.state W.allows groups.old store.old }
     ensures served { (core : Core) → Each (λ b. b.book.core ≡ core) groups.old.books → ServeWire S.state core groups.old groups.new result (W.state wire.old).told (W.state wire.new).log store.old store.new }
     ensures others { OnlyFrom 0 (length groups.old.books) (S.state store.old) (S.state store.new) }
     ensures asks { RoseBy (faults_in groups.new.outcomes) (S.state store.old).faults (S.state store.new).faults }

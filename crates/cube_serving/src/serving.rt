@@ -7,7 +7,7 @@ ghost use Rattle.cube_opening.specs.Ruling.{most_groups};
 ghost use Rattle.cube_server.specs.declared.serving.ServeFault.TheVariants as fault;
 ghost use Rattle.cube_starting.specs.Grouping.{OnlyFirst};
 ghost use Rattle.cube_starting.specs.Starting.{AsksStore};
-ghost use Rattle.cube_serving.specs.Serving.{ServeEnds, ServeCompletes, Hears, served_status, served_text};
+ghost use Rattle.cube_serving.specs.Serving.{PermitsServing, ServeEnds, ServeCompletes, Hears, served_status, served_text};
 
 use crate::housing::serve_groups;
 use cube_io::{Folder, Sink, Source, Store, Wire};
@@ -65,6 +65,7 @@ pub fn serve_cube<F: Folder, S: Store, I: Source, O: Sink, W: Wire>(
     requires message { message ≡ [] }
     requires stated { 1 ≤ stated }
     requires quiet { IsTrue (W.state world.old.wire).told → (W.state world.old.wire).log ≡ [] }
+    requires permits { IsTrue (W.state world.old.wire).told → PermitsServing {F = F} {S = S} cube.now stated F.state S.state W.allows world.old.files world.old.store }
     ensures answers { ServeEnds cube.now stated (outside F.state S.state I.state O.state W.state world.old world.new) result }
     ensures names { (world.new.store ≡ world.old.store) ⊎ AsksStore journal.now (seen S.state world.old.store world.new.store) result }
     ensures heard { (world.new.wire ≡ world.old.wire) ⊎ Hears endpoint.now.address.now (seen W.state world.old.wire world.new.wire) result }

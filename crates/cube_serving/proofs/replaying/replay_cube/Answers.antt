@@ -130,7 +130,7 @@ returns-clause-answers g c =
       whole = λ u is. (
           let some = ends_whole end u _ _ wire.log w.wired.ended is in
           whole script.0 some.0 wire.log (playing.events).0 (sym plays ∙ (playing.events).1) script.2 some.1);
-      cause = overran wire _ _ _ room_for_sends playing most (w.wired.tells refl).served;
+      cause = overran wire _ _ _ _ room_for_sends playing most (w.wired.tells refl).served;
       unfailed = unfailed wire script.0 end playing plays (ap (λ (p : Plan). p.refused) plan ∙ ap (λ (v : Playing). v.spilled) script.1)
           (λ failed. rose_from begun.faults wire.faults (ap (λ (v : Playing). v.faults) script.1) (z.failed failed)) (ends_none end _ _ wire.log w.wired.ended);
       writes = writes c.write_log-written.result end wire.log c.finish.result out c.report_play.result c.report_play.ensures.outcomes c.write_log-written.ensures.ok c.write_log-written.ensures.err c.report_play.ensures.put c.report_play.ensures.unput;
@@ -228,3 +228,6 @@ returns-clause-causes g c =
     let written = c.write_log-written.ensures.cause in
     wider (alone (c.in-Ok-open_script.ensures.reads.steady ∙ c.in-Ok.ensures.reads.steady)) (never _) (alone refl) same (alone refl)
     (at_play _ _ (seen g.O.Sink.state c.args.world.now.out c.write_log-written.new.out) _ c.write_log-written.result (has_torn wire.log) end c.report_play.ensures.put c.report_play.ensures.unput written.steady written.failed none)
+
+pub serve_groups-end-requires-clause-permits : goal.serve_groups-end-requires-clause-permits
+serve_groups-end-requires-clause-permits g c = λ told last new log each others rose. tt

@@ -1,4 +1,6 @@
-use Rattle.std.proofs.Common.{◌∙◌, ◌++◌, ℕ, List, [], codes, ap, inl, inr, refl, subst, sym, IsTrue, append-nil, arith}
+use Rattle.std.proofs.Common.{◌∙◌, ◌++◌, ℕ, List, [], codes, ap, inl, inr, refl, subst, sym, true, IsTrue, append-nil, arith}
+use Rattle.std.specs.Prelude.{Err}
+use Rattle.cube_server.specs.declared.serving.ServeFault.TheVariants.{WireFailed}
 use Rattle.cube_io.specs.Causes.{Rose}
 use Rattle.cube_io.specs.Seen.{seen}
 use Rattle.cube_opening.specs.Opening.{GotBehind}
@@ -43,6 +45,23 @@ returns-clause-answers g c =
       status = c.report_serving.ensures.status;
       text = c.report_serving.ensures.text;
     }))
+
+pub serve_groups-end-requires-clause-permits : goal.serve_groups-end-requires-clause-permits
+serve_groups-end-requires-clause-permits g c = λ told last new log each others rose.
+    let cube = c.args.cube.now in
+    let ruled = c.in-Ok.opened.value in
+    let x = c.in-Ok.ensures in
+    let y = c.in-Ok-open_groups.ensures in
+    let e = c.in-Ok-open_groups.started.value in
+    let tells = g.S.Store.state in
+    let old = c.args.world.now.store in
+    let mid = c.open_groups.new.store in
+    let w = each ruled.core y.over in
+    let files = seen g.F.Folder.state c.args.world.now.files c.open_ruled.new.files in
+    let behind = subst (λ (ns : List (List ℕ)). GotBehind ns files) (sym (append-nil (ruled_names cube x.ok.0))) x.ok.2 in
+    c.requires.permits (subst IsTrue c.in-Ok-listen.ensures.told told) c.open_ruled.new.files new log w.asking (w.stated ∙ y.outcomes.1)
+    (served cube [] files x.ok.0 ruled.core ruled.groups tells old mid e.books x.ok.1 behind y.ok y.over y.rules x.rules.few y.held new e last (Err WireFailed)
+    true true log refl refl (seals_alone ruled.core tells old mid new ruled.groups e.books x.rules.few y.ok y.opens.told others) y.opens.told y.steady y.passed w rose)
 
 pub returns-in-Err-listen-clause-answers : goal.returns-in-Err-listen-clause-answers
 returns-in-Err-listen-clause-answers g c =
