@@ -4,6 +4,7 @@ mod Compacts
 pub mod Handed
 mod Handing
 pub mod Lives
+mod Putting
 pub mod Said
 mod Unread
 mod Causes

@@ -17,7 +17,7 @@ use Rattle.cube_engine.specs.Worlds.{first_history}
 use Rattle.cube_talk.specs.Asks.{rooms_behind}
 use Rattle.cube_talk.specs.Moments.{Moment, moment}
 use Rattle.cube_talk.specs.declared.talk.TalkEnd.{TalkEnd}
-use Rattle.cube_talk.specs.Crashes.{IsOnTheWay, IsLineInHand, IsPassed, TalkedOver}
+use Rattle.cube_talk.specs.Crashes.{IsOnTheWay, IsLineInHand, IsPassed, Survives, TalkedOver}
 use Rattle.cube_starting.specs.NamedBooks.{Groups, HoldsAt, dims_of, places_of, rooms_of}
 use Rattle.cube_starting.specs.OneCube.{unnamed, Survived}
 use Rattle.cube_starting.specs.Starting.{IsBetween, HeldIn}
@@ -76,34 +76,44 @@ first_holds holds core policy n (r ∷ rooms) log s (inr x) = absurd x
 pub elsewhere : (core : Core) (policy : Policy) (h : List Entry) (j : Journal) (stated : ℕ) (rooms : List Room) (log : ℕ) (s : State) → j.log ≡ 0 → log ≢ 0 → within_of (alone_of core policy h j stated) rooms log s → ⊥
 elsewhere core policy h j stated rooms log s zeroth other x = other ((first_holds IsWithin core policy j.log rooms log s x).0 ∙ zeroth)
 
--- log 0 of a run in which the group, begun with a history, was asked the lines of an input
-pub survived : {S I O : Type 0} {input : Seen SourceState I} {out : Seen SinkState O} (core : Core) (policy : Policy) (h : List Entry) (j : Journal) (stated : ℕ) (last : Groups) (end : TalkEnd) (mid : StoreState) (store : Seen StoreState S)
+-- log 0 of a run in which the group, begun with a history, was asked these lines
+pub survived_by : {S : Type 0} (core : Core) (policy : Policy) (h : List Entry) (j : Journal) (stated : ℕ) (last : Groups) (mid : StoreState) (store : Seen StoreState S) (ls : List (List ℕ)) (os : List Outcome)
     → j.log ≡ 0 → IsTrue mid.told → IsExact core policy h (mid.logs 0).state → Gained (IsInRecovery (history_of core policy) (store.before.logs 0).state) (store.before.logs 0) (mid.logs 0)
-    → (v : TalkedOver (moment_of (alone_of core policy h j stated) mid) (moment_of last store.after) end input out)
-    → Survived core policy h (first_history (rooms_behind (manner core.dims) (alone (world core policy) h) v.talked.took.first last.outcomes)) last.outcomes store
-survived {S} {I} {O} {input} {out} core policy h j stated last end mid store zeroth tells exact opened v =
+    → Survives (moment_of (alone_of core policy h j stated) mid) (moment_of last store.after) ls os → rooms_of last.books ≡ rooms_behind (manner core.dims) (alone (world core policy) h) ls os
+    → Survived core policy h (first_history (rooms_behind (manner core.dims) (alone (world core policy) h) ls os)) os store
+survived_by {S} core policy h j stated last mid store ls os zeroth tells exact opened lives rooms_are =
     let first = alone_of core policy h j stated in
-    let lives = v.survives in
     let around : within_of first (alone (world core policy) h) 0 (mid.logs 0).state = inl (sym zeroth, λ b image. inl (exact b image)) in
     let here : exact_of first (alone (world core policy) h) 0 (mid.logs 0).state = inl (sym zeroth, exact) in
     let s = (store.after.logs 0).state in
     let rooms = rooms_of last.books in
     record {
-      passed = lived core policy h v.talked.took.first last.outcomes (within_of first) (store.before.logs 0) (mid.logs 0) (store.after.logs 0) (λ rooms t x. (first_holds IsWithin core policy j.log rooms 0 t x).1) opened (lives.passed tells 0 around);
-      ends = subst (λ (rs : List Room). IsWithin core policy (first_history rs) s) v.rooms_are (first_holds IsWithin core policy j.log rooms 0 s ((lives.within_stays rooms 0 s).0 (lives.ends_within tells 0 around))).1;
-      exact = λ none. subst (λ (rs : List Room). IsExact core policy (first_history rs) s) v.rooms_are (first_holds IsExact core policy j.log rooms 0 s ((lives.exact_stays rooms 0 s).0 (lives.ends_exact tells none 0 here))).1;
+      passed = lived core policy h ls os (within_of first) (store.before.logs 0) (mid.logs 0) (store.after.logs 0) (λ rooms t x. (first_holds IsWithin core policy j.log rooms 0 t x).1) opened (lives.passed tells 0 around);
+      ends = subst (λ (rs : List Room). IsWithin core policy (first_history rs) s) rooms_are (first_holds IsWithin core policy j.log rooms 0 s ((lives.within_stays rooms 0 s).0 (lives.ends_within tells 0 around))).1;
+      exact = λ none. subst (λ (rs : List Room). IsExact core policy (first_history rs) s) rooms_are (first_holds IsExact core policy j.log rooms 0 s ((lives.exact_stays rooms 0 s).0 (lives.ends_exact tells none 0 here))).1;
     }
 
 -- and of what is in hand meanwhile
+pub held_by : {S : Type 0} (core : Core) (policy : Policy) (h : List Entry) (j : Journal) (stated : ℕ) (last : Groups) (mid : StoreState) (store : Seen StoreState S) (ls : List (List ℕ)) (os : List Outcome)
+    → j.log ≡ 0 → IsTrue mid.told → IsExact core policy h (mid.logs 0).state → Gained (IsInRecovery (history_of core policy) (store.before.logs 0).state) (store.before.logs 0) (mid.logs 0)
+    → Survives (moment_of (alone_of core policy h j stated) mid) (moment_of last store.after) ls os → HeldIn 0 core policy (IsInLine core policy h ls os) store
+held_by {S} core policy h j stated last mid store ls os zeroth tells exact opened lives =
+    let first = alone_of core policy h j stated in
+    let rooms = alone (world core policy) h in
+    let around : within_of first rooms 0 (mid.logs 0).state = inl (sym zeroth, λ b image. inl (exact b image)) in
+    held 0 core policy h (IsInLine core policy h ls os) (GivesRooms (exact_of first) 0) (IsLineInHand (manner core.dims) rooms ls os) mid store
+    (rooms, inl (record { first = []; more = ls; split = refl; are = refl }), refl)
+    (λ r bytes i g. (first_history r, (r, i, refl), (first_holds IsExact core policy j.log r 0 _ g).1 bytes (settled_leaves bytes)))
+    exact opened (lives.in_hand tells 0 around)
+
+-- where they are the lines of an input
+pub survived : {S I O : Type 0} {input : Seen SourceState I} {out : Seen SinkState O} (core : Core) (policy : Policy) (h : List Entry) (j : Journal) (stated : ℕ) (last : Groups) (end : TalkEnd) (mid : StoreState) (store : Seen StoreState S)
+    → j.log ≡ 0 → IsTrue mid.told → IsExact core policy h (mid.logs 0).state → Gained (IsInRecovery (history_of core policy) (store.before.logs 0).state) (store.before.logs 0) (mid.logs 0)
+    → (v : TalkedOver (moment_of (alone_of core policy h j stated) mid) (moment_of last store.after) end input out)
+    → Survived core policy h (first_history (rooms_behind (manner core.dims) (alone (world core policy) h) v.talked.took.first last.outcomes)) last.outcomes store
+survived {S} {I} {O} {input} {out} core policy h j stated last end mid store zeroth tells exact opened v = survived_by core policy h j stated last mid store v.talked.took.first last.outcomes zeroth tells exact opened v.survives v.rooms_are
+
 pub held_lines : {S I O : Type 0} {input : Seen SourceState I} {out : Seen SinkState O} (core : Core) (policy : Policy) (h : List Entry) (j : Journal) (stated : ℕ) (last : Groups) (end : TalkEnd) (mid : StoreState) (store : Seen StoreState S)
     → j.log ≡ 0 → IsTrue mid.told → IsExact core policy h (mid.logs 0).state → Gained (IsInRecovery (history_of core policy) (store.before.logs 0).state) (store.before.logs 0) (mid.logs 0)
     → (v : TalkedOver (moment_of (alone_of core policy h j stated) mid) (moment_of last store.after) end input out) → HeldIn 0 core policy (IsInLine core policy h v.talked.took.first last.outcomes) store
-held_lines {S} {I} {O} {input} {out} core policy h j stated last end mid store zeroth tells exact opened v =
-    let first = alone_of core policy h j stated in
-    let rooms = alone (world core policy) h in
-    let ls = v.talked.took.first in
-    let around : within_of first rooms 0 (mid.logs 0).state = inl (sym zeroth, λ b image. inl (exact b image)) in
-    held 0 core policy h (IsInLine core policy h ls last.outcomes) (GivesRooms (exact_of first) 0) (IsLineInHand (manner core.dims) rooms ls last.outcomes) mid store
-    (rooms, inl (record { first = []; more = ls; split = refl; are = refl }), refl)
-    (λ r bytes i g. (first_history r, (r, i, refl), (first_holds IsExact core policy j.log r 0 _ g).1 bytes (settled_leaves bytes)))
-    exact opened (v.survives.in_hand tells 0 around)
+held_lines {S} {I} {O} {input} {out} core policy h j stated last end mid store zeroth tells exact opened v = held_by core policy h j stated last mid store v.talked.took.first last.outcomes zeroth tells exact opened v.survives

@@ -1,19 +1,21 @@
 -- All that `sum` and `ask` do with the lines of the input.
-use Rattle.std.specs.Prelude.{◌≡◌, ◌≢◌, ◌⊎◌, ℕ, true, List, [], ◌∷◌, length, IfSome, IsSomeAnd, IsOk, Ok}
+use Rattle.std.specs.Prelude.{◌≡◌, ◌≢◌, ◌≤◌, ◌⊎◌, ℕ, true, IsTrue, List, [], ◌∷◌, ◌++◌, length, Option, Some, IfSome, IsSomeAnd, IsOk, Ok}
+use Rattle.std.specs.Io.KnownBytes.{Appends}
 use Rattle.cube_model.specs.declared.entry.Entry.{Entry}
 use Rattle.cube_model.specs.declared.outcome.Outcome.{Outcome}
 use Rattle.cube_model.specs.declared.policy.Policy.{Policy}
 use Rattle.cube_model.specs.Cores.{Core, world}
 use Rattle.cube_model.specs.Rooms.{Room, alone}
 use Rattle.cube_io.specs.Causes.{Rose}
+use Rattle.cube_io.specs.Desks.{Manner, entries}
 use Rattle.cube_io.specs.Files.{file_of}
-use Rattle.cube_io.specs.Seen.{FolderState, SourceState, SinkState, StoreState, Seen, Unused}
+use Rattle.cube_io.specs.Seen.{FolderState, SourceState, SinkState, StoreState, Seen, Unused, seen}
 use Rattle.cube_facts.specs.Flat.{Flat}
 use Rattle.cube_engine.specs.Headline.{Hides}
 use Rattle.cube_engine.specs.Steps.{manner}
 use Rattle.cube_engine.specs.Worlds.{first_history}
 use Rattle.cube_talk.specs.Asks as asking
-use Rattle.cube_talk.specs.Asks.{Talk, FailedFresh, rooms_behind}
+use Rattle.cube_talk.specs.Asks.{Talk, FailedFresh, asks_in, said, rooms_behind}
 use Rattle.cube_talk.specs.Crashes.{IsLineInHand}
 use Rattle.cube_talk.specs.Sums.{Talked}
 use Rattle.cube_talk.specs.declared.talk.TalkEnd.{TalkEnd}
@@ -80,6 +82,49 @@ pub record Asked {S I O : Type 0} (cube : CubeFiles) (files : FolderState) (stor
   pub kept : AreKept core (record { name = []; policy = policy; first = first; last = last } ∷ []) talk.outcomes (λ k. IsInLine core policy first talked.took.first talk.outcomes) store
   pub fresh : FailedFresh (manner core.dims) (alone (world core policy) first) talked.took.first talk.outcomes
 
+-- ---- what is put of the answers, and when
+
+-- some lines were answered over these rooms by this text, each ask among them with an outcome
+pub record Answered (m : Manner) (rooms rooms' : List Room) (ls : List (List ℕ)) (os : List Outcome) (text : List ℕ) : Type 0 where
+  pub matched : length os ≡ asks_in ls
+  pub text_is : text ≡ said m rooms ls os
+  pub rooms_are : rooms' ≡ rooms_behind m rooms ls os
+
+-- A piece is put of the answers of an open cube. The answers to the first of the lines stand written. Behind those came lines of which
+-- nothing was kept, and then one line at most. Of the answers to these some part stands written, and the piece comes next. The journal has
+-- kept what was answered: all that is said of it where a run ends holds now, with the history that all these lines leave.
+pub record IsPut {S : Type 0} (cube : CubeFiles) (files : FolderState) (store : Seen StoreState S) (start : Option (List ℕ)) (bytes piece : List ℕ) : Type 0 where
+  pub core : Core
+  pub policy : Policy
+  pub history : List Entry
+  pub opened : IsOpen cube files store core policy history
+  pub written : List (List ℕ)
+  pub idle : List (List ℕ)
+  pub line : List (List ℕ)
+  pub one : length line ≤ 1
+  pub os : List Outcome
+  pub idle_os : List Outcome
+  pub line_os : List Outcome
+  pub rooms : List Room
+  pub idle_rooms : List Room
+  pub line_rooms : List Room
+  pub text : List ℕ
+  pub idle_text : List ℕ
+  pub line_text : List ℕ
+  pub answered : Answered (manner core.dims) (alone (world core policy) history) rooms written os text
+  pub answered_idle : Answered (manner core.dims) rooms idle_rooms idle idle_os idle_text
+  pub kept_none : entries idle_rooms ≡ entries rooms
+  pub answered_line : Answered (manner core.dims) idle_rooms line_rooms line line_os line_text
+  pub part : List ℕ
+  pub stands : Appends start (Some bytes) (text ++ part)
+  pub rest : List ℕ
+  pub next : idle_text ++ line_text ≡ part ++ (piece ++ rest)
+  pub kept : AreKept core (record { name = []; policy = policy; first = history; last = first_history line_rooms } ∷ []) (os ++ (idle_os ++ line_os)) (λ k. IsInLine core policy history (written ++ (idle ++ line)) (os ++ (idle_os ++ line_os))) store
+
+-- Over a store that tells what it holds, the output allows each piece that is put so.
+abbrev pub PermitsAsking : {S : Type 0} → CubeFiles → FolderState → (S → StoreState) → (StoreState → List ℕ → List ℕ → Type 0) → S → Option (List ℕ) → Type 0
+PermitsAsking {S} cube files tells allows store start = (t : S) (bytes piece : List ℕ) → IsTrue (tells t).told → IsPut cube files (seen tells store t) start bytes piece → allows (tells t) bytes piece
+
 -- the report says how the talk ended
 pub record Reports (talk : Talk) (r : Report) : Type 0 where
   pub outcomes : r.outcomes ≡ talk.outcomes
@@ -97,7 +142,8 @@ abbrev pub AskCompletes : {F S I O W : Type 0} → CubeFiles → Outside F S I O
 AskCompletes cube x r = HasAll cube x.files.before → HasJournal cube x.files.before x.store.before → r.status ≢ 10
     → ¬ Rose x.files.before.faults x.files.after.faults → (r.outcomes ≡ [] → ¬ Rose x.store.before.faults x.store.after.faults) → ¬ Rose x.input.before.faults x.input.after.faults → ¬ Rose x.out.before.faults x.out.after.faults → IsDone r
 
--- All that `ask` does with these files and this journal.
+-- All that `ask` does with these files and this journal. Where the store tells what it holds, no piece was put without it in sight.
 pub record AskRun {F S I O W : Type 0} (cube : CubeFiles) (journal : List ℕ) (stated : ℕ) (x : Outside F S I O W) (r : Report) : Type 0 where
   pub runs : AsksOver journal 12 x.store r (AskEnds cube stated x r) (Unused x.input × Unused x.out × (r.outcomes ≡ [])) (AskCompletes cube x r)
   pub ended : r.status ≡ 0 → x.input.after.ended ≡ true
+  pub sight : IsTrue x.store.before.told → x.out.after.loose ≡ x.out.before.loose

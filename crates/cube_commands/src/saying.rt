@@ -5,7 +5,7 @@ ghost use Rattle.cube_opening.specs.Causes.{HasCauses, only_out};
 ghost use Rattle.cube_opening.specs.Reports.{IsReport, Prints};
 ghost use Rattle.cube_commands.specs.Saying.{IsRefusal, Puts, PutsWhether, SaysSo, status_on};
 
-use cube_io::Sink;
+use cube_io::{NullStore, Sink};
 use cube_model::{NoMemory, Text};
 use cube_opening::{Message, Report, refuse_line, statuses};
 use std::alloc::Global;
@@ -26,7 +26,7 @@ pub fn print<O: Sink>(alloc: Global, message: Message, text: &[u8], out: &mut O)
     ensures status { (result.status ≡ 0) ⊎ (result.status ≡ 6) }
     ensures outcomes { result.outcomes ≡ [] }
 {
-    match out.put(text) {
+    match out.put(&NullStore::new(), text) {
         Ok(()) => message.close(alloc, statuses::DONE),
         Err(_) => message
             .with(b"output failed\n")

@@ -7,9 +7,9 @@ ghost use Rattle.cube_opening.specs.Outside.{UsesLines, UsesNoWire, counted, out
 ghost use Rattle.cube_opening.specs.Reports.{IsReport};
 ghost use Rattle.cube_starting.specs.Grouping.{OnlyFirst};
 ghost use Rattle.cube_commands.specs.Endings.{status_of as status_in, ending_text};
-ghost use Rattle.cube_commands.specs.Talks.{SumEnds, SumCompletes, AskEnds, AskCompletes};
+ghost use Rattle.cube_commands.specs.Talks.{SumEnds, SumCompletes, AskEnds, AskCompletes, PermitsAsking};
 
-use cube_io::{Folder, Sink, Source, Store, Wire};
+use cube_io::{Folder, NullStore, Sink, Source, Store, Wire};
 use cube_model::Text;
 use cube_opening::{
     CubeFiles, Message, Report, World, open_flat, open_guarded, spent_message, statuses,
@@ -75,11 +75,13 @@ pub fn sum<F: Folder, S: Store, I: Source, O: Sink, W: Wire>(
             .with(b"no memory\n")
             .close(alloc, statuses::NO_MEMORY);
     };
+    // A sum rests on no journal.
+    let mut none = NullStore::new();
     let (end, lines) = converse_by_sums(
         alloc,
         carry,
         opened.value,
-        &mut world.store,
+        &mut none,
         &mut world.input,
         &mut world.out,
     );
@@ -107,12 +109,14 @@ pub fn ask<F: Folder, S: Store, I: Source, O: Sink, W: Wire>(
 ) -> Report
     requires message { message ≡ [] }
     requires stated { 1 ≤ stated }
+    requires permits { PermitsAsking {S = S} cube.now (F.state world.old.files) S.state O.allows world.old.store (O.state world.old.out).written }
     ensures answers { AskEnds cube.now stated (outside F.state S.state I.state O.state W.state world.old world.new) result }
     ensures names { AsksJournal journal.now (seen S.state world.old.store world.new.store) result }
     ensures causes { HasCauses (counted (outside F.state S.state I.state O.state W.state world.old world.new)) result }
     ensures calls { result.status ≡ 9 → IsTrue (S.state world.old.store).told → (S.state world.new.store).calls ≤ (S.state world.old.store).calls + 12 }
     ensures others { OnlyFirst 1 (S.state world.old.store) (S.state world.new.store) }
     ensures ended { result.status ≡ 0 → (I.state world.new.input).ended ≡ true }
+    ensures sight { IsTrue (S.state world.old.store).told → (O.state world.new.out).loose ≡ (O.state world.old.out).loose }
     ensures memory { result.status ≡ 7 → (world.new.input ≡ world.old.input) × (world.new.out ≡ world.old.out) × (result.outcomes ≡ []) }
     ensures complete { AskCompletes cube.now (outside F.state S.state I.state O.state W.state world.old world.new) result }
     ensures leaves { UsesNoWire (outside F.state S.state I.state O.state W.state world.old world.new) }

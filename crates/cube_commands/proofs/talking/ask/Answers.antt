@@ -1,5 +1,5 @@
 use Rattle.std.proofs.Common.{◌∙◌, ◌++◌, ℕ, List, inl, inr, refl, sym, ap, subst, arith, IsTrue}
-use Rattle.std.specs.Prelude.{codes}
+use Rattle.std.specs.Prelude.{codes, Some}
 use Rattle.cube_io.specs.Causes.{RoseBy}
 use Rattle.cube_io.specs.Desks.{faults_in}
 use Rattle.cube_io.specs.Seen.{seen}
@@ -12,6 +12,8 @@ use Rattle.cube_starting.proofs.OpenGroups.{SealsLeft}
 use Rattle.cube_starting.proofs.Started.{groups_are, opened, still_open}
 use Rattle.cube_opening.proofs.Accepted.{all_accepted}
 use Rattle.cube_commands.proofs.Lives.{moment_of, elsewhere, survived, held_lines}
+use Rattle.cube_talk.specs.Putting.{IsNext}
+use Rattle.cube_commands.proofs.Putting.{serving, held_in, is_put}
 use Rattle.cube_commands.proofs.Worlds.{hides}
 use Rattle.cube_opening.proofs.Causes.{same, alone, never, wider, no_memory, at_file, at_files}
 use Rattle.cube_starting.proofs.Causes.{at_journals}
@@ -71,6 +73,28 @@ returns-clause-answers g c =
       },
       c.in-Ok.ensures.behind,
     )
+
+pub converse_by_asks-groups-requires-clause-permits : goal.converse_by_asks-groups-requires-clause-permits
+converse_by_asks-groups-requires-clause-permits g c = λ now t bytes piece told next.
+    let guarded = c.in-Ok.opened.value in
+    let core = guarded.core in
+    let policy = guarded.policy in
+    let cube = c.args.cube.now in
+    let e = c.in-Ok-open_alone.started.value in
+    let y = c.in-Ok-open_alone.ensures in
+    let book = y.begun.book in
+    let files = g.F.Folder.state c.args.world.now.files in
+    let tells = g.S.Store.state in
+    let old = c.args.world.now.store in
+    let mid = c.open_alone.new.store in
+    let start = (g.O.Sink.state c.args.world.now.out).written in
+    let at_start = opened cube files core policy (seen tells old mid) book c.in-Ok.ensures.ok.1 y.begun.begun y.held in
+    c.requires.permits t bytes piece told (is_put cube files tells old mid core policy book.history book.journal c.args.stated start at_start y.begun.begun.started.log_is y.opens.told y.steady
+    (λ first. y.begun.begun.started.exact first) (λ first. y.passed first) now t bytes piece
+    (subst (λ (x : Groups). IsNext (serving tells) held_in x mid start now t (Some bytes) piece) (groups_are core policy c.args.stated (seen tells old mid) e y.begun) next))
+
+pub returns-clause-sight : goal.returns-clause-sight
+returns-clause-sight g c = λ told. c.converse_by_asks-groups.ensures.sight (subst IsTrue (sym c.in-Ok-open_alone.ensures.opens.told) told)
 
 pub returns-in-Err-clause-complete : goal.returns-in-Err-clause-complete
 returns-in-Err-clause-complete g c = λ all kept some files store input out. inr (all_accepted c.args.cube.now (seen g.F.Folder.state c.args.world.now.files c.open_guarded.new.files) c.in-Err.report c.in-Err.ensures.err all files)
