@@ -7,16 +7,19 @@ use Rattle.cube_opening.specs.Causes.{HasCauses, IsStatus, IsStill, Rises}
 use Rattle.cube_opening.specs.Outside.{Outside, UsesNone, counted}
 use Rattle.cube_opening.specs.Reports.{IsReport, NoMessage}
 use Rattle.cube_opening.specs.declared.report.Report.{Report}
+use Rattle.cube_io.specs.Seen.{FolderState, SinkState, StoreState, WireState}
+use Rattle.cube_io.specs.Wires.{LogEntry}
 use Rattle.cube_words.specs.declared.ordered.Orders.{Orders}
+use Rattle.cube_words.specs.declared.ordered.Orders.TheVariants.{Help, Version, Draft, Sum, Check, Ask, Witness, Twin, Compact, Carry, Why, Audit, Advise, Serve, Replay, Demo}
 use Rattle.cube_words.specs.declared.words.Usage.{Usage}
-use Rattle.cube_app.specs.Runs.{Obeyed, NoneRose, CalmStatus, Runs}
+use Rattle.cube_app.specs.Runs.{Permits, Obeyed, NoneRose, CalmStatus, Runs}
 use Rattle.cube_app.specs.Texts.{usage_text}
 
 -- what was obeyed, by another name of the orders
 pub obeyed_as : {F S I O W : Type 0} {objects : Outside F S I O W} {r : Report} (o o' : Orders) → o ≡ o' → Obeyed o' objects r → Obeyed o objects r
 obeyed_as {F} {S} {I} {O} {W} {objects} {r} o o' same x = subst (λ (x : Orders). Obeyed x objects r) (sym same) x
 
-each_ok : {T E : Type 0} (r : Result T E) (P : T → Type 0) → ((x : T) → P x) → IfOk r P
+pub each_ok : {T E : Type 0} (r : Result T E) (P : T → Type 0) → ((x : T) → P x) → IfOk r P
 each_ok (Ok x) P f = f x
 each_ok (Err e) P f = tt
 
@@ -59,3 +62,24 @@ refused_as {F} {S} {I} {O} {W} {objects} {r} words given usage is told same = su
 
 pub run_as : {F S I O W : Type 0} {objects : Outside F S I O W} {r : Report} (words : List (List ℕ)) (given : Result Orders Usage) (orders : Orders) → Ok orders ≡ given → Obeyed orders objects r → Runs words given objects r
 run_as {F} {S} {I} {O} {W} {objects} {r} words given orders is done = subst (λ (x : Result Orders Usage). Runs words x objects r) is (record { refused = tt; obeyed = inl done; calm = calm_end objects done.causes })
+
+-- ---- objects that allow everything
+
+pub permits_all : {F S : Type 0} (folder : F → FolderState) (tells : S → StoreState) (puts : StoreState → List ℕ → List ℕ → Type 0) (looks : StoreState → List LogEntry → Type 0) (files : F) (store : S) (out : SinkState) (wire : WireState)
+    → ((s : StoreState) (bytes piece : List ℕ) → puts s bytes piece) → ((s : StoreState) (log : List LogEntry) → looks s log) → (o : Orders) → Permits {F = F} {S = S} folder tells puts looks files store out wire o
+permits_all {F} {S} folder tells puts looks files store out wire all every (Help on) = tt
+permits_all {F} {S} folder tells puts looks files store out wire all every Version = tt
+permits_all {F} {S} folder tells puts looks files store out wire all every (Draft a) = tt
+permits_all {F} {S} folder tells puts looks files store out wire all every (Sum a) = tt
+permits_all {F} {S} folder tells puts looks files store out wire all every (Check a) = tt
+permits_all {F} {S} folder tells puts looks files store out wire all every (Ask a b c) = λ t bytes piece told is. all (tells t) bytes piece
+permits_all {F} {S} folder tells puts looks files store out wire all every (Witness a b c) = tt
+permits_all {F} {S} folder tells puts looks files store out wire all every (Twin a b c) = tt
+permits_all {F} {S} folder tells puts looks files store out wire all every (Compact a b c) = tt
+permits_all {F} {S} folder tells puts looks files store out wire all every (Carry a b c d) = tt
+permits_all {F} {S} folder tells puts looks files store out wire all every (Why a b c d) = tt
+permits_all {F} {S} folder tells puts looks files store out wire all every (Audit a b) = tt
+permits_all {F} {S} folder tells puts looks files store out wire all every (Advise a b c) = tt
+permits_all {F} {S} folder tells puts looks files store out wire all every (Serve a b c d e) = λ told f t log asked same is. every (tells t) log
+permits_all {F} {S} folder tells puts looks files store out wire all every (Replay a b c d) = tt
+permits_all {F} {S} folder tells puts looks files store out wire all every (Demo a) = tt

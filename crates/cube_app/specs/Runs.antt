@@ -1,5 +1,7 @@
 -- What a run of the program does: all that is promised of the top call.
-use Rattle.std.specs.Prelude.{◌≡◌, ◌⊎◌, ℕ, List, [], Option, None, Result, Ok, Err, IfOk, IfErr}
+use Rattle.std.specs.Prelude.{◌≡◌, ◌⊎◌, ⊤, ℕ, IsTrue, List, [], Option, None, Result, Ok, Err, IfOk, IfErr}
+use Rattle.cube_io.specs.Seen.{FolderState, SinkState, StoreState, WireState}
+use Rattle.cube_io.specs.Wires.{LogEntry}
 use Rattle.cube_opening.specs.Causes.{Counts, Rises, IsOwn, HasCauses}
 use Rattle.cube_opening.specs.Outside.{Outside, UsesFiles, UsesJournal, UsesLines, UsesNoWire, UsesNone, UsesOutput, UsesWire, counted}
 use Rattle.cube_opening.specs.Reports.{IsReport, NoMessage, Prints}
@@ -19,9 +21,10 @@ use Rattle.cube_commands.specs.declared.cells.Telling.TheVariants as telling
 use Rattle.cube_commands.specs.Drafting.{DraftRun}
 use Rattle.cube_commands.specs.Making.{DemoRun}
 use Rattle.cube_commands.specs.Reasons.{ReasonRun}
+use Rattle.cube_serving.specs.Serving.{PermitsServing}
 use Rattle.cube_app.specs.Serves.{ServeRun, ReplayRun}
 use Rattle.cube_commands.specs.Summary.{CheckRun}
-use Rattle.cube_commands.specs.Talks.{SumRun, AskRun}
+use Rattle.cube_commands.specs.Talks.{SumRun, AskRun, PermitsAsking}
 use Rattle.cube_app.specs.Texts.{usage_text, version_text}
 
 -- ---- what each command does
@@ -80,6 +83,16 @@ pub record Obeyed {F S I O W : Type 0} (orders : Orders) (objects : Outside F S 
   pub leaves : Leaves orders objects r
   pub causes : HasCauses (counted objects) r
   pub others : OnlyFirst (journals_of orders) objects.store.before objects.store.after
+
+-- ---- what the objects outside have to allow
+
+-- Under `ask` the output allows each piece that is put of the answers, over a journal that has kept what was answered. Under `serve` the
+-- wire allows that the next event is looked for, and what was sent goes out, wherever all is true that is promised of a run which ends
+-- there. Nothing else is asked of an object.
+abbrev pub Permits : {F S : Type 0} → (F → FolderState) → (S → StoreState) → (StoreState → List ℕ → List ℕ → Type 0) → (StoreState → List LogEntry → Type 0) → F → S → SinkState → WireState → Orders → Type 0
+Permits {F} {S} folder tells puts looks files store out wire (Ask cube journal stated) = PermitsAsking cube (folder files) tells puts store out.written
+Permits {F} {S} folder tells puts looks files store out wire (Serve cube journal address stated idle) = IsTrue wire.told → PermitsServing cube stated folder tells looks files store
+Permits {F} {S} folder tells puts looks files store out wire other = ⊤
 
 -- ---- where nothing outside failed
 

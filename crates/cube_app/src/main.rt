@@ -20,7 +20,7 @@ use cube_seal::line_of;
 use cube_words::{Orders, orders_of};
 use hinting::HintingSource;
 use noting::{dims_in, note, values_in};
-use run::run;
+use run::run_freely;
 use std::alloc::{AllocError, Global};
 use std::cell::Cell;
 use std::env::{Env, FillError};
@@ -326,7 +326,7 @@ fn main(rt: HostRuntime) -> ExitCode {
         out,
         wire,
     };
-    let report = run(rt.alloc(), words.as_slice(), &mut world);
+    let report = run_freely(rt.alloc(), words.as_slice(), &mut world);
     world.wire.settle();
     drop(held);
     let noted = match &orders {

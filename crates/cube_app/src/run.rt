@@ -1,12 +1,13 @@
 // The top call: all that the program does.
-ghost use Rattle.std.specs.Prelude.{◌≡◌, ◌⊎◌, [], IfOk, IsTrue};
-ghost use Rattle.cube_io.specs.Seen.{seen};
+ghost use Rattle.std.specs.Prelude.{◌≡◌, ◌⊎◌, ℕ, List, [], IfOk, IsTrue};
+ghost use Rattle.cube_io.specs.Seen.{StoreState, seen};
+ghost use Rattle.cube_io.specs.Wires.{LogEntry};
 ghost use Rattle.cube_words.specs.Help.{help_said};
 ghost use Rattle.cube_words.specs.Words.{orders_of as orders_in, Fits};
 ghost use Rattle.cube_opening.specs.Causes.{HasCauses, only_out};
 ghost use Rattle.cube_opening.specs.Outside.{outside};
 ghost use Rattle.cube_opening.specs.Reports.{IsReport, NoMessage, Prints};
-ghost use Rattle.cube_app.specs.Runs.{Obeyed, Runs};
+ghost use Rattle.cube_app.specs.Runs.{Obeyed, Permits, Runs};
 ghost use Rattle.cube_app.specs.Texts.{usage_text as usage_words};
 ghost use Rattle.cube_app.specs.TwinFiles.{TwinFilesMakeTwins, TwinTalksAreTheSame, TwinLogsAreTheSame};
 
@@ -76,6 +77,7 @@ fn obey<F: Folder, S: Store, I: Source, O: Sink, W: Wire>(
     requires message { message ≡ [] }
     requires fits { Fits orders }
     requires quiet { IsTrue (W.state world.old.wire).told → (W.state world.old.wire).log ≡ [] }
+    requires permits { Permits {F = F} {S = S} F.state S.state O.allows W.allows world.old.files world.old.store (O.state world.old.out) (W.state world.old.wire) orders }
     ensures { Obeyed orders (outside F.state S.state I.state O.state W.state world.old world.new) result }
 {
     match orders {
@@ -174,7 +176,10 @@ pub fn run<F: Folder, S: Store, I: Source, O: Sink, W: Wire>(
     words: &[Text],
     world: &mut World<F, S, I, O, W>,
 ) -> Report
-    requires { IsTrue (W.state world.old.wire).told → (W.state world.old.wire).log ≡ [] }
+    requires quiet { IsTrue (W.state world.old.wire).told → (W.state world.old.wire).log ≡ [] }
+
+    // What is answered goes out over a store that has kept it: an output and a wire that allow it only there are served.
+    requires permits { IfOk (orders_in words.now) (Permits {F = F} {S = S} F.state S.state O.allows W.allows world.old.files world.old.store (O.state world.old.out) (W.state world.old.wire)) }
     ensures run { Runs words.now (orders_in words.now) (outside F.state S.state I.state O.state W.state world.old world.new) result }
 
     // Files that are the same but for the fact file, which is that of the twin, make the cube with the changes; and over them the same is
@@ -191,4 +196,18 @@ pub fn run<F: Folder, S: Store, I: Source, O: Sink, W: Wire>(
         Ok(Err(usage)) => refuse_words(alloc, words, usage),
         Ok(Ok(orders)) => obey(alloc, message, orders, world),
     }
+}
+
+/// The same, over an output and a wire that allow everything, as those of the machine do.
+pub fn run_freely<F: Folder, S: Store, I: Source, O: Sink, W: Wire>(
+    alloc: Global,
+    words: &[Text],
+    world: &mut World<F, S, I, O, W>,
+) -> Report
+    requires quiet { IsTrue (W.state world.old.wire).told → (W.state world.old.wire).log ≡ [] }
+    requires pieces { (store : StoreState) (bytes piece : List ℕ) → O.allows store bytes piece }
+    requires looks { (store : StoreState) (log : List LogEntry) → W.allows store log }
+    ensures { Runs words.now (orders_in words.now) (outside F.state S.state I.state O.state W.state world.old world.new) result }
+{
+    run(alloc, words, world)
 }

@@ -61,11 +61,17 @@ pub returns-in-Ask : goal.returns-in-Ask
 returns-in-Ask g c =
     let x = c.ask.ensures in
     obeyed_as c.args.orders (orders.Ask c.in-Ask.cube c.in-Ask.journal c.in-Ask.stated) c.in-Ask.is (record {
-      does = record { runs = record { answers = x.answers; named = x.names; few_calls = x.calls; memory = x.memory; complete = x.complete }; ended = x.ended };
+      does = record { runs = record { answers = x.answers; named = x.names; few_calls = x.calls; memory = x.memory; complete = x.complete }; ended = x.ended; sight = x.sight };
       leaves = x.leaves;
       causes = x.causes;
       others = x.others;
     })
+
+pub ask-requires-clause-permits : goal.ask-requires-clause-permits
+ask-requires-clause-permits g c = rw c.in-Ask.is at c.requires.permits
+
+pub serve_cube-requires-clause-permits : goal.serve_cube-requires-clause-permits
+serve_cube-requires-clause-permits g c = rw c.in-Serve.is at c.requires.permits
 
 pub returns-in-Witness : goal.returns-in-Witness
 returns-in-Witness g c =

@@ -33,3 +33,8 @@ returns-in-Ok-Ok-clause-logs g c = twin_logs_are_the_same
 
 pub returns-in-Ok-Ok-clause-run : goal.returns-in-Ok-Ok-clause-run
 returns-in-Ok-Ok-clause-run g c = run_as c.args.words.now (orders_of c.args.words.now) c.in-Ok-Ok.orders (sym c.in-Ok-Ok.field-0-is ∙ c.in-Ok-Ok.ensures.orders) c.obey.ensures
+
+pub obey-requires-clause-permits : goal.obey-requires-clause-permits
+obey-requires-clause-permits g c =
+    let is = sym (sym c.in-Ok-Ok.field-0-is ∙ c.in-Ok-Ok.ensures.orders) in
+    rw is at c.requires.permits
