@@ -7,7 +7,7 @@ use Rattle.std.proofs.lemmas.Bool.{false≢true, and_parts, and_from, or_left, o
 use Rattle.cube_model.specs.declared.cell.Cell.{Cell}
 use Rattle.cube_model.specs.declared.policy.Object.{Object}
 use Rattle.cube_model.specs.Cubes.{Dimension, Public, before, in_order, key_at, places, cuboids_below, cuboid_count, cuboid_number, are_levels, count_from, is_finer, same, IsIn, Each, IsIncreasing}
-use Rattle.cube_model.specs.Protection.{in_slice, touched, under, same_cell, each_once, objects_of, protected_by, protected}
+use Rattle.cube_model.specs.Protection.{guards, touched, under, same_cell, each_once, objects_of, protected_by, protected}
 use Rattle.cube_model.specs.Meanings.{first_at, rank, ProtectedInOrder}
 use Rattle.cube_model.proofs.Members.{tested, IsIn-filter, IsIn-map, IsIn-append, IsIn-flat_map, IsIn-count_from, same_refl}
 use Rattle.cube_model.proofs.Numbers.{number_below}
@@ -139,15 +139,15 @@ cell c k = record { levels = c; key = k }
 
 levels_in : (g : Public) (o : Object) (c : List ℕ) (t : Cell) → IsIn t (touched g o c) → c ≡ t.levels
 unfolding cell
-levels_in g o c t h = ap (λ s. s.levels) (IsIn-map (cell c) t (in_order (map (key_at g c) (filter (in_slice g o) (places g)))) h).2
+levels_in g o c t h = ap (λ s. s.levels) (IsIn-map (cell c) t (in_order (map (key_at g c) (filter (guards g o c) (places g)))) h).2
 
 rising_under : (g : Public) (o : Object) → are_levels g.dimensions o.levels ≡ true → Rising (λ s t. before (place g s) (place g t)) (under g o)
 unfolding place cell
 rising_under g o e = rising_flat_map (touched g o) (lesser_number g.dimensions) (λ s t. before (place g s) (place g t)) (cuboids_below o.levels) (rising_cuboids g.dimensions o.levels e)
-    (λ c k. rising_map (cell c) (λ s t. before (place g s) (place g t)) (in_order (map (key_at g c) (filter (in_slice g o) (places g))))
-    (rising_weaken before (λ x y. before (place g (cell c x)) (place g (cell c y))) (in_order (map (key_at g c) (filter (in_slice g o) (places g))))
+    (λ c k. rising_map (cell c) (λ s t. before (place g s) (place g t)) (in_order (map (key_at g c) (filter (guards g o c) (places g))))
+    (rising_weaken before (λ x y. before (place g (cell c x)) (place g (cell c y))) (in_order (map (key_at g c) (filter (guards g o c) (places g))))
     (λ x y u v p. before_same (cuboid_number g.dimensions c) x y p)
-    (from_increasing (in_order (map (key_at g c) (filter (in_slice g o) (places g)))) (in_order_increasing (map (key_at g c) (filter (in_slice g o) (places g)))))))
+    (from_increasing (in_order (map (key_at g c) (filter (guards g o c) (places g)))) (in_order_increasing (map (key_at g c) (filter (guards g o c) (places g)))))))
     (λ c k s t u v p a b. before_less (cuboid_number g.dimensions s.levels) (cuboid_number g.dimensions t.levels) s.key t.key
     (subst (λ z. lesser_number g.dimensions z t.levels ≡ true) (levels_in g o c s a) (subst (λ z. lesser_number g.dimensions c z ≡ true) (levels_in g o k t b) p)))
 

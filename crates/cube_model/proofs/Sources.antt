@@ -10,7 +10,7 @@ use Rattle.cube_model.specs.declared.request.Request.{Request}
 use Rattle.cube_model.specs.declared.verdict.Verdict.TheVariants.{Answer}
 use Rattle.cube_model.specs.Cubes.{Public, World, IsWorld, same, in_order, cuboids_below, places, point, key_at, together, covers, covered, is_finer, Each, IsIn, IsPoint}
 use Rattle.cube_model.specs.Requests.{is_picked, in_row, total, grain, is_valid}
-use Rattle.cube_model.specs.Protection.{method, in_slice, objects_of, touched, under, same_cell, each_once, protected_by, protected, cutting_pairs, first, is_cut}
+use Rattle.cube_model.specs.Protection.{method, guards, objects_of, touched, under, same_cell, each_once, protected_by, protected, cutting_pairs, first, is_cut}
 use Rattle.cube_model.specs.Verdicts.{source, IsAdmissible}
 use Rattle.cube_model.specs.Twins.{plus_at, moved, with_first, change_under, change_by, changes}
 use Rattle.cube_model.proofs.Finer.{alike, is_finer_trans}
@@ -130,9 +130,9 @@ IsIn-each_once t (s ∷ ts) (inr k) = inr (IsIn-each_once t ts (IsIn-filter (λ 
 
 pub touched_covers : (g : Public) (o : Object) (c : List ℕ) (t : Cell) → IsIn t (touched g o c) → (i : ℕ) × IsIn i (covered g t)
 touched_covers g o c t h =
-    let a = IsIn-map cell_of t (in_order (map (key_at g c) (filter (in_slice g o) (places g)))) h in
-    let b = IsIn-map (key_at g c) a.0 (filter (in_slice g o) (places g)) (IsIn-in_order a.0 (map (key_at g c) (filter (in_slice g o) (places g))) a.1) in
-    let p = IsIn-filter (in_slice g o) b.0 (places g) b.1 in
+    let a = IsIn-map cell_of t (in_order (map (key_at g c) (filter (guards g o c) (places g)))) h in
+    let b = IsIn-map (key_at g c) a.0 (filter (guards g o c) (places g)) (IsIn-in_order a.0 (map (key_at g c) (filter (guards g o c) (places g))) a.1) in
+    let p = IsIn-filter (guards g o c) b.0 (places g) b.1 in
     (b.0, subst (λ s. IsIn b.0 (covered g s)) a.2 (filter_has (covers g (cell_of a.0)) b.0 (places g) (ap (λ k. same k a.0) b.2 ∙ same_refl a.0) p.1))
   where
     cell_of : List ℕ → Cell

@@ -49,7 +49,7 @@ time = record { levels = 2; paths = path2 74 81 ∷ path2 70 81 ∷ [] }
 
 -- the cells of each city and month and below, that is these alone
 abbrev pub by_city_and_month : ℕ → List Within → Object
-by_city_and_month m slice = record { measure = m; levels = two 0 0; slice = slice }
+by_city_and_month m slice = record { measure = m; levels = two 0 0; slice = slice; fewer = None }
 
 -- Measure 0 is pay, by a source, each city's month protected; measure 1 is hours, by links. Nobody works in Nice in February.
 abbrev pub pay_cube : World
@@ -93,7 +93,21 @@ pay_in_both = pay_under (Lattice ∷ Parity ∷ []) (by_city_and_month 0 (in_sou
 
 -- pay protected in the North by city and month, and everywhere by area and quarter
 abbrev pub pay_twice : World
-pay_twice = pay_under (Lattice ∷ Parity ∷ []) (by_city_and_month 0 (in_north ∷ []) ∷ record { measure = 0; levels = two 1 1; slice = [] } ∷ [])
+pay_twice = pay_under (Lattice ∷ Parity ∷ []) (by_city_and_month 0 (in_north ∷ []) ∷ record { measure = 0; levels = two 1 1; slice = []; fewer = None } ∷ [])
+
+-- pay protected wherever fewer than two facts stand
+abbrev pub pay_of_few : World
+pay_of_few = pay_under (Lattice ∷ Parity ∷ []) (record { measure = 0; levels = two 2 2; slice = []; fewer = Some 2 } ∷ [])
+
+-- hours protected where fewer than two facts stand, and in the South where fewer than three do
+abbrev pub hours_of_few : World
+hours_of_few = record {
+  shown = record pay_cube.shown {
+    policy = record { methods = Lattice ∷ Parity ∷ []; objects = record { measure = 1; levels = two 0 0; slice = []; fewer = Some 2 } ∷ record { measure = 1; levels = two 0 0; slice = in_south ∷ []; fewer = Some 3 } ∷ [] };
+    shape = record { points = pay_cube.shown.shape.points; facts = 2 ∷ 3 ∷ 1 ∷ 2 ∷ 1 ∷ [] };
+  };
+  cube = pay_cube.cube;
+}
 
 -- a third measure by a source, with no object and no values
 abbrev pub pay_and_third : World

@@ -8,7 +8,7 @@ use Rattle.cube_model.specs.declared.policy.Object.{Object}
 use Rattle.cube_model.specs.declared.request.Request.{Request}
 use Rattle.cube_model.specs.Cubes.{cuboids, cuboid_count, cuboid_number, are_levels, Each, Public, World, IsWorld, is_finer, meet, key_at, together, covers, in_order, IsIn, IsIncreasing}
 use Rattle.cube_model.specs.Requests.{is_picked, rows}
-use Rattle.cube_model.specs.Protection.{under, same_cell, objects_of, method, protected, in_slice, is_cut}
+use Rattle.cube_model.specs.Protection.{under, same_cell, objects_of, method, protected, in_slice, has_fewer, is_cut}
 
 -- the meet of two cuboids is their greatest lower bound
 pub record IsGreatestBelow (a b c : List ℕ) : Type 0 where
@@ -52,9 +52,10 @@ pub record AreRows (g : Public) (r : Request) : Type 0 where
 abbrev pub RowsAreRows : Type 0
 RowsAreRows = (g : Public) (r : Request) → AreRows g r
 
--- Some object of the measure has the cell's cuboid at or below its own, and the cell covers a place of its slice.
+-- Some object of the measure has the cell's cuboid at or below its own, the cell has few enough facts for it, and the cell covers a place
+-- of its slice.
 abbrev pub IsProtected : Public → ℕ → Cell → Type 0
-IsProtected g m t = (o : Object) × (IsIn o g.policy.objects) × (o.measure ≡ m) × (is_finer t.levels o.levels ≡ true) × (i : ℕ) × (i < length g.shape.points) × (in_slice g o i ≡ true) × (covers g t i ≡ true)
+IsProtected g m t = (o : Object) × (IsIn o g.policy.objects) × (o.measure ≡ m) × (is_finer t.levels o.levels ≡ true) × (has_fewer g o.fewer t ≡ true) × (i : ℕ) × (i < length g.shape.points) × (in_slice g o i ≡ true) × (covers g t i ≡ true)
 
 abbrev pub ProtectedAre : Type 0
 ProtectedAre = (g : Public) (m : ℕ) (t : Cell) → method g m ≡ Lattice → IsIn t (protected g m) ↔ IsProtected g m t

@@ -1,12 +1,12 @@
 -- Which cells are protected, and which cuboids cut them.
 use Rattle.std.specs.List.{list_all, list_any}
-use Rattle.std.specs.Prelude.{false, ℕ, Bool, true, not, ◌&&◌, ◌==◌, List, [], ◌∷◌, map, filter, flat_map, find, slice_index_or, Option, Some, None, is_some}
+use Rattle.std.specs.Prelude.{false, ℕ, Bool, true, not, ◌&&◌, ◌==◌, nat_lt, List, [], ◌∷◌, map, filter, flat_map, find, sum, slice_index_or, Option, Some, None, is_some}
 use Rattle.cube_model.specs.declared.cell.Cell.{Cell}
 use Rattle.cube_model.specs.declared.policy.Method.{Method}
 use Rattle.cube_model.specs.declared.policy.Method.TheVariants.{Plain, Lattice, Parity}
 use Rattle.cube_model.specs.declared.policy.Object.{Object}
 use Rattle.cube_model.specs.declared.policy.Within.{Within}
-use Rattle.cube_model.specs.Cubes.{Dimension, Public, up, same, in_order, places, point, key_at, together, covers, core, cuboids_below}
+use Rattle.cube_model.specs.Cubes.{Dimension, Public, up, same, in_order, places, point, key_at, together, covers, covered, core, cuboids_below}
 
 -- how the measure is controlled
 abbrev pub method : Public → ℕ → Method
@@ -39,9 +39,26 @@ is_within g i s = listed (up (slice_index_or g.dimensions s.dimension no_dimensi
 abbrev pub in_slice : Public → Object → ℕ → Bool
 in_slice g o i = list_all (is_within g i) o.slice
 
--- the cells of a cuboid that cover a place of the slice, by key
+-- the cell of a place at a cuboid
+abbrev pub cell_of : Public → List ℕ → ℕ → Cell
+cell_of g c i = record { levels = c; key = key_at g c i }
+
+-- how many facts stand at the places of a cell
+abbrev pub facts_in : Public → Cell → ℕ
+facts_in g t = sum (map (λ i. slice_index_or g.shape.facts i 0) (covered g t))
+
+-- the cell has fewer facts than this, if a number is given
+abbrev pub has_fewer : Public → Option ℕ → Cell → Bool
+has_fewer g None t = true
+has_fewer g (Some n) t = nat_lt (facts_in g t) n
+
+-- the place is in the object's slice, and its cell at the cuboid has few enough facts
+abbrev pub guards : Public → Object → List ℕ → ℕ → Bool
+guards g o c i = in_slice g o i && has_fewer g o.fewer (cell_of g c i)
+
+-- the cells of a cuboid that cover a place of the slice and have few enough facts, by key
 abbrev pub touched : Public → Object → List ℕ → List Cell
-touched g o c = map (λ key. record { levels = c; key = key }) (in_order (map (key_at g c) (filter (in_slice g o) (places g))))
+touched g o c = map (λ key. record { levels = c; key = key }) (in_order (map (key_at g c) (filter (guards g o c) (places g))))
 
 -- the cells that an object protects, by cuboid number and key
 abbrev pub under : Public → Object → List Cell
@@ -57,16 +74,16 @@ each_once (t ∷ ts) = t ∷ filter (λ s. not (same_cell t s)) (each_once ts)
 
 -- the cell of one place
 abbrev pub core_cell : Public → ℕ → Cell
-core_cell g i = record { levels = core g; key = key_at g (core g) i }
+core_cell g i = cell_of g (core g) i
 
 -- the objects of a measure
 abbrev pub objects_of : Public → ℕ → List Object
 objects_of g m = filter (λ o. o.measure == m) g.policy.objects
 
--- the place is in the slice of one of these, or there are none
+-- the place is in the slice of one of these, with few enough facts, or there are none
 abbrev pub is_guarded : Public → List Object → ℕ → Bool
 is_guarded g [] i = true
-is_guarded g (o ∷ os) i = list_any (λ x. in_slice g x i) (o ∷ os)
+is_guarded g (o ∷ os) i = list_any (λ x. guards g x (core g) i) (o ∷ os)
 
 -- the protected places of a parity measure, in order
 abbrev pub guarded : Public → ℕ → List ℕ

@@ -43,7 +43,8 @@ pub struct Within {
 /// that is named here. An empty slice is the whole cube.
 pub type Slice = Items<Within>;
 
-/// A protected object: the cells at these levels and below that cover a place of the slice.
+/// A protected object: the cells at these levels and below that cover a place of the slice, and have
+/// fewer facts than a number, where one is given.
 #[derive(Drop)]
 pub struct Object {
     /// The number of the measure that is protected.
@@ -52,6 +53,8 @@ pub struct Object {
     pub levels: Levels,
     /// Where the measure is protected.
     pub slice: Slice,
+    /// Of these cells those with fewer facts than this, or all.
+    pub fewer: Option<u32>,
 }
 
 /// A list of objects.

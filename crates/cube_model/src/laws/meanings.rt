@@ -28,7 +28,7 @@ pub fn rows_are_rows()
 {}
 
 /// A cell of a lattice measure is protected exactly where an object of the measure stands at or above
-/// it and it covers a place of the object's slice.
+/// it, it has few enough facts for the object, and it covers a place of the object's slice.
 pub fn protected_are()
     ensures { ProtectedAre }
 {}

@@ -27,7 +27,7 @@ ghost use Rattle.cube_model.specs.Reasons.Origin.{By, Own};
 ghost use Rattle.cube_model.specs.Reasons.Reason.{Blocks, Walk};
 ghost use Rattle.cube_model.specs.Safe.{finest};
 ghost use Rattle.cube_model.specs.Rooms.{replies_in, plain, AreApart};
-ghost use Rattle.cube_model.specs.Examples.{region, pay_cube, pay_open, pay_twice, pay_in_both, pay_and_third, hours_in_south, hours_in_either, hours_in_both, one_place_cube, empty_cube, two_row_cube, full_cube, day_cube, two, slice, range, picks, pick, leaves, count_by, by_level, ask, ask_fault, ask_no_memory, ask_witness, ask_shape, cell, cell_at, line, line1, answered, refused, changed, sums, months, many, two_ranges, two_links, even_boxes, staff, board, two_rooms, of_group, step};
+ghost use Rattle.cube_model.specs.Examples.{region, pay_cube, pay_open, pay_twice, pay_in_both, pay_and_third, hours_in_south, hours_in_either, hours_in_both, pay_of_few, hours_of_few, one_place_cube, empty_cube, two_row_cube, full_cube, day_cube, two, slice, range, picks, pick, leaves, count_by, by_level, ask, ask_fault, ask_no_memory, ask_witness, ask_shape, cell, cell_at, line, line1, answered, refused, changed, sums, months, many, two_ranges, two_links, even_boxes, staff, board, two_rooms, of_group, step};
 
 /// Sums by month, by area and in one sum; numbers of facts; members of three levels; rows where
 /// nothing is picked and where there is nothing.
@@ -117,6 +117,9 @@ pub fn objects_protect()
     ensures both { protected hours_in_both.shown 1 ≡ cell 0 1 ∷ [] }
     ensures both_of_pay { protected pay_in_both.shown 0 ≡ cell 0 1 ∷ [] }
     ensures twice { protected pay_twice.shown 0 ≡ cell 2 0 ∷ cell 2 1 ∷ cell 0 0 ∷ cell 0 1 ∷ cell 1 0 ∷ cell_at 0 1 0 0 ∷ cell_at 0 1 1 0 ∷ cell_at 0 1 2 0 ∷ cell_at 1 0 0 0 ∷ cell_at 1 0 0 1 ∷ cell_at 1 0 1 0 ∷ cell_at 1 0 1 1 ∷ cell_at 1 1 0 0 ∷ cell_at 1 1 1 0 ∷ [] }
+    ensures few { protected pay_of_few.shown 0 ≡ cell 0 0 ∷ cell 0 1 ∷ cell 1 0 ∷ cell 2 0 ∷ cell 2 1 ∷ cell_at 0 1 1 0 ∷ cell_at 0 2 1 0 ∷ cell_at 1 0 0 1 ∷ cell_at 1 0 1 0 ∷ cell_at 1 0 1 1 ∷ [] }
+    ensures few_places { guarded hours_of_few.shown 1 ≡ 0 ∷ 2 ∷ 4 ∷ [] }
+    ensures few_replies { replies by_rules pay_of_few [] (ask (slice 0 1 1) ∷ ask (slice 0 1 0) ∷ ask (slice 0 0 1) ∷ []) ≡ answered (line 0 0 60 ∷ line 1 0 90 ∷ []) ∷ refused (SourceWould (two 1 0) (cell 0 1)) ∷ refused (SourceWould (two 0 1) (cell 1 0)) ∷ [] }
     ensures open { protected pay_open.shown 0 ≡ [] }
     ensures nowhere { protected empty_cube.shown 0 ≡ [] }
     ensures no_place { guarded empty_cube.shown 1 ≡ [] }
