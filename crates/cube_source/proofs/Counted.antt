@@ -1,27 +1,31 @@
 -- The cells that objects protect, cuboid by cuboid.
-use Rattle.std.specs.List.{list_any, flat_map}
-use Rattle.std.proofs.Common.{◌≡◌, ℕ, zero, suc, ◌+◌, ◌<◌, ◌≤◌, ◌⊎◌, inl, inr, Bool, true, false, cond, ◌&&◌, ◌||◌, List, [], ◌∷◌, length, map, filter, take, get_or, refl, sym, ap, ap₂, ◌∙◌, subst, arith, eqb, leb, ⊎_elim}
-use Rattle.std.proofs.lemmas.Bool.{false≢true, and_parts, and_from, le-leb}
+use Rattle.std.specs.List.{list_any, flat_map, fold}
+use Rattle.std.proofs.Common.{◌≡◌, ℕ, zero, suc, ◌+◌, ◌<◌, ◌≤◌, ◌⊎◌, inl, inr, Bool, true, false, cond, ◌&&◌, ◌||◌, List, [], ◌∷◌, length, map, filter, take, get_or, refl, sym, ap, ap₂, ◌∙◌, subst, arith, eqb, leb, ltb, Option, Some, None, ⊎_elim}
+use Rattle.std.proofs.lemmas.Bool.{false≢true, and_parts, and_from, or_cases, or_left, or_right, le-leb, ltb-true, ltb-false, lt-ltb}
 use Rattle.std.proofs.lemmas.List.{length-map, get_or-map}
-use Rattle.std.proofs.lemmas.List.Folds.{list_any_more}
-use Rattle.cube_model.specs.declared.answer.Row.{Row}
+use Rattle.std.proofs.lemmas.List.Sums.{fold_more}
 use Rattle.cube_model.specs.declared.cell.Cell.{Cell}
 use Rattle.cube_model.specs.declared.policy.Object.{Object}
 use Rattle.cube_model.specs.Cubes.{Dimension, Public, same, in_order, are_levels, cuboid_count, Each, key_at, covers, places, is_finer, cuboids_below, count_from, IsIn}
+use Rattle.cube_model.specs.Cores.{Core, IsCore}
 use Rattle.cube_model.specs.Dims.{Dims, plains}
 use Rattle.cube_model.specs.Meanings.{IsDistinct}
-use Rattle.cube_model.specs.Protection.{in_slice, touched, under, each_once}
+use Rattle.cube_model.specs.Protection.{in_slice, has_fewer, facts_in, guards, cell_of, touched, under, each_once}
 use Rattle.cube_model.specs.Requests.{row_at, rows}
 use Rattle.cube_model.proofs.Finer.{is_finer_trans}
 use Rattle.cube_model.proofs.Leasts.{once}
-use Rattle.cube_model.proofs.Members.{IsIn-filter, filter_has, IsIn-map, map_has, IsIn-flat_map, flat_map_has, IsIn-in_order, same_eq, same_refl}
+use Rattle.cube_model.proofs.Members.{tested, IsIn-filter, filter_has, IsIn-map, map_has, IsIn-flat_map, flat_map_has, IsIn-in_order, same_eq, same_refl}
 use Rattle.cube_model.proofs.Objects.{below_finer, finer_below, touched_is, touched_has, each_once_has}
 use Rattle.cube_model.proofs.Orders.{place_of, in_order_has}
 use Rattle.cube_model.proofs.Sources.{place_below, IsIn-each_once}
-use Rattle.cube_model.proofs.Walks.{any_from, any_has, any_alike}
-use Rattle.cube_source.specs.Blocks.{whole, row_cell, AreFlags}
+use Rattle.cube_model.proofs.Walks.{any_from, any_has, any_alike, same_truth}
+use Rattle.cube_source.specs.Blocks.{bare, whole, row_cell}
+use Rattle.cube_source.specs.Bounds.{limit, raised, bound_of, bound_over, is_below_bound, AreBounds}
+use Rattle.cube_source.specs.Few.{facts_at}
 use Rattle.cube_source.specs.Objects.{of_measure, IsPlaced, is_sliced, slice_of, stands_over, cells_over}
-use Rattle.cube_source.proofs.Cuts.{cell, row_covers, keys_whole, any_filter}
+use Rattle.cube_source.proofs.Cuts.{row_covers, keys_whole, any_filter}
+use Rattle.cube_source.proofs.Fewer.{cell}
+use Rattle.cube_source.proofs.FewPlaces.{facts_few}
 use Rattle.cube_source.proofs.Growing.{filter_fewer}
 use Rattle.cube_source.proofs.Once.{AreApart, apart_cells}
 use Rattle.cube_source.proofs.Ordered.{kept_keys}
@@ -46,30 +50,81 @@ pub slice_here : (g : Public) (os : List Object) (slices : List (List Bool)) (i 
 slice_here g os slices i o slice all l is here =
     here ∙ ap (λ (xs : List (List Bool)). get_or xs i slice) all ∙ get_or-map (slice_of g) os i o slice l ∙ ap (slice_of g) (sym is)
 
--- no object, no flag
-pub over_none : (g : Public) (m : ℕ) (c : List ℕ) (many : ℕ) (flags : List Bool) → length flags ≡ many → ((k : ℕ) → k < many → get_or flags k false ≡ false) → AreFlags many (stands_over g [] m c) flags
-over_none g m c many flags size h = record { long = size; at = h }
+-- ---- bounds
+
+-- no object, no bound
+pub bounds_none : (g : Public) (m : ℕ) (c : List ℕ) (many : ℕ) (bounds : List ℕ) → length bounds ≡ many → ((k : ℕ) → k < many → get_or bounds k 0 ≡ 0) → AreBounds many (bound_over g [] m c) bounds
+bounds_none g m c many bounds size h = record { long = size; at = h }
 
 -- one object more
-pub over_more : (g : Public) (m : ℕ) (c : List ℕ) (os : List Object) (i : ℕ) (o : Object) (slice old new : List Bool) → i < length os → o ≡ get_or os i o → slice ≡ slice_of g o
-    → length new ≡ length old → ((k : ℕ) → k < length old → get_or new k false ≡ (get_or old k false || ((eqb o.measure m && is_finer c o.levels) && get_or slice k false)))
-    → AreFlags (length g.shape.points) (stands_over g (take i os) m c) old → AreFlags (length g.shape.points) (stands_over g (take (i + 1) os) m c) new
-over_more g m c os i o slice old new l is own size added f = record {
+pub bounds_more : (g : Public) (m : ℕ) (c : List ℕ) (os : List Object) (i : ℕ) (o : Object) (slice : List Bool) (old new : List ℕ) → i < length os → o ≡ get_or os i o → slice ≡ slice_of g o
+    → length new ≡ length old → ((k : ℕ) → k < length old → get_or new k 0 ≡ raised (get_or old k 0) (cond ((eqb o.measure m && is_finer c o.levels) && get_or slice k false) (limit o.fewer) 0))
+    → AreBounds (length g.shape.points) (bound_over g (take i os) m c) old → AreBounds (length g.shape.points) (bound_over g (take (i + 1) os) m c) new
+bounds_more g m c os i o slice old new l is own size added f = record {
   long = size ∙ f.long;
   at = λ k b. (
       let whole = f.long in
       added k (omega (arith, b, whole))
-      ∙ ap₂ (λ (x y : Bool). x || ((eqb o.measure m && is_finer c o.levels) && y)) (f.at k b) (ap (λ (xs : List Bool). get_or xs k false) own ∙ flag_at (in_slice g o) (length g.shape.points) k b)
-      ∙ ap (λ (y : Bool). stands_over g (take i os) m c k || y) (turned (eqb o.measure m) (is_finer c o.levels) (in_slice g o k))
-      ∙ sym (list_any_more (λ (x : Object). is_finer c x.levels && is_sliced g m x k) os i o l
-      ∙ ap (λ (x : Object). stands_over g (take i os) m c k || (is_finer c x.levels && is_sliced g m x k)) (sym is)));
+      ∙ ap₂ (λ (x : ℕ) (y : Bool). raised x (cond ((eqb o.measure m && is_finer c o.levels) && y) (limit o.fewer) 0)) (f.at k b) (ap (λ (xs : List Bool). get_or xs k false) own ∙ flag_at (in_slice g o) (length g.shape.points) k b)
+      ∙ sym (fold_more (λ (most : ℕ) (x : Object). raised most (bound_of g m c k x)) 0 os i o l
+      ∙ ap (λ (x : Object). raised (bound_over g (take i os) m c k) (bound_of g m c k x)) (sym is)));
 }
+
+below_raised : (n a b : ℕ) → ltb n (raised a b) ≡ (ltb n a || ltb n b)
+below_raised n a b = same_truth (ltb n (raised a b)) (ltb n a || ltb n b) there back
   where
-    turned : (a b s : Bool) → ((a && b) && s) ≡ (b && (a && s))
-    turned true true s = refl
-    turned true false s = refl
-    turned false true s = refl
-    turned false false s = refl
+    there : ltb n (raised a b) ≡ true → (ltb n a || ltb n b) ≡ true
+    there e = go (ltb a b) e
+      where
+        go : (z : Bool) → ltb n (cond z b a) ≡ true → (ltb n a || ltb n b) ≡ true
+        go true q = or_right (ltb n a) (ltb n b) q
+        go false q = or_left (ltb n a) (ltb n b) q
+
+    back : (ltb n a || ltb n b) ≡ true → ltb n (raised a b) ≡ true
+    back e = go (ltb a b) refl (or_cases (ltb n a) (ltb n b) e)
+      where
+        go : (z : Bool) → ltb a b ≡ z → (ltb n a ≡ true) ⊎ (ltb n b ≡ true) → ltb n (cond z b a) ≡ true
+        go true q (inl h) = let x : n < a = ltb-true n a h in let y : a < b = ltb-true a b q in lt-ltb n b (omega (arith, x, y))
+        go true q (inr h) = h
+        go false q (inl h) = h
+        go false q (inr h) = let x : n < b = ltb-true n b h in let y = ltb-false a b q in lt-ltb n a (omega (arith, x, y))
+
+-- facts that are below the limit of an object are few enough for it
+below_limit : (g : Public) (fewer : Option ℕ) (t : Cell) (n : ℕ) → n ≤ 1000000 → n ≡ facts_in g t → ltb n (limit fewer) ≡ has_fewer g fewer t
+below_limit g None t n small e = lt-ltb n 4294967295 (omega (arith, small))
+below_limit g (Some most) t n small e = ap (λ (k : ℕ). ltb k most) e
+
+below_zero : (n : ℕ) → ltb n 0 ≡ false
+below_zero n = tested (ltb n 0) (λ e. let l : n < 0 = ltb-true n 0 e in absurd (omega (arith, l))) (λ e. e)
+
+below_one : (g : Public) (m : ℕ) (c : List ℕ) (i : ℕ) (o : Object) (n : ℕ) → n ≤ 1000000 → n ≡ facts_in g (cell_of g c i) → ltb n (bound_of g m c i o) ≡ (is_finer c o.levels && is_sliced g m c o i)
+below_one g m c i o n small e = go (eqb o.measure m) (is_finer c o.levels) (in_slice g o i)
+  where
+    go : (a b s : Bool) → ltb n (cond ((a && b) && s) (limit o.fewer) 0) ≡ (b && (a && (s && has_fewer g o.fewer (cell_of g c i))))
+    go true true true = below_limit g o.fewer (cell_of g c i) n small e
+    go true true false = below_zero n
+    go true false s = below_zero n
+    go false true s = below_zero n
+    go false false s = below_zero n
+
+below_from : (g : Public) (m : ℕ) (c : List ℕ) (i : ℕ) (n : ℕ) (most : ℕ) (os : List Object) → n ≤ 1000000 → n ≡ facts_in g (cell_of g c i) → ltb n (fold (λ (z : ℕ) (o : Object). raised z (bound_of g m c i o)) most os) ≡ (ltb n most || stands_over g os m c i)
+below_from g m c i n most [] small e = end_false (ltb n most)
+  where
+    end_false : (b : Bool) → b ≡ (b || false)
+    end_false true = refl
+    end_false false = refl
+below_from g m c i n most (o ∷ os) small e =
+    below_from g m c i n (raised most (bound_of g m c i o)) os small e
+    ∙ ap (λ (b : Bool). b || stands_over g os m c i) (below_raised n most (bound_of g m c i o) ∙ ap (λ (b : Bool). ltb n most || b) (below_one g m c i o n small e))
+    ∙ or_assoc (ltb n most) (is_finer c o.levels && is_sliced g m c o i) (stands_over g os m c i)
+  where
+    or_assoc : (a b c : Bool) → ((a || b) || c) ≡ (a || (b || c))
+    or_assoc true b c = refl
+    or_assoc false b c = refl
+
+-- the facts of the cell of a place are below its bound where an object guards it
+below_bound : (g : Public) (os : List Object) (m : ℕ) (c : List ℕ) (i n : ℕ) → n ≤ 1000000 → n ≡ facts_in g (cell_of g c i) → ltb n (bound_over g os m c i) ≡ stands_over g os m c i
+below_bound g os m c i n small e = below_from g m c i n 0 os small e ∙ ap (λ (b : Bool). b || stands_over g os m c i) (below_zero n)
 
 -- ---- the cells of one cuboid
 
@@ -77,34 +132,40 @@ filter_true : {X : Type 0} (xs : List X) → filter (λ x. true) xs ≡ xs
 filter_true [] = refl
 filter_true (x ∷ xs) = ap (λ ys. x ∷ ys) (filter_true xs)
 
--- a row has a flagged place where its cell covers a place that passes
-row_flagged : (g : Public) (test : ℕ → Bool) (flags : List Bool) (c key : List ℕ) → AreFlags (length g.shape.points) test flags
-    → list_any (λ i. get_or flags i false) (row_at g (whole c) key).places ≡ (list_any (λ i. test i && same (key_at g c i) key) (places g) && true)
-row_flagged g test flags c key f =
-    ap (list_any (λ i. get_or flags i false)) (row_covers g c key)
-    ∙ any_alike (λ i. get_or flags i false) test (filter (covers g (cell c key)) (places g)) (λ i m. f.at i (place_below g i (IsIn-filter (covers g (cell c key)) i (places g) m).1))
-    ∙ any_filter test (covers g (cell c key)) (places g)
-    ∙ and_true (list_any (λ i. test i && same (key_at g c i) key) (places g))
+-- a row has a place whose bound is above its facts where its cell covers a place that an object guards
+row_below : (k : Core) (os : List Object) (m : ℕ) (c key bounds : List ℕ) → IsCore k → AreBounds (length k.shape.points) (bound_over (bare k) os m c) bounds
+    → is_below_bound (bare k) bounds (row_at (bare k) (whole c) key) ≡ (list_any (λ i. stands_over (bare k) os m c i && same (key_at (bare k) c i) key) (places (bare k)) && true)
+row_below k os m c key bounds ok f =
+    let g = bare k in
+    let is = filter (covers g (cell c key)) (places g) in
+    let n = facts_in g (cell c key) in
+    ap (λ (ps : List ℕ). list_any (λ i. ltb (facts_at g ps) (get_or bounds i 0)) ps) (row_covers g c key)
+    ∙ any_alike (λ i. ltb n (get_or bounds i 0)) (stands_over g os m c) is (λ i h. (
+    let p = IsIn-filter (covers g (cell c key)) i (places g) h in
+    ap (ltb n) (f.at i (place_below g i p.1)) ∙ below_bound g os m c i n (facts_few k (cell c key) ok) (ap (λ (x : List ℕ). facts_in g (cell c x)) (sym (same_eq (key_at g c i) key p.0)))))
+    ∙ any_filter (stands_over g os m c) (covers g (cell c key)) (places g)
+    ∙ and_true (list_any (λ i. stands_over g os m c i && same (key_at g c i) key) (places g))
   where
     and_true : (b : Bool) → b ≡ (b && true)
     and_true true = refl
     and_true false = refl
 
-pub cells_counted : (g : Public) (os : List Object) (m : ℕ) (c : List ℕ) (flags : List Bool) → AreFlags (length g.shape.points) (stands_over g os m c) flags
-    → length (filter (λ (row : Row). list_any (λ i. get_or flags i false) row.places) (rows g (whole c))) ≡ length (cells_over g os m c)
-cells_counted g os m c flags f =
-    let test = λ (row : Row). list_any (λ i. get_or flags i false) row.places in
-    let keep = λ (k : List ℕ). list_any (λ i. stands_over g os m c i && same (key_at g c i) k) (places g) in
+pub cells_counted : (k : Core) (os : List Object) (m : ℕ) (c bounds : List ℕ) → IsCore k → AreBounds (length k.shape.points) (bound_over (bare k) os m c) bounds
+    → length (filter (is_below_bound (bare k) bounds) (rows (bare k) (whole c))) ≡ length (cells_over (bare k) os m c)
+cells_counted k os m c bounds ok f =
+    let g = bare k in
+    let test = is_below_bound g bounds in
+    let keep = λ (key : List ℕ). list_any (λ i. stands_over g os m c i && same (key_at g c i) key) (places g) in
     sym (length-map (filter test (rows g (whole c))) (row_cell c))
     ∙ ap length (ap (λ (ks : List (List ℕ)). map (row_cell c) (filter test (map (row_at g (whole c)) ks))) (keys_whole g c)
-    ∙ filter_kept (row_at g (whole c)) c test keep (λ t. true) (in_order (map (key_at g c) (places g))) (λ k. refl) (λ k. row_flagged g (stands_over g os m c) flags c k f)
+    ∙ filter_kept (row_at g (whole c)) c test keep (λ t. true) (in_order (map (key_at g c) (places g))) (λ x. refl) (λ x. row_below k os m c x bounds ok f)
     ∙ filter_true (map (cell c) (filter keep (in_order (map (key_at g c) (places g)))))
     ∙ ap (map (cell c)) (sym (kept_keys (key_at g c) (stands_over g os m c) (places g))))
 
 -- where no object of the measure stands at or above a cuboid, none of its cells is protected
 pub none_over : (g : Public) (os : List Object) (m : ℕ) (c : List ℕ) → list_any (λ (o : Object). eqb o.measure m && is_finer c o.levels) os ≡ false → (i : ℕ) → stands_over g os m c i ≡ false
 none_over g [] m c e i = refl
-none_over g (o ∷ os) m c e i = go (eqb o.measure m) (is_finer c o.levels) (in_slice g o i) e (none_over g os m c)
+none_over g (o ∷ os) m c e i = go (eqb o.measure m) (is_finer c o.levels) (guards g o c i) e (none_over g os m c)
   where
     go : (a b s : Bool) → ((a && b) || list_any (λ (o : Object). eqb o.measure m && is_finer c o.levels) os) ≡ false → (list_any (λ (o : Object). eqb o.measure m && is_finer c o.levels) os ≡ false → (i : ℕ) → stands_over g os m c i ≡ false)
         → ((b && (a && s)) || stands_over g os m c i) ≡ false
@@ -162,16 +223,22 @@ under_top (d ∷ ds) (l ∷ ls) e =
     let p = and_parts (leb l d.levels) (are_levels ds ls) e in
     and_from (leb l d.levels) (is_finer ls (map (λ d. d.levels) ds)) p.0 (under_top ds ls p.1)
 
+-- the cell of a place that it covers, at its own cuboid
+cell_here : (g : Public) (c : List ℕ) (t : Cell) (i : ℕ) → c ≡ t.levels → covers g t i ≡ true → cell_of g c i ≡ t
+cell_here g c t i e h = ap (λ (ls : List ℕ). cell_of g ls i) e ∙ ap (cell t.levels) (same_eq (key_at g t.levels i) t.key h)
+
 over_in_under : (g : Public) (os : List Object) (m : ℕ) (tops : List ℕ) (t : Cell) → IsIn t (flat_map (cells_over g os m) (cuboids_below tops)) → IsIn t (flat_map (under g) (of_measure m os))
 over_in_under g os m tops t h =
     let a = IsIn-flat_map (cells_over g os m) t (cuboids_below tops) h in
     let b = over_is g os m a.0 t a.2 in
-    let o = any_from (λ (x : Object). is_finer a.0 x.levels && is_sliced g m x b.1.0) os b.1.2 in
-    let p = and_parts (is_finer a.0 o.0.levels) (is_sliced g m o.0 b.1.0) o.2 in
-    let q = and_parts (eqb o.0.measure m) (in_slice g o.0 b.1.0) p.1 in
+    let o = any_from (λ (x : Object). is_finer a.0 x.levels && is_sliced g m a.0 x b.1.0) os b.1.2 in
+    let p = and_parts (is_finer a.0 o.0.levels) (is_sliced g m a.0 o.0 b.1.0) o.2 in
+    let q = and_parts (eqb o.0.measure m) (guards g o.0 a.0 b.1.0) p.1 in
+    let w = and_parts (in_slice g o.0 b.1.0) (has_fewer g o.0.fewer (cell_of g a.0 b.1.0)) q.1 in
+    let few = subst (λ (u : Cell). has_fewer g o.0.fewer u ≡ true) (cell_here g a.0 t b.1.0 b.0 b.1.3) w.1 in
     flat_map_has (under g) o.0 t (of_measure m os) (filter_has (λ (x : Object). eqb x.measure m) o.0 os q.0 o.1)
     (flat_map_has (touched g o.0) t.levels t (cuboids_below o.0.levels) (finer_below o.0.levels t.levels (subst (λ (ls : List ℕ). is_finer ls o.0.levels ≡ true) b.0 p.0))
-    (touched_has g o.0 t b.1.0 b.1.1 q.1 b.1.3))
+    (touched_has g o.0 t b.1.0 few b.1.1 w.0 b.1.3))
 
 pub under_in_over : (g : Public) (os : List Object) (m : ℕ) (tops : List ℕ) (t : Cell) → ((o : Object) → IsIn o os → is_finer o.levels tops ≡ true) → IsIn t (flat_map (under g) (of_measure m os)) → IsIn t (flat_map (cells_over g os m) (cuboids_below tops))
 under_in_over g os m tops t top h =
@@ -179,12 +246,15 @@ under_in_over g os m tops t top h =
     let p = IsIn-filter (λ (x : Object). eqb x.measure m) o.0 os o.1 in
     let c = IsIn-flat_map (touched g o.0) t (cuboids_below o.0.levels) o.2 in
     let d = touched_is g o.0 c.0 t c.2 in
+    let at = d.1.1 in
+    let few = subst (λ (u : Cell). has_fewer g o.0.fewer u ≡ true) (sym (cell_here g t.levels t at.0 refl at.3)) d.1.0 in
     let finer = subst (λ (ls : List ℕ). is_finer ls o.0.levels ≡ true) d.0 (below_finer o.0.levels c.0 c.1) in
     flat_map_has (cells_over g os m) t.levels t (cuboids_below tops) (finer_below tops t.levels (is_finer_trans t.levels o.0.levels tops finer (top o.0 p.1)))
-    (over_has g os m t d.1.0 d.1.1
-    (any_has (λ (x : Object). is_finer t.levels x.levels && is_sliced g m x d.1.0) o.0 os p.1
-    (and_from (is_finer t.levels o.0.levels) (is_sliced g m o.0 d.1.0) finer (and_from (eqb o.0.measure m) (in_slice g o.0 d.1.0) p.0 d.1.2)))
-    d.1.3)
+    (over_has g os m t at.0 at.1
+    (any_has (λ (x : Object). is_finer t.levels x.levels && is_sliced g m t.levels x at.0) o.0 os p.1
+    (and_from (is_finer t.levels o.0.levels) (is_sliced g m t.levels o.0 at.0) finer (and_from (eqb o.0.measure m) (guards g o.0 t.levels at.0) p.0
+    (and_from (in_slice g o.0 at.0) (has_fewer g o.0.fewer (cell_of g t.levels at.0)) at.2 few))))
+    at.3)
 
 -- ---- two lists with the same elements, each once
 

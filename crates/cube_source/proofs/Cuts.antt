@@ -9,13 +9,15 @@ use Rattle.cube_model.specs.declared.policy.Object.{Object}
 use Rattle.cube_model.specs.Cubes.{Dimension, Public, same, in_order, key_at, together, covers, places, point, IsIn}
 use Rattle.cube_model.specs.Meanings.{Cuts}
 use Rattle.cube_model.specs.Requests.{is_picked, in_picks, in_row, row_keys, row_at, rows}
-use Rattle.cube_model.specs.Protection.{listed, in_slice, touched, is_cut}
+use Rattle.cube_model.specs.Protection.{listed, in_slice, has_fewer, guards, cell_of, touched, is_cut}
 use Rattle.cube_model.proofs.Leasts.{fails}
 use Rattle.cube_model.proofs.Members.{tested, IsIn-filter, filter_has, IsIn-map, IsIn-in_order, same_eq, same_refl}
 use Rattle.cube_model.proofs.Orders.{cut_is_cuts, rows_are_rows, place_of}
 use Rattle.cube_model.proofs.Sources.{place_below}
 use Rattle.cube_model.proofs.Walks.{any_from, any_has, listed_from, listed_has, same_truth}
 use Rattle.cube_source.specs.Blocks.{whole, is_split, is_mixed, is_parted, AreBlocks, AreFlags}
+use Rattle.cube_source.specs.Few.{guards_row}
+use Rattle.cube_source.proofs.Fewer.{cell, row_guarded}
 use Rattle.cube_source.proofs.Ordered.{kept_keys}
 
 -- ---- the request of all places
@@ -38,9 +40,6 @@ filter_alike p q (x ∷ xs) h = ap₂ (λ (b : Bool) (ys : List _). cond b (x �
 filter_whole : {X : Type 0} (p : X → Bool) (xs : List X) → ((x : X) → p x ≡ true) → filter p xs ≡ xs
 filter_whole p [] h = refl
 filter_whole p (x ∷ xs) h = ap₂ (λ (b : Bool) (ys : List _). cond b (x ∷ ys) ys) (h x) (filter_whole p xs h)
-
-abbrev pub cell : List ℕ → List ℕ → Cell
-cell c key = record { levels = c; key = key }
 
 -- the places of a row are those that its cell covers
 pub row_covers : (g : Public) (c key : List ℕ) → (row_at g (whole c) key).places ≡ filter (covers g (record { levels = c; key = key })) (places g)
@@ -163,12 +162,12 @@ all_parted g o c blocks flags are f none = sym (fails (λ t. not (is_parted g bl
 
     parted : (t : Cell) → IsIn t (touched g o c) → not (is_parted g blocks t) ≡ false
     parted t m =
-        let k = IsIn-map (cell c) t (in_order (map (key_at g c) (filter (in_slice g o) (places g)))) m in
-        let i = IsIn-map (key_at g c) k.0 (filter (in_slice g o) (places g)) (IsIn-in_order k.0 (map (key_at g c) (filter (in_slice g o) (places g))) k.1) in
-        let p = IsIn-filter (in_slice g o) i.0 (places g) i.1 in
+        let k = IsIn-map (cell c) t (in_order (map (key_at g c) (filter (guards g o c) (places g)))) m in
+        let i = IsIn-map (key_at g c) k.0 (filter (guards g o c) (places g)) (IsIn-in_order k.0 (map (key_at g c) (filter (guards g o c) (places g))) k.1) in
+        let p = IsIn-filter (guards g o c) i.0 (places g) i.1 in
         let covered : covers g (cell c k.0) i.0 ≡ true = ap (λ (x : List ℕ). same x k.0) i.2 ∙ same_refl k.0 in
         let here : is_parted g blocks (cell c k.0) ≡ true = sym (parted_is g blocks (cell c k.0) flags are f)
-        ∙ any_has (λ i. get_or flags i false) i.0 (filter (covers g (cell c k.0)) (places g)) (filter_has (covers g (cell c k.0)) i.0 (places g) covered p.1) (flagged i.0 p.1 p.0) in
+        ∙ any_has (λ i. get_or flags i false) i.0 (filter (covers g (cell c k.0)) (places g)) (filter_has (covers g (cell c k.0)) i.0 (places g) covered p.1) (flagged i.0 p.1 (and_parts (in_slice g o i.0) (has_fewer g o.fewer (cell_of g c i.0)) p.0).0) in
         ap (λ (u : Cell). not (is_parted g blocks u)) (sym k.2) ∙ ap not here
 
 -- a row that passes is a kept key whose cell passes
@@ -186,14 +185,14 @@ find_kept make c test keep passes (k ∷ ks) own h =
     go false true q r = r
     go false false q r = r
 
--- the first row with a place in the slice and no place that is flagged is the first protected cell of the cuboid that no block parts
+-- the first row that the object guards, with no place that is flagged, is the first protected cell of the cuboid that no block parts
 pub first_cell : (g : Public) (o : Object) (c : List ℕ) (blocks : List Row) (flags : List Bool) → AreBlocks (length g.shape.points) blocks → AreFlags (length g.shape.points) (is_mixed g c blocks) flags
-    → option_map (λ (r : Row). cell c r.key) (find (λ row. list_any (in_slice g o) row.places && not (list_any (λ i. get_or flags i false) row.places)) (rows g (whole c))) ≡ find (λ t. not (is_parted g blocks t)) (touched g o c)
+    → option_map (λ (r : Row). cell c r.key) (find (λ row. guards_row g o row.places && not (list_any (λ i. get_or flags i false) row.places)) (rows g (whole c))) ≡ find (λ t. not (is_parted g blocks t)) (touched g o c)
 first_cell g o c blocks flags are f =
-    ap (λ (ks : List (List ℕ)). option_map (λ (r : Row). cell c r.key) (find (λ row. list_any (in_slice g o) row.places && not (list_any (λ i. get_or flags i false) row.places)) (map (row_at g (whole c)) ks))) (keys_whole g c)
-    ∙ find_kept (row_at g (whole c)) c (λ row. list_any (in_slice g o) row.places && not (list_any (λ i. get_or flags i false) row.places)) (λ k. list_any (λ i. in_slice g o i && same (key_at g c i) k) (places g)) (λ t. not (is_parted g blocks t)) (in_order (map (key_at g c) (places g)))
+    ap (λ (ks : List (List ℕ)). option_map (λ (r : Row). cell c r.key) (find (λ row. guards_row g o row.places && not (list_any (λ i. get_or flags i false) row.places)) (map (row_at g (whole c)) ks))) (keys_whole g c)
+    ∙ find_kept (row_at g (whole c)) c (λ row. guards_row g o row.places && not (list_any (λ i. get_or flags i false) row.places)) (λ k. list_any (λ i. guards g o c i && same (key_at g c i) k) (places g)) (λ t. not (is_parted g blocks t)) (in_order (map (key_at g c) (places g)))
     (λ k. refl)
     (λ k. ap₂ (λ (a b : Bool). a && not b)
-    (ap (list_any (in_slice g o)) (row_covers g c k) ∙ any_filter (in_slice g o) (covers g (cell c k)) (places g))
+    (ap (guards_row g o) (row_covers g c k) ∙ row_guarded g o c k ∙ any_filter (guards g o c) (covers g (cell c k)) (places g))
     (ap (list_any (λ i. get_or flags i false)) (row_covers g c k) ∙ parted_is g blocks (cell c k) flags are f))
-    ∙ ap (λ (ks : List (List ℕ)). find (λ t. not (is_parted g blocks t)) (map (cell c) ks)) (sym (kept_keys (key_at g c) (in_slice g o) (places g)))
+    ∙ ap (λ (ks : List (List ℕ)). find (λ t. not (is_parted g blocks t)) (map (cell c) ks)) (sym (kept_keys (key_at g c) (guards g o c) (places g)))

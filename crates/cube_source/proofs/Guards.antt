@@ -2,8 +2,8 @@
 use Rattle.std.specs.List.{list_any}
 use Rattle.std.proofs.Common.{◌≡◌, ℕ, Bool, true, false, cond, ◌&&◌, ◌||◌, List, [], ◌∷◌, filter, refl, sym, ap, ◌∙◌, eqb}
 use Rattle.cube_model.specs.declared.policy.Object.{Object}
-use Rattle.cube_model.specs.Cubes.{Public}
-use Rattle.cube_model.specs.Protection.{in_slice, is_guarded}
+use Rattle.cube_model.specs.Cubes.{Public, core}
+use Rattle.cube_model.specs.Protection.{guards, is_guarded}
 use Rattle.cube_source.specs.Objects.{of_measure}
 
 none_kept : (m : ℕ) (os : List Object) → list_any (λ (o : Object). eqb o.measure m) os ≡ false → of_measure m os ≡ []
@@ -17,7 +17,7 @@ none_kept m (o ∷ os) e = go (eqb o.measure m) e (none_kept m os)
 pub guarded_none : (g : Public) (m : ℕ) (os : List Object) (i : ℕ) → list_any (λ (o : Object). eqb o.measure m) os ≡ false → true ≡ is_guarded g (of_measure m os) i
 guarded_none g m os i e = sym (ap (λ (xs : List Object). is_guarded g xs i) (none_kept m os e))
 
-some_guarded : (g : Public) (os : List Object) (i : ℕ) (b : Bool) → (os ≡ [] → ⊥) → list_any (λ o. in_slice g o i) os ≡ b → b ≡ is_guarded g os i
+some_guarded : (g : Public) (os : List Object) (i : ℕ) (b : Bool) → (os ≡ [] → ⊥) → list_any (λ o. guards g o (core g) i) os ≡ b → b ≡ is_guarded g os i
 some_guarded g [] i b d e = absurd (d refl)
 some_guarded g (o ∷ os) i b d e = sym e
 
@@ -37,5 +37,5 @@ any_kept p t (x ∷ xs) = step (t x) (list_any (λ x. t x && p x) xs) (filter t 
     step true r rest e = ap (λ (z : Bool). p x || z) e
     step false r rest e = e
 
-pub guarded_some : (g : Public) (m : ℕ) (os : List Object) (i : ℕ) (b : Bool) → list_any (λ (o : Object). eqb o.measure m) os ≡ true → b ≡ list_any (λ (o : Object). eqb o.measure m && in_slice g o i) os → b ≡ is_guarded g (of_measure m os) i
-guarded_some g m os i b e h = some_guarded g (of_measure m os) i b (kept_some m os e) (sym (h ∙ any_kept (λ (o : Object). in_slice g o i) (λ (o : Object). eqb o.measure m) os))
+pub guarded_some : (g : Public) (m : ℕ) (os : List Object) (i : ℕ) (b : Bool) → list_any (λ (o : Object). eqb o.measure m) os ≡ true → b ≡ list_any (λ (o : Object). eqb o.measure m && guards g o (core g) i) os → b ≡ is_guarded g (of_measure m os) i
+guarded_some g m os i b e h = some_guarded g (of_measure m os) i b (kept_some m os e) (sym (h ∙ any_kept (λ (o : Object). guards g o (core g) i) (λ (o : Object). eqb o.measure m) os))

@@ -1,3 +1,4 @@
+pub mod Fewer
 pub mod Cuts
 pub mod Keys
 pub mod Listed
@@ -6,6 +7,7 @@ pub mod Rows
 pub mod Steps
 pub mod Guards
 pub mod Uncut
+pub mod FewPlaces
 pub mod Least
 pub mod Among
 pub mod Repeats

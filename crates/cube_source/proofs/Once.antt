@@ -4,13 +4,13 @@ use Rattle.std.proofs.Common.{◌≡◌, ℕ, zero, suc, ◌≤◌, inl, inr, Bo
 use Rattle.cube_model.specs.declared.cell.Cell.{Cell}
 use Rattle.cube_model.specs.declared.policy.Object.{Object}
 use Rattle.cube_model.specs.Cubes.{Public, in_order, key_at, places, cuboids_below, count_from, IsIn, IsIncreasing}
-use Rattle.cube_model.specs.Protection.{in_slice, under, same_cell, each_once}
+use Rattle.cube_model.specs.Protection.{guards, under, same_cell, each_once}
 use Rattle.cube_model.proofs.Members.{tested, IsIn-map, IsIn-append, IsIn-flat_map, IsIn-count_from}
 use Rattle.cube_model.proofs.Objects.{same_cell_eq}
 use Rattle.cube_model.proofs.Orders.{in_order_increasing}
 use Rattle.cube_model.proofs.Walks.{same_truth}
 use Rattle.cube_source.proofs.Among.{same_itself}
-use Rattle.cube_source.proofs.Cuts.{cell}
+use Rattle.cube_source.proofs.Fewer.{cell}
 use Rattle.cube_source.proofs.Ordered.{not_before, later}
 
 -- ---- lists without a repeated element
@@ -68,7 +68,7 @@ apart_cells g test ls = apart_flat (λ c. map (cell c) (in_order (map (key_at g 
 
 -- within one object no cell repeats
 pub apart_under : (g : Public) (o : Object) → AreApart (under g o)
-apart_under g o = apart_cells g (λ c. in_slice g o) o.levels
+apart_under g o = apart_cells g (guards g o) o.levels
 
 -- ---- each cell once
 

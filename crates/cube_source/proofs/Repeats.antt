@@ -9,7 +9,7 @@ use Rattle.cube_model.specs.declared.cell.Cell.{Cell}
 use Rattle.cube_model.specs.declared.policy.Object.{Object}
 use Rattle.cube_model.specs.Cubes.{Dimension, Public, same, before, in_order, are_levels, cuboid_count, Each, with_key, key_at, covers, places, is_finer, cuboids_below, IsIn}
 use Rattle.cube_model.specs.Dims.{Dims}
-use Rattle.cube_model.specs.Protection.{in_slice, touched, under, same_cell, each_once}
+use Rattle.cube_model.specs.Protection.{in_slice, guards, touched, under, same_cell, each_once}
 use Rattle.cube_model.specs.Requests.{row_at, rows}
 use Rattle.cube_model.proofs.Members.{IsIn-filter, filter_has, IsIn-flat_map, flat_map_has}
 use Rattle.cube_model.proofs.Numbers.{blocks_length}
@@ -21,7 +21,9 @@ use Rattle.cube_source.specs.Blocks.{whole, row_cell}
 use Rattle.cube_source.specs.Fresh.{is_fresh, is_repeated}
 use Rattle.cube_source.specs.Objects.{of_measure, IsPlaced}
 use Rattle.cube_source.proofs.Among.{same_itself}
-use Rattle.cube_source.proofs.Cuts.{cell, row_covers, keys_whole, any_filter}
+use Rattle.cube_source.specs.Few.{are_few, guards_row}
+use Rattle.cube_source.proofs.Cuts.{row_covers, keys_whole, any_filter}
+use Rattle.cube_source.proofs.Fewer.{cell, few_cell, row_guarded}
 use Rattle.cube_source.proofs.Growing.{passed_more, failed_more, flat_last, flat_more}
 use Rattle.cube_source.proofs.Guards.{any_kept}
 use Rattle.cube_source.proofs.Keys.{not_equal}
@@ -42,27 +44,30 @@ any_flat_map p f (x ∷ xs) = any_append (f x) (flat_map f xs) ∙ ap (λ (b : B
         or_assoc true b c = refl
         or_assoc false b c = refl
 
--- an object protects a cell where it stands at or above it and the cell covers a place of its slice
-under_is : (g : Public) (o : Object) (t : Cell) → list_any (same_cell t) (under g o) ≡ (is_finer t.levels o.levels && list_any (in_slice g o) (filter (covers g t) (places g)))
-under_is g o t = same_truth (list_any (same_cell t) (under g o)) (is_finer t.levels o.levels && list_any (in_slice g o) (filter (covers g t) (places g))) there back
+-- an object protects a cell where it stands at or above it and guards the places that the cell covers
+under_is : (g : Public) (o : Object) (t : Cell) → list_any (same_cell t) (under g o) ≡ (is_finer t.levels o.levels && guards_row g o (filter (covers g t) (places g)))
+under_is g o t = same_truth (list_any (same_cell t) (under g o)) (is_finer t.levels o.levels && guards_row g o (filter (covers g t) (places g))) there back
   where
-    there : list_any (same_cell t) (under g o) ≡ true → (is_finer t.levels o.levels && list_any (in_slice g o) (filter (covers g t) (places g))) ≡ true
+    there : list_any (same_cell t) (under g o) ≡ true → (is_finer t.levels o.levels && guards_row g o (filter (covers g t) (places g))) ≡ true
     there e =
         let s = any_from (same_cell t) (under g o) e in
         let own = subst (λ (u : Cell). IsIn u (under g o)) (sym (same_cell_eq t s.0 s.2)) s.1 in
         let c = IsIn-flat_map (touched g o) t (cuboids_below o.levels) own in
         let d = touched_is g o c.0 t c.2 in
-        and_from (is_finer t.levels o.levels) (list_any (in_slice g o) (filter (covers g t) (places g)))
+        and_from (is_finer t.levels o.levels) (guards_row g o (filter (covers g t) (places g)))
         (subst (λ (ls : List ℕ). is_finer ls o.levels ≡ true) d.0 (below_finer o.levels c.0 c.1))
-        (any_has (in_slice g o) d.1.0 (filter (covers g t) (places g)) (filter_has (covers g t) d.1.0 (places g) d.1.3 (place_of g d.1.0 d.1.1)) d.1.2)
+        (and_from (list_any (in_slice g o) (filter (covers g t) (places g))) (are_few g o.fewer (filter (covers g t) (places g)))
+        (any_has (in_slice g o) d.1.1.0 (filter (covers g t) (places g)) (filter_has (covers g t) d.1.1.0 (places g) d.1.1.3 (place_of g d.1.1.0 d.1.1.1)) d.1.1.2)
+        (few_cell g o.fewer t ∙ d.1.0))
 
-    back : (is_finer t.levels o.levels && list_any (in_slice g o) (filter (covers g t) (places g))) ≡ true → list_any (same_cell t) (under g o) ≡ true
+    back : (is_finer t.levels o.levels && guards_row g o (filter (covers g t) (places g))) ≡ true → list_any (same_cell t) (under g o) ≡ true
     back e =
-        let a = and_parts (is_finer t.levels o.levels) (list_any (in_slice g o) (filter (covers g t) (places g))) e in
-        let i = any_from (in_slice g o) (filter (covers g t) (places g)) a.1 in
+        let a = and_parts (is_finer t.levels o.levels) (guards_row g o (filter (covers g t) (places g))) e in
+        let s = and_parts (list_any (in_slice g o) (filter (covers g t) (places g))) (are_few g o.fewer (filter (covers g t) (places g))) a.1 in
+        let i = any_from (in_slice g o) (filter (covers g t) (places g)) s.0 in
         let b = IsIn-filter (covers g t) i.0 (places g) i.1 in
         any_has (same_cell t) t (under g o)
-        (flat_map_has (touched g o) t.levels t (cuboids_below o.levels) (finer_below o.levels t.levels a.0) (touched_has g o t i.0 (place_below g i.0 b.1) i.2 b.0))
+        (flat_map_has (touched g o) t.levels t (cuboids_below o.levels) (finer_below o.levels t.levels a.0) (touched_has g o t i.0 (sym (few_cell g o.fewer t) ∙ s.1) (place_below g i.0 b.1) i.2 b.0))
         (same_itself t)
 
 and_assoc : (a b c : Bool) → (a && (b && c)) ≡ ((a && b) && c)
@@ -73,8 +78,8 @@ and_assoc false b c = refl
 pub repeated_is : (g : Public) (earlier : List Object) (m : ℕ) (c key : List ℕ) → is_repeated g earlier m c (row_at g (whole c) key).places ≡ list_any (same_cell (cell c key)) (flat_map (under g) (of_measure m earlier))
 repeated_is g earlier m c key =
     any_alike _ _ earlier (λ o k.
-    ap (λ (is : List ℕ). (eqb o.measure m && is_finer c o.levels) && list_any (in_slice g o) is) (row_covers g c key)
-    ∙ sym (and_assoc (eqb o.measure m) (is_finer c o.levels) (list_any (in_slice g o) (filter (covers g (cell c key)) (places g))))
+    ap (λ (is : List ℕ). (eqb o.measure m && is_finer c o.levels) && guards_row g o is) (row_covers g c key)
+    ∙ sym (and_assoc (eqb o.measure m) (is_finer c o.levels) (guards_row g o (filter (covers g (cell c key)) (places g))))
     ∙ ap (λ (b : Bool). eqb o.measure m && b) (sym (under_is g o (cell c key))))
     ∙ any_kept (λ (o : Object). list_any (same_cell (cell c key)) (under g o)) (λ (o : Object). eqb o.measure m) earlier
     ∙ sym (any_flat_map (same_cell (cell c key)) (under g) (of_measure m earlier))
@@ -97,17 +102,17 @@ filter_kept make c test keep passes (k ∷ ks) own h =
 
 -- a row that is new
 abbrev pub is_new : Public → List Object → Object → List ℕ → Row → Bool
-is_new g earlier o c row = list_any (in_slice g o) row.places && not (is_repeated g earlier o.measure c row.places)
+is_new g earlier o c row = guards_row g o row.places && not (is_repeated g earlier o.measure c row.places)
 
 pub fresh_cells : (g : Public) (earlier : List Object) (o : Object) (c : List ℕ) → map (row_cell c) (filter (is_new g earlier o c) (rows g (whole c))) ≡ filter (is_fresh g earlier o.measure) (touched g o c)
 fresh_cells g earlier o c =
     ap (λ (ks : List (List ℕ)). map (row_cell c) (filter (is_new g earlier o c) (map (row_at g (whole c)) ks))) (keys_whole g c)
-    ∙ filter_kept (row_at g (whole c)) c (is_new g earlier o c) (λ k. list_any (λ i. in_slice g o i && same (key_at g c i) k) (places g)) (is_fresh g earlier o.measure) (in_order (map (key_at g c) (places g)))
+    ∙ filter_kept (row_at g (whole c)) c (is_new g earlier o c) (λ k. list_any (λ i. guards g o c i && same (key_at g c i) k) (places g)) (is_fresh g earlier o.measure) (in_order (map (key_at g c) (places g)))
     (λ k. refl)
     (λ k. ap₂ (λ (a b : Bool). a && not b)
-    (ap (list_any (in_slice g o)) (row_covers g c k) ∙ any_filter (in_slice g o) (covers g (cell c k)) (places g))
+    (ap (guards_row g o) (row_covers g c k) ∙ row_guarded g o c k ∙ any_filter (guards g o c) (covers g (cell c k)) (places g))
     (repeated_is g earlier o.measure c k))
-    ∙ ap (λ (ks : List (List ℕ)). filter (is_fresh g earlier o.measure) (map (cell c) ks)) (sym (kept_keys (key_at g c) (in_slice g o) (places g)))
+    ∙ ap (λ (ks : List (List ℕ)). filter (is_fresh g earlier o.measure) (map (cell c) ks)) (sym (kept_keys (key_at g c) (guards g o c) (places g)))
 
 -- ---- one object more
 

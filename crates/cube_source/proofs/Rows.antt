@@ -5,6 +5,7 @@ use Rattle.std.proofs.lemmas.List.Folds.{list_any_more}
 use Rattle.cube_model.specs.declared.answer.Row.{Row}
 use Rattle.cube_model.specs.Cubes.{Public}
 use Rattle.cube_model.specs.Protection.{listed}
+use Rattle.cube_core.specs.Rows.{ArePlaces}
 use Rattle.cube_source.specs.Blocks.{is_split, is_mixed, AreBlocks, AreFlags}
 
 -- the places of a block are places of the core
@@ -12,6 +13,9 @@ pub block_places : (many : ℕ) (rows : List Row) (i : ℕ) (row : Row) (places 
 block_places many rows i row places are l is same =
     let own = are i row l in
     subst (λ (ps : List ℕ). All (λ place. place < many) ps) (sym (same ∙ ap (λ (r : Row). r.places) is)) own.below
+
+pub block_at : (many : ℕ) (rows : List Row) (i : ℕ) (row : Row) → AreBlocks many rows → i < length rows → row ≡ get_or rows i row → ArePlaces many row.places
+block_at many rows i row are l is = subst (λ (r : Row). ArePlaces many r.places) (sym is) (are i row l)
 
 -- whether a place stands in such a block, one block further
 pub mixed_more : (g : Public) (c : List ℕ) (rows : List Row) (i : ℕ) (row : Row) (places : List ℕ) (k : ℕ) → i < length rows → row ≡ get_or rows i row → places ≡ row.places

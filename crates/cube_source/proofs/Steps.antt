@@ -64,7 +64,7 @@ kept_hit p f t xs i x y all l is w e h = sym (ap (λ zs. find p (flat_map f zs))
 
 -- ---- numbers in order
 
-same_or_above : (s k : ℕ) → s ≤ k → (s ≡ k) ⊎ (suc s ≤ k)
+pub same_or_above : (s k : ℕ) → s ≤ k → (s ≡ k) ⊎ (suc s ≤ k)
 same_or_above s k a = grind arith
 
 pub first_number : (p : ℕ → Bool) (s n k : ℕ) → s ≤ k → k < s + n → ((j : ℕ) → j < k → p j ≡ false) → p k ≡ true → find p (count_from s n) ≡ Some k

@@ -13,7 +13,7 @@ use Rattle.cube_model.specs.Cores.{Core, IsCore, shown, world}
 use Rattle.cube_model.specs.Cubes.{key_at, core, covers, places, Each, IsIn}
 use Rattle.cube_model.specs.Dims.{Dims, NamedMeasure}
 use Rattle.cube_model.specs.Policies.{IsObject}
-use Rattle.cube_model.specs.Protection.{under, same_cell, each_once, core_cell, is_guarded, guarded, protected_by, protected, cutting_pairs, is_cut, uncut}
+use Rattle.cube_model.specs.Protection.{has_fewer, under, same_cell, each_once, core_cell, is_guarded, guarded, protected_by, protected, cutting_pairs, is_cut, uncut}
 use Rattle.cube_model.specs.Requests.{rows}
 use Rattle.cube_model.proofs.Filled.{cores_are_worlds}
 use Rattle.cube_model.proofs.Members.{IsIn-filter, filter_has, same_refl}
@@ -81,6 +81,10 @@ pairs_bare c p ls t = refl
 pub covers_bare : (c : Core) (p : Policy) (t : Cell) (i : ℕ) → covers (bare c) t i ≡ covers (shown c p) t i
 unfolding key_at
 covers_bare c p t i = refl
+
+pub fewer_bare : (c : Core) (p : Policy) (fewer : Option ℕ) (t : Cell) → has_fewer (bare c) fewer t ≡ has_fewer (shown c p) fewer t
+unfolding key_at
+fewer_bare c p fewer t = refl
 
 -- ---- the methods
 

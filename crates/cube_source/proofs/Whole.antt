@@ -82,5 +82,6 @@ none_whole c o a blocks flags ok are under_a f none =
     let k = IsIn-flat_map (touched g o) t (cuboids_below o.levels) m in
     let d = touched_is g o k.0 t k.2 in
     let finer = subst (λ (ls : List ℕ). is_finer ls o.levels ≡ true) d.0 (below_finer o.levels k.0 k.1) in
-    let mixed = mixed_below c a t.levels blocks d.1.0 ok are (is_finer_trans t.levels o.levels a finer under_a) (sym (f.at d.1.0 d.1.1) ∙ flagged g o flags d.1.0 none d.1.1 d.1.2) in
-    ap not (parted_by g blocks t d.1.0 are d.1.1 d.1.3 mixed))
+    let at = d.1.1 in
+    let mixed = mixed_below c a t.levels blocks at.0 ok are (is_finer_trans t.levels o.levels a finer under_a) (sym (f.at at.0 at.1) ∙ flagged g o flags at.0 none at.1 at.2) in
+    ap not (parted_by g blocks t at.0 are at.1 at.3 mixed))

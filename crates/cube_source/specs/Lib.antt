@@ -1,6 +1,8 @@
 pub mod Blocks
+pub mod Bounds
 pub mod Containing
 pub mod Counts
+pub mod Few
 pub mod Fresh
 pub mod Judged
 pub mod Keys

@@ -6,7 +6,7 @@ use Rattle.cube_model.specs.declared.policy.Object.{Object}
 use Rattle.cube_model.specs.Cubes.{Public, Each, are_levels, covers, places, is_finer, in_order, key_at}
 use Rattle.cube_model.specs.Dims.{Dims, plains}
 use Rattle.cube_model.specs.Policies.{IsWithin}
-use Rattle.cube_model.specs.Protection.{in_slice}
+use Rattle.cube_model.specs.Protection.{in_slice, guards}
 
 abbrev pub of_measure : ℕ → List Object → List Object
 of_measure m os = filter (λ o. o.measure == m) os
@@ -20,17 +20,17 @@ pub record IsPlaced (s : Dims) (o : Object) : Type 0 where
 abbrev pub covers_slice : Public → Cell → Object → Bool
 covers_slice g t o = list_any (λ i. covers g t i && in_slice g o i) (places g)
 
--- the object is of the measure, and the place is in its slice
-abbrev pub is_sliced : Public → ℕ → Object → ℕ → Bool
-is_sliced g m o i = o.measure == m && in_slice g o i
+-- the object is of the measure, and guards the place at the cuboid
+abbrev pub is_sliced : Public → ℕ → List ℕ → Object → ℕ → Bool
+is_sliced g m c o i = o.measure == m && guards g o c i
 
 -- for each place, whether it is in the object's slice
 abbrev pub slice_of : Public → Object → List Bool
 slice_of g o = map (in_slice g o) (places g)
 
--- the place is in the slice of an object of the measure that stands at or above the cuboid
+-- an object of the measure that stands at or above the cuboid guards the place
 abbrev pub stands_over : Public → List Object → ℕ → List ℕ → ℕ → Bool
-stands_over g os m c i = list_any (λ o. is_finer c o.levels && is_sliced g m o i) os
+stands_over g os m c i = list_any (λ o. is_finer c o.levels && is_sliced g m c o i) os
 
 -- the cells of the cuboid that cover such a place, by key
 abbrev pub cells_over : Public → List Object → ℕ → List ℕ → List Cell

@@ -53,7 +53,21 @@ fn is_narrower(core: &Core, object: &Object, wide: &Object) -> bool
     true
 }
 
-/// Whether an earlier object of the same measure stands at or above an object, with as wide a slice.
+/// Whether what has fewer facts than one number has fewer than another, where numbers are given.
+fn is_wider(few: Option<u32>, wide: Option<u32>) -> bool
+    ensures { result ≡ said.is_wider few wide }
+{
+    match wide {
+        None => true,
+        Some(most) => match few {
+            None => false,
+            Some(number) => number <= most,
+        },
+    }
+}
+
+/// Whether an earlier object of the same measure stands at or above an object, with as wide a slice and as great a number
+/// of facts.
 pub(crate) fn is_contained(core: &Core, earlier: &[Object], object: &Object) -> bool
     requires { Each (IsPlaced core.now.dims) earlier.now }
     ensures { result ≡ said.is_contained earlier.now object.now }
@@ -62,6 +76,7 @@ pub(crate) fn is_contained(core: &Core, earlier: &[Object], object: &Object) -> 
         if other.measure == object.measure
             && finer_or_equal(&object.levels, &other.levels)
             && is_narrower(core, object, other)
+            && is_wider(object.fewer, other.fewer)
         {
             return true;
         }

@@ -1,7 +1,8 @@
 // Whether a source cuboid cuts each protected cell of a measure.
 ghost use Rattle.std.specs.Prelude.{◌≡◌, ◌<◌, true, false, not, ◌&&◌, find, flat_map, filter, map, length, slice_index_or, None, IfOk};
-ghost use Rattle.std.specs.List.{list_any, All};
+ghost use Rattle.std.specs.List.{list_any};
 ghost use Rattle.std.specs.Option.{option_map};
+ghost use Rattle.cube_core.specs.Rows.{ArePlaces};
 ghost use Rattle.cube_model.specs.Cores.{shown};
 ghost use Rattle.cube_model.specs.Cubes.{Each, are_levels, places};
 ghost use Rattle.cube_model.specs.Dims.{plains};
@@ -9,13 +10,15 @@ ghost use Rattle.cube_model.specs.Policies.{IsPolicy, IsWithin};
 ghost use Rattle.cube_model.specs.Protection.{in_slice, touched, under, uncut, core_cell};
 ghost use Rattle.cube_model.specs.Protection as protection;
 ghost use Rattle.cube_source.specs.Blocks.{bare, is_mixed, is_parted, row_cell, AreBlocks, AreFlags};
+ghost use Rattle.cube_source.specs.Few.{guards_row};
 ghost use Rattle.cube_source.specs.Judged.{judged_of};
 ghost use Rattle.cube_source.specs.Objects.{IsPlaced, of_measure};
 
 use crate::blocks::{meets, mixed_places, rows_at};
 use crate::containing::is_contained;
+use crate::few::guards_row;
 use crate::parting::{Mixed, first_mixed, is_all_parted};
-use crate::places::{finest, in_slice, key_of, touches};
+use crate::places::{finest, in_slice, key_of};
 use crate::protecting::is_guarded;
 use cube_core::Core;
 use cube_lattice::cuboids_below;
@@ -34,14 +37,14 @@ pub enum Judged {
     },
 }
 
-/// Whether one of the places is in the slice of an object and none is flagged.
-fn passes(core: &Core, object: &Object, places: &[u32], mixed: &[bool]) -> bool
-    requires places { All (λ place. place < length core.now.shape.points) places.now }
+/// Whether an object guards a row and none of its places is flagged.
+fn passes(core: &Core, object: &Object, row: &Row, mixed: &[bool]) -> bool
+    requires places { ArePlaces (length core.now.shape.points) row.now.places }
     requires mixed { length mixed.now ≡ length core.now.shape.points }
     requires slice { Each (IsWithin core.now.dims) object.now.slice }
-    ensures { result ≡ (list_any (in_slice (bare core.now) object.now) places.now && not (list_any (λ place. slice_index_or mixed.now place false) places.now)) }
+    ensures { result ≡ (guards_row (bare core.now) object.now row.now.places && not (list_any (λ place. slice_index_or mixed.now place false) row.now.places)) }
 {
-    touches(core, object, places) && !meets(mixed, places)
+    guards_row(core, object, row) && !meets(mixed, row.places.as_slice())
 }
 
 /// A cell of a cuboid.
@@ -54,7 +57,7 @@ pub(crate) fn make_cell(alloc: Global, levels: &Levels, key: &Key) -> Result<Cel
     })
 }
 
-/// The cell of the first row with a place in the slice and no flagged place.
+/// The cell of the first row that an object guards and that has no flagged place.
 fn uncut_row(
     alloc: Global,
     core: &Core,
@@ -66,10 +69,10 @@ fn uncut_row(
     requires rows { AreBlocks (length core.now.shape.points) rows.now }
     requires mixed { length mixed.now ≡ length core.now.shape.points }
     requires slice { Each (IsWithin core.now.dims) object.now.slice }
-    ensures { IfOk result (λ found. found ≡ option_map (row_cell levels.now) (find (λ row. list_any (in_slice (bare core.now) object.now) row.places && not (list_any (λ place. slice_index_or mixed.now place false) row.places)) rows.now)) }
+    ensures { IfOk result (λ found. found ≡ option_map (row_cell levels.now) (find (λ row. guards_row (bare core.now) object.now row.places && not (list_any (λ place. slice_index_or mixed.now place false) row.places)) rows.now)) }
 {
     'rows: for row in rows {
-        if passes(core, object, row.places.as_slice(), mixed) {
+        if passes(core, object, row, mixed) {
             return Ok(Some(make_cell(alloc, levels, &row.key)?));
         }
     }

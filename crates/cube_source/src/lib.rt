@@ -7,6 +7,7 @@
 mod blocks;
 mod containing;
 mod counting;
+mod few;
 mod fresh;
 mod judging;
 mod listing;

@@ -11,6 +11,7 @@ ghost use Rattle.cube_model.specs.Protection.{protected, same_cell};
 ghost use Rattle.cube_source.specs.Blocks.{bare};
 ghost use Rattle.cube_source.specs.Objects.{IsPlaced, of_measure, covers_slice};
 
+use crate::few::{guards_place, has_fewer};
 use crate::places::{covers, in_slice};
 use cube_core::Core;
 use cube_lattice::finer_or_equal;
@@ -23,27 +24,27 @@ fn has_measure(objects: &[Object], measure: u32) -> bool
     objects.iter().any(|object| object.measure == measure)
 }
 
-/// Whether a place is in the slice of an object of the measure.
-fn in_slices(core: &Core, objects: &[Object], measure: u32, place: u32) -> bool
+/// Whether an object of the measure guards a place.
+fn is_guarded_by(core: &Core, objects: &[Object], measure: u32, place: u32) -> bool
     requires place { place < length core.now.shape.points }
     requires objects { Each (IsPlaced core.now.dims) objects.now }
-    ensures { result ≡ list_any (λ object. object.measure == measure && protection.in_slice (bare core.now) object place) objects.now }
+    ensures { result ≡ list_any (λ object. object.measure == measure && protection.guards (bare core.now) object (cubes.core (bare core.now)) place) objects.now }
 {
     'objects: for object in objects {
-        if object.measure == measure && in_slice(core, object, place) {
+        if object.measure == measure && guards_place(core, object, place) {
             return true;
         }
     }
     false
 }
 
-/// Whether a place is in the slice of an object of the measure, or the measure has no object.
+/// Whether an object of the measure guards a place, or the measure has no object.
 pub(crate) fn is_guarded(core: &Core, objects: &[Object], measure: u32, place: u32) -> bool
     requires place { place < length core.now.shape.points }
     requires objects { Each (IsPlaced core.now.dims) objects.now }
     ensures { result ≡ protection.is_guarded (bare core.now) (of_measure measure objects.now) place }
 {
-    !has_measure(objects, measure) || in_slices(core, objects, measure, place)
+    !has_measure(objects, measure) || is_guarded_by(core, objects, measure, place)
 }
 
 /// Whether a cell covers a place of the slice of an object.
@@ -60,17 +61,18 @@ fn covers_slice(core: &Core, object: &Object, cell: &Cell) -> bool
     false
 }
 
-/// Whether an object of the measure stands at or above the cell and the cell covers a place of its
-/// slice.
+/// Whether an object of the measure stands at or above the cell, and the cell covers a place of its
+/// slice and has few enough facts for it.
 fn stands_under(core: &Core, objects: &[Object], measure: u32, cell: &Cell) -> bool
     requires levels { are_levels (plains core.now.dims) cell.now.levels ≡ true }
     requires objects { Each (IsPlaced core.now.dims) objects.now }
-    ensures { result ≡ list_any (λ object. object.measure == measure && is_finer cell.now.levels object.levels && covers_slice (bare core.now) cell.now object) objects.now }
+    ensures { result ≡ list_any (λ object. object.measure == measure && is_finer cell.now.levels object.levels && (covers_slice (bare core.now) cell.now object && protection.has_fewer (bare core.now) object.fewer cell.now)) objects.now }
 {
     'objects: for object in objects {
         if object.measure == measure
             && finer_or_equal(&cell.levels, &object.levels)
             && covers_slice(core, object, cell)
+            && has_fewer(core, object.fewer, cell)
         {
             return true;
         }

@@ -1,15 +1,17 @@
 // Which places are in the slices of objects, and how many cells of a cuboid the objects of measures at or above it protect.
-ghost use Rattle.std.specs.Prelude.{◌≡◌, ◌<◌, ◌≤◌, ◌==◌, ◌||◌, ◌&&◌, ℕ, true, false, filter, map, length, slice_index_or, IfOk};
-ghost use Rattle.std.specs.List.{list_any};
+ghost use Rattle.std.specs.Prelude.{◌≡◌, ◌<◌, ◌≤◌, ◌==◌, ◌&&◌, ℕ, true, false, filter, map, length, replicate, slice_index_or, nat_lt, if◌then◌else◌, IfOk};
+ghost use Rattle.std.specs.List.{list_any, All};
 ghost use Rattle.cube_model.specs.Cubes.{Each, are_levels, is_finer, places};
 ghost use Rattle.cube_model.specs.Dims.{plains};
 ghost use Rattle.cube_model.specs.Policies.{IsWithin};
 ghost use Rattle.cube_model.specs.Requests as requests;
-ghost use Rattle.cube_source.specs.Blocks.{bare, whole, AreBlocks, AreFlags};
+ghost use Rattle.cube_source.specs.Blocks.{bare, whole, AreBlocks};
+ghost use Rattle.cube_source.specs.Bounds as said;
+ghost use Rattle.cube_source.specs.Bounds.{raised, bound_over, is_below_bound, AreBounds};
 ghost use Rattle.cube_source.specs.Counts.{count_over};
-ghost use Rattle.cube_source.specs.Objects.{IsPlaced, slice_of, stands_over, cells_over};
+ghost use Rattle.cube_source.specs.Objects.{IsPlaced, slice_of, cells_over};
 
-use crate::blocks::{meets, no_flags, rows_at};
+use crate::blocks::rows_at;
 use crate::places::in_slice;
 use cube_core::Core;
 use cube_lattice::finer_or_equal;
@@ -47,62 +49,93 @@ pub(crate) fn slices_of(
     Ok(slices)
 }
 
-/// Sets the flags that another list has.
-fn unite(flags: &mut [bool], more: &[bool])
-    requires { length more.now ≡ length flags.old }
-    ensures long { length flags.new ≡ length flags.old }
-    ensures united { (k : ℕ) → k < length flags.old → slice_index_or flags.new k false ≡ (slice_index_or flags.old k false || slice_index_or more.now k false) }
+/// The number of facts from which on an object does not protect a cell: one that no cell has, where it says none.
+fn limit(fewer: Option<u32>) -> u32
+    ensures { result ≡ said.limit fewer }
 {
-    'places: for place in 0..more.len() {
-        flags[place] |= more[place];
+    match fewer {
+        None => u32::MAX,
+        Some(number) => number,
     }
 }
 
-/// Sets the flags of an object, where it is of the measure and stands at or above a cuboid.
-fn add_slice(flags: &mut [bool], object: &Object, slice: &[bool], measure: u32, levels: &Levels)
-    requires { length slice.now ≡ length flags.old }
-    ensures long { length flags.new ≡ length flags.old }
-    ensures added { (k : ℕ) → k < length flags.old → slice_index_or flags.new k false ≡ (slice_index_or flags.old k false || (object.now.measure == measure && is_finer levels.now object.now.levels && slice_index_or slice.now k false)) }
+/// So many bounds of 0.
+fn no_bounds(alloc: Global, many: usize) -> Result<Vec<u32>, NoMemory>
+    ensures { IfOk result (λ bounds. bounds.items ≡ replicate many 0) }
+{
+    Ok(vec![in alloc; 0; many]?)
+}
+
+/// Raises the bounds of the flagged places to a limit, where they are less.
+fn raise(bounds: &mut [u32], slice: &[bool], limit: u32)
+    requires { length slice.now ≡ length bounds.old }
+    ensures long { length bounds.new ≡ length bounds.old }
+    ensures raised { (k : ℕ) → k < length bounds.old → slice_index_or bounds.new k 0 ≡ raised (slice_index_or bounds.old k 0) (if slice_index_or slice.now k false then limit else 0) }
+{
+    'places: for place in 0..slice.len() {
+        let own = if slice[place] { limit } else { 0 };
+        if bounds[place] < own {
+            bounds[place] = own;
+        }
+    }
+}
+
+/// Raises the bounds in the slice of an object, where it is of the measure and stands at or above a cuboid.
+fn add_slice(bounds: &mut [u32], object: &Object, slice: &[bool], measure: u32, levels: &Levels)
+    requires { length slice.now ≡ length bounds.old }
+    ensures long { length bounds.new ≡ length bounds.old }
+    ensures added { (k : ℕ) → k < length bounds.old → slice_index_or bounds.new k 0 ≡ raised (slice_index_or bounds.old k 0) (if object.now.measure == measure && is_finer levels.now object.now.levels && slice_index_or slice.now k false then said.limit object.now.fewer else 0) }
 {
     if object.measure == measure && finer_or_equal(levels, &object.levels) {
-        unite(flags, slice);
+        raise(bounds, slice, limit(object.fewer));
     }
 }
 
-/// For each place, whether it is in the slice of an object of the measure at or above a cuboid.
-fn flags_over(
+/// For each place, the greatest limit of the objects of the measure at or above a cuboid in whose slices it is.
+fn bounds_over(
     alloc: Global,
     core: &Core,
     objects: &[Object],
     slices: &[Flags],
     measure: u32,
     levels: &Levels,
-) -> Result<Vec<bool>, NoMemory>
+) -> Result<Vec<u32>, NoMemory>
     requires slices { slices.now ≡ map (slice_of (bare core.now)) objects.now }
-    ensures { IfOk result (λ flags. AreFlags (length core.now.shape.points) (stands_over (bare core.now) objects.now measure levels.now) flags.items) }
+    ensures { IfOk result (λ bounds. AreBounds (length core.now.shape.points) (bound_over (bare core.now) objects.now measure levels.now) bounds.items) }
 {
-    let mut flags = no_flags(alloc, core.len() as usize)?;
+    let mut bounds = no_bounds(alloc, core.len() as usize)?;
     'objects: for number in 0..objects.len() {
         let slice = slices[number].as_slice();
         add_slice(
-            flags.as_mut_slice(),
+            bounds.as_mut_slice(),
             &objects[number],
             slice,
             measure,
             levels,
         );
     }
-    Ok(flags)
+    Ok(bounds)
 }
 
-/// How many rows have a flagged place.
-fn count_meeting(rows: &[Row], flags: &[bool]) -> usize
-    requires rows { AreBlocks (length flags.now) rows.now }
-    ensures count { result ≡ length (filter (λ row. list_any (λ place. slice_index_or flags.now place false) row.places) rows.now) }
+/// Whether a number is below the bound of one of the places.
+fn is_below_any(bounds: &[u32], places: &[u32], number: u64) -> bool
+    requires { All (λ place. place < length bounds.now) places.now }
+    ensures { result ≡ list_any (λ place. nat_lt number (slice_index_or bounds.now place 0)) places.now }
+{
+    places
+        .iter()
+        .any(|place| number < bounds[*place as usize] as u64)
+}
+
+/// How many rows have a place whose bound is above the facts of the row.
+fn count_below(core: &Core, rows: &[Row], bounds: &[u32]) -> usize
+    requires rows { AreBlocks (length core.now.shape.points) rows.now }
+    requires bounds { length bounds.now ≡ length core.now.shape.points }
+    ensures count { result ≡ length (filter (is_below_bound (bare core.now) bounds.now) rows.now) }
 {
     let mut total = 0;
     'rows: for row in rows {
-        if meets(flags, row.places.as_slice()) {
+        if is_below_any(bounds, row.places.as_slice(), core.count_row(row)) {
             total += 1;
         }
     }
@@ -145,8 +178,8 @@ fn count_among(
     if !is_below(objects, measure, levels) {
         return Ok(0);
     }
-    let flags = flags_over(alloc, core, objects, slices, measure, levels)?;
-    Ok(count_meeting(rows, flags.as_slice()) as u64)
+    let bounds = bounds_over(alloc, core, objects, slices, measure, levels)?;
+    Ok(count_below(core, rows, bounds.as_slice()) as u64)
 }
 
 /// How many cells of a cuboid objects of each of the measures protect. The places are grouped by their keys once for all

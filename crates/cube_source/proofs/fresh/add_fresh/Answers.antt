@@ -1,14 +1,11 @@
-use Rattle.std.specs.List.{list_any}
-use Rattle.std.proofs.Common.{◌≡◌, ℕ, ◌++◌, ◌∷◌, [], not, ◌&&◌, List, length, map, filter, take, sym, ap, ◌∙◌, subst, arith}
+use Rattle.std.proofs.Common.{◌≡◌, ◌++◌, ◌∷◌, [], List, length, map, filter, take, sym, ap, ◌∙◌, subst, arith}
 use Rattle.std.proofs.lemmas.List.{append-nil, length-append}
 use Rattle.cube_model.specs.declared.answer.Row.{Row}
 use Rattle.cube_model.specs.declared.cell.Cell.{Cell}
-use Rattle.cube_model.specs.Protection.{in_slice}
 use Rattle.cube_source.specs.Blocks.{bare, row_cell, AreBlocks}
-use Rattle.cube_source.specs.Fresh as said
 use Rattle.cube_source.proofs.Growing.{grown_more, grown_same, grown_full, grown_all}
 use Rattle.cube_source.proofs.Repeats.{is_new, fresh_cells}
-use Rattle.cube_source.proofs.Rows.{block_places}
+use Rattle.cube_source.proofs.Rows.{block_at}
 use Rattle.cube_source.proofs.fresh.add_fresh.Goals as goal
 use Rattle.cube_source.proofs.fresh.add_fresh.Goals.{then-is_new+in_ok-make_cell+in_ok-push, else-is_new}
 
@@ -17,15 +14,14 @@ rows-init c = record { room = c.requires.room; added = sym (append-nil c.args.ce
 
 pub is_new-requires-clause-places : goal.is_new-requires-clause-places
 is_new-requires-clause-places c =
-    block_places (length c.args.core.now.shape.points) c.as_slice-row-items.result.now c.rows.row-index c.row-item.result c.as_slice.result.now
-    (subst (AreBlocks (length c.args.core.now.shape.points)) (sym c.as_slice-row-items.ensures) c.in_ok-rows.ensures.places) c.rows-test.true c.row-item.is c.as_slice.ensures
+    block_at (length c.args.core.now.shape.points) c.as_slice-row-items.result.now c.rows.row-index c.row-item.result
+    (subst (AreBlocks (length c.args.core.now.shape.points)) (sym c.as_slice-row-items.ensures) c.in_ok-rows.ensures.places) c.rows-test.true c.row-item.is
 
 pub rows-preserved : goal.rows-preserved
 rows-preserved c =
     let f = row_cell c.args.levels.now in
     let test = is_new (bare c.args.core.now) c.args.earlier.now c.args.object.now c.args.levels.now in
-    let places = λ (is : List ℕ). list_any (in_slice (bare c.args.core.now) c.args.object.now) is && not (said.is_repeated (bare c.args.core.now) c.args.earlier.now c.args.object.now.measure c.args.levels.now is) in
-    let own : test c.row-item.result ≡ c.is_new.result = ap places (sym c.as_slice.ensures) ∙ sym c.is_new.ensures in
+    let own : test c.row-item.result ≡ c.is_new.result = sym c.is_new.ensures in
     let inv = c.rows.invariant in
     elim c.if-is_new.branch [
       | then-is_new+in_ok-make_cell+in_ok-push w ↦ (

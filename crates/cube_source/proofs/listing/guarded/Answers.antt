@@ -1,6 +1,6 @@
 use Rattle.std.proofs.Common.{◌≡◌, ◌++◌, ◌∷◌, [], ℕ, List, length, filter, sym, ap, ◌∙◌, subst, arith}
 use Rattle.cube_model.specs.declared.policy.Object.{Object}
-use Rattle.cube_model.specs.Cubes.{Each, count_from}
+use Rattle.cube_model.specs.Cubes.{Each, count_from, key_at}
 use Rattle.cube_model.specs.Protection.{is_guarded}
 use Rattle.cube_source.specs.Blocks.{bare}
 use Rattle.cube_source.specs.Objects.{of_measure, IsPlaced}
@@ -21,6 +21,7 @@ places-preserved c =
     ]
 
 pub returns : goal.returns
+unfolding key_at
 returns c =
     let size = c.len-place-end.ensures.len in
     let end = c.places.auto.place-end in

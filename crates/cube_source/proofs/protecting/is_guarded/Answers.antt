@@ -7,4 +7,4 @@ pub returns-then-not-has_measure : goal.returns-then-not-has_measure
 returns-then-not-has_measure c = ap not c.if-not-has_measure.true ∙ guarded_none (bare c.args.core.now) c.args.measure c.args.objects.now c.args.place (sym c.has_measure.ensures ∙ c.if-not-has_measure.true)
 
 pub returns-else-not-has_measure : goal.returns-else-not-has_measure
-returns-else-not-has_measure c = guarded_some (bare c.args.core.now) c.args.measure c.args.objects.now c.args.place c.in_slices.result (sym c.has_measure.ensures ∙ c.if-not-has_measure.false) c.in_slices.ensures
+returns-else-not-has_measure c = guarded_some (bare c.args.core.now) c.args.measure c.args.objects.now c.args.place c.is_guarded_by.result (sym c.has_measure.ensures ∙ c.if-not-has_measure.false) c.is_guarded_by.ensures

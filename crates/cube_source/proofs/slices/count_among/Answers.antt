@@ -1,25 +1,23 @@
-use Rattle.std.specs.List.{list_any}
-use Rattle.std.proofs.Common.{ℕ, Bool, false, List, length, filter, get_or, sym, ap, ◌∙◌, subst, arith}
+use Rattle.std.proofs.Common.{ℕ, List, length, filter, sym, ap, ◌∙◌, arith}
 use Rattle.cube_model.specs.declared.answer.Row.{Row}
-use Rattle.cube_source.specs.Blocks.{bare, AreBlocks}
+use Rattle.cube_source.specs.Blocks.{bare}
+use Rattle.cube_source.specs.Bounds.{is_below_bound}
 use Rattle.cube_source.proofs.Counted.{cells_counted, no_cells, few_cells}
 use Rattle.cube_source.proofs.slices.count_among.Goals as goal
 
 pub returns-then-not-is_below-clause-count : goal.returns-then-not-is_below-clause-count
 returns-then-not-is_below-clause-count c = no_cells (bare c.args.core.now) c.args.objects.now c.args.measure c.args.levels.now (sym c.is_below.ensures ∙ c.if-not-is_below.true)
 
-pub count_meeting-requires : goal.count_meeting-requires
-count_meeting-requires c =
-    let size = sym c.in_ok-flags.ensures.long ∙ sym (ap length c.as_slice.ensures.value) in
-    record { rows = subst (λ (n : ℕ). AreBlocks n c.args.rows.now) size c.requires.places }
+pub count_below-requires-clause-bounds : goal.count_below-requires-clause-bounds
+count_below-requires-clause-bounds c = ap length c.as_slice.ensures.value ∙ c.in_ok-bounds.ensures.long
 
 pub returns-clause-count : goal.returns-clause-count
 returns-clause-count c =
-    let count = λ (flags : List Bool) (rows : List Row). length (filter (λ (row : Row). list_any (λ i. get_or flags i false) row.places) rows) in
-    c.count_meeting.ensures.count
-    ∙ ap (λ (fs : List Bool). count fs c.args.rows.now) c.as_slice.ensures.value
-    ∙ ap (λ (rs : List Row). count c.in_ok-flags.flags.items rs) c.requires.rows
-    ∙ cells_counted (bare c.args.core.now) c.args.objects.now c.args.measure c.args.levels.now c.in_ok-flags.flags.items c.in_ok-flags.ensures
+    let count = λ (bounds : List ℕ) (rows : List Row). length (filter (is_below_bound (bare c.args.core.now) bounds) rows) in
+    c.count_below.ensures.count
+    ∙ ap (λ (bs : List ℕ). count bs c.args.rows.now) c.as_slice.ensures.value
+    ∙ ap (λ (rs : List Row). count c.in_ok-bounds.bounds.items rs) c.requires.rows
+    ∙ cells_counted c.args.core.now c.args.objects.now c.args.measure c.args.levels.now c.in_ok-bounds.bounds.items c.dims-rules.ensures.rules c.in_ok-bounds.ensures
 
 pub returns-clause-small : goal.returns-clause-small
 returns-clause-small c =
