@@ -1,12 +1,12 @@
 -- What no fault of a policy file says: its policy keeps the rules.
-use Rattle.std.proofs.Common.{◌≡◌, ◌⊎◌, inl, inr, ℕ, zero, suc, ◌+◌, ◌<◌, ◌≤◌, Bool, true, false, not, ◌&&◌, ◌||◌, List, [], ◌∷◌, length, get_or, take, map, codes, refl, sym, ap, subst, ◌∙◌, eqb, eqb-true, eq-eqb, ltb, le-leb, cond, Option, Some, None, Result, Ok, Err, arith}
+use Rattle.std.proofs.Common.{◌≡◌, ◌⊎◌, inl, inr, ℕ, zero, suc, ◌+◌, ◌<◌, ◌≤◌, Bool, true, false, not, ◌&&◌, ◌||◌, List, [], ◌∷◌, length, get_or, take, map, codes, refl, sym, ap, subst, ◌∙◌, eqb, eqb-true, eq-eqb, ltb, leb, le-leb, cond, ℤ, pos, negsuc, Option, Some, None, Result, Ok, Err, arith}
 use Rattle.std.specs.Prelude.{is_none, unwrap_or, option_and_then, find, filter, IfOk}
 use Rattle.std.specs.List.{list_any, list_all, filter_map, cons_option}
 use Rattle.std.specs.Str.{bytes_eq}
-use Rattle.std.proofs.lemmas.Bool.{false≢true, ltb-false, lt-ltb, and_parts}
+use Rattle.std.proofs.lemmas.Bool.{false≢true, ltb-false, leb-true, lt-ltb, and_parts}
 use Rattle.std.proofs.lemmas.List.{length-map}
 use Rattle.std.proofs.lemmas.List.Quantifiers.{position-Some}
-use Rattle.toml.specs.Data.{Members, no_members, as_str}
+use Rattle.toml.specs.Data.{Data, Members, no_members, as_str, as_integer}
 use Rattle.cube_model.specs.Answers.{Answers}
 use Rattle.cube_model.specs.Checks.{unless, in_turn}
 use Rattle.cube_model.specs.Cubes.{Each, are_levels, count_from}
@@ -20,7 +20,7 @@ use Rattle.cube_model.proofs.Members.{tested}
 use Rattle.cube_tables.specs.Tables.{under, value_or, entry_of, key_of}
 use Rattle.cube_tables.proofs.Nonempty.{has_items}
 use Rattle.cube_tables.proofs.Turns.{no_append, no_check, nothing, value, turn_at}
-use Rattle.cube_policy.specs.PolicyFile.{tables_of, number, rising, level_in, level_below, below_in, slice_in, level_text, member_texts, within_of, measure_number, object_of, declared_measures, stated, methods_of, policy_in, unknown_member, within_faults, is_misplaced, object_faults, policy_faults}
+use Rattle.cube_policy.specs.PolicyFile.{tables_of, number, rising, level_in, level_below, below_in, slice_in, level_text, member_texts, within_of, measure_number, fewer_of, fewer_in, object_of, declared_measures, stated, methods_of, policy_in, unknown_member, within_faults, is_misplaced, object_faults, policy_faults}
 use Rattle.cube_policy.specs.declared.measure.Declared.{Declared}
 use Rattle.cube_policy.specs.declared.fault.PolicyFault.{PolicyFault}
 use Rattle.cube_policy.specs.declared.fault.PolicyFault.TheVariants.{NoMemory, Missing, WrongKind}
@@ -207,6 +207,26 @@ well_placed Plain f ds h = absurd (false≢true (sym h))
 well_placed Lattice f ds h = inl refl
 well_placed Parity f ds h = inr (refl, all_finest f ds (not_false _ h))
 
+-- ---- the number of facts
+
+of_number : (z : ℤ) (n : ℕ) → fewer_of z ≡ Some n → (2 ≤ n) × (n ≤ 1000)
+of_number (pos k) n e =
+    tested (leb 2 k && leb k 1000)
+    (λ t. let both = and_parts (leb 2 k) (leb k 1000) t in
+    let same : Some k ≡ Some n = sym (ap (λ b. cond b (Some k) None) t) ∙ e in
+    let one : k ≡ n = cc in
+    subst (λ (x : ℕ). (2 ≤ x) × (x ≤ 1000)) one (leb-true 2 k both.0, leb-true k 1000 both.1))
+    (λ f. let none : None ≡ Some n = sym (ap (λ b. cond b (Some k) None) f) ∙ e in absurd (cc))
+of_number (negsuc k) n e = absurd (cc)
+
+-- a number of facts that an object names is 2 to 1,000
+fewer_in_range : (value : Option Data) (n : ℕ) → fewer_in value ≡ Some n → (2 ≤ n) × (n ≤ 1000)
+fewer_in_range value n e = stated (option_and_then as_integer value) e
+  where
+    stated : (o : Option ℤ) → option_and_then fewer_of o ≡ Some n → (2 ≤ n) × (n ≤ 1000)
+    stated None k = absurd (cc)
+    stated (Some z) k = of_number z n k
+
 -- ---- an object, and the policy
 
 known_measure : (s : Dims) (x : List ℕ) → is_none (found x (measure_names s)) ≡ false → number x (measure_names s) < length s.measures
@@ -228,7 +248,8 @@ is_object : (s : Dims) (p : Policy) (entry : List ℕ) (t : Members) → object_
 unfolding object_faults object_of
 is_object s p entry t h =
     let last = no_append _ _ h in
-    let slice = no_append _ _ last.0 in
+    let fewer = no_append _ _ last.0 in
+    let slice = no_append _ _ fewer.0 in
     let below = no_append _ _ slice.0 in
     let measure = no_append _ _ (no_append _ _ below.0).1 in
     let listed = no_append _ _ slice.1 in
@@ -239,6 +260,7 @@ is_object s p entry t h =
       slice = each_found (IsWithin s) (map (within_of s) (slice_in (under (codes "slice") t))) within (count_from 0 (length s.dimensions));
       in_turn = found_rising (IsWithin s) (map (within_of s) (slice_in (under (codes "slice") t))) within 0 (length s.dimensions);
       method = well_placed (get_or p.methods (measure_number s (under (codes "measure") t)) Plain) (level_below (below_in (under (codes "below") t))) s.dimensions (no_check _ _ last.1);
+      fewer = fewer_in_range (under (codes "fewer") t);
     }
 
 is_policy : (s : Dims) (t : Members) → policy_faults s t ≡ [] → IsPolicy s (policy_in s t)

@@ -1,8 +1,8 @@
 -- What a policy file says: the faults of its table in their order, and its value where there is none.
-use Rattle.std.specs.Prelude.{ℕ, ◌+◌, Bool, true, false, not, ◌==◌, nat_lt, List, [], ◌∷◌, ◌++◌, length, map, filter, find, codes, slice_index_or, if◌then◌else◌, Option, Some, None, is_none, option_map, option_and_then, unwrap_or, Result, Err}
+use Rattle.std.specs.Prelude.{ℕ, ◌+◌, Bool, true, false, not, ◌&&◌, ◌==◌, nat_lt, nat_le, List, [], ◌∷◌, ◌++◌, length, map, filter, find, codes, slice_index_or, if◌then◌else◌, Option, Some, None, is_none, option_map, option_and_then, unwrap_or, Result, Err, ℤ, pos, negsuc}
 use Rattle.std.specs.List.{list_all, list_any, filter_map}
 use Rattle.std.specs.Str.{bytes_eq}
-use Rattle.toml.specs.Data.{Data, Members, as_str, as_table}
+use Rattle.toml.specs.Data.{Data, Members, as_str, as_integer, as_table}
 use Rattle.cube_model.specs.Checks.{check, in_turn, unless}
 use Rattle.cube_model.specs.Cubes.{count_from}
 use Rattle.cube_model.specs.Dims.{NamedDimension, Dims, members, found, dimension_at, dimension_names, measure_names}
@@ -103,15 +103,25 @@ slice_in value = value_or [] (as_named as_table) value
 abbrev pub measure_number : Dims → Option Data → ℕ
 measure_number s value = number (value_or [] as_str value) (measure_names s)
 
-abbrev pub object_in : Dims → Option Data → Option Data → Option Data → Object
-object_in s measure below slice = record {
+-- the number of facts that a number is: 2 to 1,000
+abbrev pub fewer_of : ℤ → Option ℕ
+fewer_of (pos n) = if nat_le 2 n && nat_le n 1000 then Some n else None
+fewer_of (negsuc n) = None
+
+-- the number of facts that an object names, if any
+abbrev pub fewer_in : Option Data → Option ℕ
+fewer_in value = option_and_then fewer_of (option_and_then as_integer value)
+
+abbrev pub object_in : Dims → Option Data → Option Data → Option Data → Option Data → Object
+object_in s measure below slice fewer = record {
   measure = measure_number s measure;
   levels = levels_of s (below_in below);
   slice = by_dimension (length s.dimensions) (map (within_of s) (slice_in slice));
+  fewer = fewer_in fewer;
 }
 
 unfoldable pub object_of : Dims → Members → Object
-object_of s table = object_in s (under (codes "measure") table) (under (codes "below") table) (under (codes "slice") table)
+object_of s table = object_in s (under (codes "measure") table) (under (codes "below") table) (under (codes "slice") table) (under (codes "fewer") table)
 
 abbrev pub declared_measures : Members → List Declared
 declared_measures table = map declared_of (tables_of (under (codes "measure") table))
@@ -156,7 +166,7 @@ abbrev pub measure_keys : List (List ℕ)
 measure_keys = codes "name" ∷ codes "method" ∷ []
 
 abbrev pub object_keys : List (List ℕ)
-object_keys = codes "measure" ∷ codes "below" ∷ codes "slice" ∷ []
+object_keys = codes "measure" ∷ codes "below" ∷ codes "slice" ∷ codes "fewer" ∷ []
 
 abbrev pub within_keys : List (List ℕ)
 within_keys = codes "level" ∷ codes "members" ∷ []
@@ -234,6 +244,16 @@ slice_faults s entry value =
     optional_faults (as_named as_table) entry value
     ++ in_turn (λ before e. within_faults s entry e) [] (slice_in value)
 
+-- a number of facts has to be 2 to 1,000 where it is stated
+abbrev pub out_of_range : List ℕ → Option ℤ → List PolicyFault
+out_of_range key None = []
+out_of_range key (Some n) = check (is_none (fewer_of n)) (fault.OutOfRange key 1000)
+
+abbrev pub fewer_faults : List ℕ → Option Data → List PolicyFault
+fewer_faults key value =
+    optional_faults as_integer key value
+    ++ out_of_range key (option_and_then as_integer value)
+
 -- no object goes on a measure of this method at these levels: one of the parity rule is protected at the finest levels alone
 abbrev pub is_misplaced : Method → List ℕ → Bool
 is_misplaced Plain levels = true
@@ -249,6 +269,7 @@ object_faults s methods entry table =
     ++ object_measure_faults s (key_of entry (codes "measure")) (under (codes "measure") table)
     ++ below_faults s (key_of entry (codes "below")) (under (codes "below") table)
     ++ slice_faults s (key_of entry (codes "slice")) (under (codes "slice") table)
+    ++ fewer_faults (key_of entry (codes "fewer")) (under (codes "fewer") table)
     ++ place_faults methods entry (measure_number s (under (codes "measure") table)) (levels_of s (below_in (under (codes "below") table)))
 
 -- ---- the file

@@ -1,5 +1,5 @@
 // What is wrong with a policy file.
-ghost use Rattle.std.specs.Prelude.{◌≡◌, ◌++◌, IfOk};
+ghost use Rattle.std.specs.Prelude.{◌≡◌, ◌++◌, codes, decimal, IfOk};
 ghost use Rattle.cube_policy.specs.Words.{fault_words};
 ghost use Rattle.cube_policy.specs.declared.fault.PolicyFault.TheVariants as fault;
 
@@ -26,6 +26,8 @@ pub enum PolicyFault {
     MeasureTwice { key: Text },
     /// An object is on an open measure, or on one under the parity rule above the finest levels.
     ObjectOnMethod { key: Text },
+    /// A number is too small or above the most that it may be.
+    OutOfRange { key: Text, most: u64 },
     /// There is more of something than is taken.
     Limit { which: LimitKind, number: u64 },
     /// Memory ran out.
@@ -69,6 +71,16 @@ fn with_key(alloc: Global, words: &[u8], key: &Text) -> Result<Text, NoMemory>
     Ok(text)
 }
 
+/// The words of a number that is not in its range, as `limit object 1 fewer 1000`.
+fn range_text(alloc: Global, key: &Text, most: u64) -> Result<Text, NoMemory>
+    ensures { IfOk result (λ text. text ≡ codes "limit " ++ key.now ++ codes " " ++ decimal most) }
+{
+    let mut text = with_key(alloc, b"limit ", key)?;
+    text.extend(b" ")?;
+    text.push_number(most)?;
+    Ok(text)
+}
+
 /// The words of a fault, as `unknown object 1 below region`.
 pub fn fault_text(alloc: Global, fault: &PolicyFault) -> Result<Text, NoMemory>
     ensures { IfOk result (λ text. text ≡ fault_words fault.now) }
@@ -80,6 +92,7 @@ pub fn fault_text(alloc: Global, fault: &PolicyFault) -> Result<Text, NoMemory>
         PolicyFault::Unknown { key } => with_key(alloc, b"unknown ", key),
         PolicyFault::MeasureTwice { key } => with_key(alloc, b"measure twice ", key),
         PolicyFault::ObjectOnMethod { key } => with_key(alloc, b"object on method ", key),
+        PolicyFault::OutOfRange { key, most } => range_text(alloc, key, *most),
         PolicyFault::Limit { which, number } => which.text(alloc, *number),
         PolicyFault::NoMemory => Text::from_bytes(alloc, b"no memory"),
     }

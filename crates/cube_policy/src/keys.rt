@@ -41,6 +41,7 @@ impl Kind {
                 key == b"measure".as_slice()
                     || key == b"below".as_slice()
                     || key == b"slice".as_slice()
+                    || key == b"fewer".as_slice()
             }
             Kind::Within => key == b"level".as_slice() || key == b"members".as_slice(),
         }

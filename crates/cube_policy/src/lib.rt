@@ -3,6 +3,7 @@
 
 mod below;
 mod fault;
+mod fewer;
 mod keys;
 mod listed;
 mod measure;

@@ -12,6 +12,7 @@ ghost use Rattle.cube_model.specs.declared.policy.Method.TheVariants as method;
 
 use crate::below::read_levels;
 use crate::fault::PolicyFault;
+use crate::fewer::read_fewer;
 use crate::keys::{Kind, check_keys};
 use crate::slice::read_slice;
 use cube_dims::find_measure;
@@ -91,10 +92,12 @@ pub(crate) fn read_object(
     let levels = read_levels(alloc, dims, &below, table)?;
     let within = key_text(alloc, entry, b"slice")?;
     let slice = read_slice(alloc, dims, &within, table)?;
+    let fewer = read_fewer(alloc, entry, table)?;
     check_place(alloc, entry, method_of(methods, measure), levels.as_slice())?;
     Ok(Object {
         measure,
         levels,
         slice,
+        fewer,
     })
 }

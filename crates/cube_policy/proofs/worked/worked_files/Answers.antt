@@ -1,4 +1,5 @@
 use Rattle.std.proofs.Common.{refl}
+use Rattle.std.specs.Float.Numeral.{scan_numeral}
 use Rattle.std.specs.Fmt.{digits}
 use Rattle.std.specs.Str.{is_utf8, chars}
 use Rattle.cube_tables.specs.Tables.{toml_of}
@@ -45,3 +46,27 @@ returns-clause-member c = refl
 pub returns-clause-key : goal.returns-clause-key
 unfolding digits is_utf8 chars lib.Utf8.encode toml_of policy_of declared_of within_of object_of measure_faults within_faults object_faults after_element key_equals toml_items toml_members atom val header_key expression line lines skip_bom parse_document along_header along_dots at_key define skip_ws skip_from unquoted word_len word_value toml_number plain_number decimal_number underscore_fits prefixed_integer hex_escape escape_char escape special body one_line quoted simple_key key_after
 returns-clause-key c = refl
+
+pub returns-clause-few : goal.returns-clause-few
+unfolding digits scan_numeral is_utf8 chars lib.Utf8.encode toml_of policy_of declared_of within_of object_of measure_faults within_faults object_faults after_element key_equals toml_items toml_members atom val header_key expression line lines skip_bom parse_document along_header along_dots at_key define skip_ws skip_from unquoted word_len word_value toml_number plain_number decimal_number underscore_fits prefixed_integer hex_escape escape_char escape special body one_line quoted simple_key key_after
+returns-clause-few c = refl
+
+pub returns-clause-few_kind : goal.returns-clause-few_kind
+unfolding digits is_utf8 chars lib.Utf8.encode toml_of policy_of declared_of within_of object_of measure_faults within_faults object_faults after_element key_equals toml_items toml_members atom val header_key expression line lines skip_bom parse_document along_header along_dots at_key define skip_ws skip_from unquoted word_len word_value toml_number plain_number decimal_number underscore_fits prefixed_integer hex_escape escape_char escape special body one_line quoted simple_key key_after
+returns-clause-few_kind c = refl
+
+pub returns-clause-few_low : goal.returns-clause-few_low
+unfolding digits scan_numeral is_utf8 chars lib.Utf8.encode toml_of policy_of declared_of within_of object_of measure_faults within_faults object_faults after_element key_equals toml_items toml_members atom val header_key expression line lines skip_bom parse_document along_header along_dots at_key define skip_ws skip_from unquoted word_len word_value toml_number plain_number decimal_number underscore_fits prefixed_integer hex_escape escape_char escape special body one_line quoted simple_key key_after
+returns-clause-few_low c = refl
+
+pub returns-clause-few_high : goal.returns-clause-few_high
+unfolding digits scan_numeral is_utf8 chars lib.Utf8.encode toml_of policy_of declared_of within_of object_of measure_faults within_faults object_faults after_element key_equals toml_items toml_members atom val header_key expression line lines skip_bom parse_document along_header along_dots at_key define skip_ws skip_from unquoted word_len word_value toml_number plain_number decimal_number underscore_fits prefixed_integer hex_escape escape_char escape special body one_line quoted simple_key key_after
+returns-clause-few_high c = refl
+
+pub returns-clause-few_below : goal.returns-clause-few_below
+unfolding digits scan_numeral is_utf8 chars lib.Utf8.encode toml_of policy_of declared_of within_of object_of measure_faults within_faults object_faults after_element key_equals toml_items toml_members atom val header_key expression line lines skip_bom parse_document along_header along_dots at_key define skip_ws skip_from unquoted word_len word_value toml_number plain_number decimal_number underscore_fits prefixed_integer hex_escape escape_char escape special body one_line quoted simple_key key_after
+returns-clause-few_below c = refl
+
+pub returns-clause-few_coarse : goal.returns-clause-few_coarse
+unfolding digits scan_numeral is_utf8 chars lib.Utf8.encode toml_of policy_of declared_of within_of object_of measure_faults within_faults object_faults after_element key_equals toml_items toml_members atom val header_key expression line lines skip_bom parse_document along_header along_dots at_key define skip_ws skip_from unquoted word_len word_value toml_number plain_number decimal_number underscore_fits prefixed_integer hex_escape escape_char escape special body one_line quoted simple_key key_after
+returns-clause-few_coarse c = refl
