@@ -1,5 +1,5 @@
 -- The pay cube and what its journals recover.
-use Rattle.std.specs.Prelude.{ℕ, List, [], ◌∷◌, ◌++◌, codes, Result, Ok, Err}
+use Rattle.std.specs.Prelude.{ℕ, List, [], ◌∷◌, ◌++◌, codes, Option, Some, None, Result, Ok, Err}
 use Rattle.std.specs.List.{flat_map}
 use Rattle.std.specs.Fmt.{decimal}
 use Rattle.cube_model.specs.declared.entry.Entry.{Entry}
@@ -15,10 +15,14 @@ use Rattle.cube_journal.specs.declared.fault.JournalFault.{JournalFault}
 use Rattle.cube_journal.specs.declared.fault.JournalFault.TheVariants as journal
 
 abbrev pub pay_policy : Policy
-pay_policy = record { methods = Lattice ∷ Parity ∷ []; objects = record { measure = 0; levels = 0 ∷ 0 ∷ []; slice = [] } ∷ [] }
+pay_policy = record { methods = Lattice ∷ Parity ∷ []; objects = record { measure = 0; levels = 0 ∷ 0 ∷ []; slice = []; fewer = None } ∷ [] }
 
 abbrev pub pay_shape : Shape
 pay_shape = record { points = (0 ∷ 0 ∷ []) ∷ (0 ∷ 1 ∷ []) ∷ (1 ∷ 0 ∷ []) ∷ (2 ∷ 0 ∷ []) ∷ (2 ∷ 1 ∷ []) ∷ []; facts = 1 ∷ 1 ∷ 1 ∷ 1 ∷ 1 ∷ [] }
+
+-- pay protected in the South wherever fewer than three facts stand
+abbrev pub few_policy : Policy
+few_policy = record { methods = Lattice ∷ Parity ∷ []; objects = record { measure = 0; levels = 2 ∷ 2 ∷ []; slice = record { dimension = 0; level = 1; members = 0 ∷ [] } ∷ []; fewer = Some 3 } ∷ [] }
 
 -- digits of some digest
 abbrev pub digits : List ℕ

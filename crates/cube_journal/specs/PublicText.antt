@@ -1,5 +1,5 @@
 -- What everybody knows of a cube, as a text.
-use Rattle.std.specs.Prelude.{ℕ, List, [], ◌∷◌, ◌++◌, codes, decimal, zip}
+use Rattle.std.specs.Prelude.{ℕ, List, [], ◌∷◌, ◌++◌, codes, decimal, zip, Option, Some, None}
 use Rattle.std.specs.List.{flat_map}
 use Rattle.cube_model.specs.Dims.{Dims, NamedDimension, NamedMeasure, measure_at}
 use Rattle.cube_model.specs.declared.policy.Method.{Method}
@@ -39,9 +39,14 @@ measure_line e = codes "m" ++ name_fields ((e.0).name ∷ []) ++ number_fields (
 abbrev pub within_line : Within → List ℕ
 within_line w = codes "s" ++ number_fields (w.dimension ∷ w.level ∷ []) ++ number_fields w.members ++ 10 ∷ []
 
--- a line for the object, and one for each dimension of its slice
+-- a line for the number of facts, where the object names one
+abbrev pub fewer_line : Option ℕ → List ℕ
+fewer_line None = []
+fewer_line (Some n) = codes "n" ++ number_fields (n ∷ []) ++ 10 ∷ []
+
+-- a line for the object, one for its number of facts, and one for each dimension of its slice
 abbrev pub object_lines : Dims → Object → List ℕ
-object_lines s o = codes "o" ++ name_fields ((measure_at s o.measure).name ∷ []) ++ number_fields o.levels ++ 10 ∷ [] ++ flat_map within_line o.slice
+object_lines s o = codes "o" ++ name_fields ((measure_at s o.measure).name ∷ []) ++ number_fields o.levels ++ 10 ∷ [] ++ fewer_line o.fewer ++ flat_map within_line o.slice
 
 abbrev pub point_line : List ℕ × ℕ → List ℕ
 point_line e = codes "f" ++ number_fields e.0 ++ number_fields (e.1 ∷ []) ++ 10 ∷ []

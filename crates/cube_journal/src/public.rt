@@ -2,7 +2,7 @@
 ghost use Rattle.std.specs.Prelude.{◌≡◌, ◌++◌, ◌∷◌, [], length, zip, IfOk, OnOk};
 ghost use Rattle.std.specs.List.{flat_map};
 ghost use Rattle.cube_model.specs.Dims.{measure_at};
-ghost use Rattle.cube_journal.specs.PublicText.{name_fields, number_fields, level_line, path_line, dimension_lines, method_word, measure_line, within_line, object_lines, point_line, public_text_of};
+ghost use Rattle.cube_journal.specs.PublicText.{name_fields, number_fields, level_line, path_line, dimension_lines, method_word, measure_line, within_line, fewer_line, object_lines, point_line, public_text_of};
 
 use cube_model::{
     Dimension, Dims, Key, Measure, Method, NoMemory, Object, Policy, Shape, Text, Texts, Within,
@@ -162,6 +162,19 @@ fn measure_name(dims: &Dims, measure: u32) -> &[u8]
     }
 }
 
+fn push_fewer(text: &mut Text, fewer: Option<u32>) -> Result<(), NoMemory>
+    ensures { OnOk result (text.new ≡ text.old ++ fewer_line fewer) }
+{
+    match fewer {
+        Some(number) => {
+            text.push(b'n')?;
+            push_number(text, u64::from(number))?;
+            text.push(b'\n')
+        }
+        None => Ok(()),
+    }
+}
+
 fn push_object(text: &mut Text, dims: &Dims, object: &Object) -> Result<(), NoMemory>
     ensures { OnOk result (text.new ≡ text.old ++ object_lines dims.now object.now) }
 {
@@ -169,6 +182,7 @@ fn push_object(text: &mut Text, dims: &Dims, object: &Object) -> Result<(), NoMe
     push_name(text, measure_name(dims, object.measure))?;
     push_numbers(text, object.levels.as_slice())?;
     text.push(b'\n')?;
+    push_fewer(text, object.fewer)?;
     push_slice(text, object.slice.as_slice())
 }
 

@@ -2,12 +2,13 @@
 ghost use Rattle.std.specs.Prelude.{◌≡◌, ◌++◌, codes};
 ghost use Rattle.cube_dims.specs.Examples.{pay_dims};
 ghost use Rattle.cube_journal.specs.PublicText.{public_text_of};
-ghost use Rattle.cube_journal.specs.Examples.{pay_policy, pay_shape, digits, recovers, compact_history};
+ghost use Rattle.cube_journal.specs.Examples.{pay_policy, few_policy, pay_shape, digits, recovers, compact_history};
 ghost use Rattle.cube_journal.specs.SecondText.{journal2_text};
 
 /// What is public of the pay cube, and journals of it: whole, torn, begun, and damaged ones.
 pub fn worked_journals()
     ensures public { public_text_of pay_dims pay_policy pay_shape ≡ codes "d \"region\"\nl \"city\"\nl \"area\"\np \"Lyon\" \"South\"\np \"Nice\" \"South\"\np \"Paris\" \"North\"\nd \"time\"\nl \"month\"\nl \"quarter\"\np \"Jan\" \"Q1\"\np \"Feb\" \"Q1\"\nm \"pay\" 0 lattice\nm \"hours\" 0 parity\no \"pay\" 0 0\nf 0 0 1\nf 0 1 1\nf 1 0 1\nf 2 0 1\nf 2 1 1\n" }
+    ensures few { public_text_of pay_dims few_policy pay_shape ≡ codes "d \"region\"\nl \"city\"\nl \"area\"\np \"Lyon\" \"South\"\np \"Nice\" \"South\"\np \"Paris\" \"North\"\nd \"time\"\nl \"month\"\nl \"quarter\"\np \"Jan\" \"Q1\"\np \"Feb\" \"Q1\"\nm \"pay\" 0 lattice\nm \"hours\" 0 parity\no \"pay\" 2 2\nn 3\ns 0 1 0\nf 0 0 1\nf 0 1 1\nf 1 0 1\nf 2 0 1\nf 2 1 1\n" }
     ensures months { recovers (codes "cube-journal 1 " ++ digits ++ codes "\nq slice pay by time.month\nq slice pay by ti") ≡ codes "asked slice pay by time.month\n" }
     ensures begun { recovers (codes "cube-journal 1 0123") ≡ codes "" }
     ensures diary { recovers (codes "cube-diary") ≡ codes "damaged 1" }

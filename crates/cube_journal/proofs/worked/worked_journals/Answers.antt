@@ -14,6 +14,10 @@ pub returns-clause-public : goal.returns-clause-public
 unfolding digits is_utf8 chars lib.Utf8.encode public_text_of recovered entry_of request_of request_text query_of queries is_begun syntax_at resolved is_bare
 returns-clause-public c = refl
 
+pub returns-clause-few : goal.returns-clause-few
+unfolding digits is_utf8 chars lib.Utf8.encode public_text_of recovered entry_of request_of request_text query_of queries is_begun syntax_at resolved is_bare
+returns-clause-few c = refl
+
 pub returns-clause-months : goal.returns-clause-months
 unfolding digits is_utf8 chars lib.Utf8.encode public_text_of recovered entry_of request_of request_text query_of queries is_begun syntax_at resolved is_bare
 returns-clause-months c = refl
