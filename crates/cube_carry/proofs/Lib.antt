@@ -17,6 +17,7 @@ pub mod OldPlaces
 pub mod Itself
 pub mod InTurn
 pub mod Small
+pub mod Smaller
 pub mod Breaches
 pub mod Onwards
 pub mod Greatest

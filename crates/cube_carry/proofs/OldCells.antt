@@ -8,7 +8,7 @@ use Rattle.cube_model.specs.declared.policy.Method.TheVariants.{Lattice}
 use Rattle.cube_model.specs.Cubes.{Public, same, places, point, key_at, together, covers, covered, is_finer, meet, are_levels, IsIn}
 use Rattle.cube_model.specs.Dims.{plains}
 use Rattle.cube_model.specs.Requests.{total}
-use Rattle.cube_model.specs.Protection.{method, listed, protected, first}
+use Rattle.cube_model.specs.Protection.{method, listed, has_fewer, protected, first}
 use Rattle.cube_model.specs.Verdicts.{source, IsAdmissible}
 use Rattle.cube_model.specs.Twins.{plus_at, moved, with_first, twin, sum_of}
 use Rattle.cube_model.specs.Meanings.{IsProtected}
@@ -30,6 +30,7 @@ use Rattle.cube_carry.proofs.LatticeLives.{together_turned, together_coarser, be
 use Rattle.cube_carry.proofs.Leaving.{FitsBy}
 use Rattle.cube_carry.proofs.Measures.{is_found, measure_back}
 use Rattle.cube_carry.proofs.Orders.{levels_at, length-plains, finer_in_range, both_together, point_long, length-carried_levels, levels_back}
+use Rattle.cube_carry.proofs.Smaller.{fewer_smaller}
 use Rattle.cube_carry.proofs.Silence.{length-places, length-old_changes, long_values}
 
 -- ---- pairs that part places
@@ -128,13 +129,13 @@ module _ (a b : Named) (old new : List (List ℤ)) (na : IsNamed a old) (nb : Is
       here = (protected_are (known a) k t way).0 is_in
 
       abbrev i : ℕ
-      i = here.4
+      i = here.5
 
       hi : i < n
-      hi = here.5
+      hi = here.6
 
       covers_i : covers (known a) t i ≡ true
-      covers_i = here.7
+      covers_i = here.8
 
       t_long : length t.levels ≡ length a.dims.dimensions
       t_long = (levels_at (plains a.dims) t.levels (finer_in_range (plains a.dims) t.levels here.0.levels here.3 (Each-at (λ o. are_levels (plains a.dims) o.levels ≡ true) here.0 a.policy.objects na.objects here.1))).0 ∙ length-plains a.dims
@@ -168,11 +169,17 @@ module _ (a b : Named) (old new : List (List ℤ)) (na : IsNamed a old) (nb : Is
         abbrev small_there : Cell
         small_there = cell v' (key_at (known b) v' (f i))
 
+        -- the small cell at the place covers no other places than the cell, so it has few enough facts
+        small_few : has_fewer (known a) here.0.fewer small_cell ≡ true
+        small_few = fewer_smaller (known a) here.0.fewer small_cell t (λ j m c.
+            ap (same (key_at (known a) t.levels j)) (sym (same_eq (key_at (known a) t.levels i) t.key covers_i))
+            ∙ together_coarser a old v t.levels j i na (place_below (known a) j m) hi (meet_left t.levels u (t_long ∙ sym u_long)) c) here.4
+
         -- the small cell at the place is protected in the old cube, and so in the new one
         small_protected : IsIn small_there (protected (known b) m)
         small_protected = subst (λ s. IsIn s (protected (known b) m)) (cell_there a b old new na nb co v i v_long hi)
             (protected_there a b old new na nb co k small_cell kb ((protected_are (known a) k small_cell way).1
-            (here.0, here.1, here.2, is_finer_trans v t.levels here.0.levels (meet_left t.levels u (t_long ∙ sym u_long)) here.3, i, hi, here.6, same_refl (key_at (known a) v i))))
+            (here.0, here.1, here.2, is_finer_trans v t.levels here.0.levels (meet_left t.levels u (t_long ∙ sym u_long)) here.3, small_few, i, hi, here.7, same_refl (key_at (known a) v i))))
 
         fine : is_finer v' c ≡ true
         fine = subst (λ z. is_finer v' z ≡ true) u_back (finer_there a b old new na nb co v u v_long (meet_right t.levels u (t_long ∙ sym u_long)))

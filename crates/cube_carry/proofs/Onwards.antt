@@ -228,7 +228,7 @@ module _ (a b c : Named) (x y z : List (List ℤ)) (na : IsNamed a x) (nb : IsNa
   has_place m t Plain e is_in = absurd (subst (λ w. IsIn t (protected_by w (known a) m)) e is_in)
   has_place m t Lattice e is_in =
       let r = (protected_are (known a) m t e).0 is_in in
-      (r.4, r.5, (levels_at (plains a.dims) t.levels (finer_in_range (plains a.dims) t.levels r.0.levels r.3 (Each-at (λ o. are_levels (plains a.dims) o.levels ≡ true) r.0 a.policy.objects na.objects r.1))).0 ∙ length-plains a.dims, same_eq (key_at (known a) t.levels r.4) t.key r.7)
+      (r.5, r.6, (levels_at (plains a.dims) t.levels (finer_in_range (plains a.dims) t.levels r.0.levels r.3 (Each-at (λ o. are_levels (plains a.dims) o.levels ≡ true) r.0 a.policy.objects na.objects r.1))).0 ∙ length-plains a.dims, same_eq (key_at (known a) t.levels r.5) t.key r.8)
   has_place m t Parity e is_in =
       let r = IsIn-map (core_cell (known a)) t (guarded (known a) m) (subst (λ w. IsIn t (protected_by w (known a) m)) e is_in) in
       (r.0, guarded_below (known a) m r.0 r.1, subst (λ s. length s.levels ≡ length a.dims.dimensions) r.2 (core_long a b x y na nb ab), subst (λ s. key_at (known a) s.levels r.0 ≡ s.key) r.2 refl)

@@ -75,7 +75,7 @@ of_months measures methods objects cs months = record {
 
 -- pay, by a source, protected at these levels and below
 abbrev pub pay_by : List ℕ → List (List (List ℕ)) → Named
-pay_by levels months = of_months (measure (codes "pay") ∷ []) (Lattice ∷ []) (record { measure = 0; levels = levels; slice = [] } ∷ []) cities months
+pay_by levels months = of_months (measure (codes "pay") ∷ []) (Lattice ∷ []) (record { measure = 0; levels = levels; slice = []; fewer = None } ∷ []) cities months
 
 -- pay by area, by month and by city
 abbrev pub by_area : Entry
@@ -92,11 +92,11 @@ by_area_and_quarter = Asked (slice 0 1 1)
 
 -- pay, and hours by links
 abbrev pub pay_and_hours : Named
-pay_and_hours = of_months (measure (codes "pay") ∷ measure (codes "hours") ∷ []) (Lattice ∷ Parity ∷ []) (record { measure = 0; levels = two 0 0; slice = [] } ∷ []) cities two_months
+pay_and_hours = of_months (measure (codes "pay") ∷ measure (codes "hours") ∷ []) (Lattice ∷ Parity ∷ []) (record { measure = 0; levels = two 0 0; slice = []; fewer = None } ∷ []) cities two_months
 
 -- the other way round, the cities in another order
 abbrev pub hours_and_pay : Named
-hours_and_pay = of_months (measure (codes "hours") ∷ measure (codes "pay") ∷ []) (Parity ∷ Lattice ∷ []) (record { measure = 1; levels = two 0 0; slice = [] } ∷ []) (lille ∷ lyon ∷ paris ∷ nice ∷ []) three_months
+hours_and_pay = of_months (measure (codes "hours") ∷ measure (codes "pay") ∷ []) (Parity ∷ Lattice ∷ []) (record { measure = 1; levels = two 0 0; slice = []; fewer = None } ∷ []) (lille ∷ lyon ∷ paris ∷ nice ∷ []) three_months
 
 -- hours of the South in January and in February, of each area in February, and of Paris in the first quarter
 abbrev pub south_in_january : Entry
@@ -116,11 +116,11 @@ abbrev pub nantes : List (List ℕ)
 nantes = path (codes "Nantes") (codes "North")
 
 abbrev pub with_branch : Named
-with_branch = of_months (measure (codes "pay") ∷ []) (Lattice ∷ []) (record { measure = 0; levels = two 0 0; slice = [] } ∷ []) (cities ++ nantes ∷ []) two_months
+with_branch = of_months (measure (codes "pay") ∷ []) (Lattice ∷ []) (record { measure = 0; levels = two 0 0; slice = []; fewer = None } ∷ []) (cities ++ nantes ∷ []) two_months
 
 -- Lille in the South
 abbrev pub lille_moved : Named
-lille_moved = of_months (measure (codes "pay") ∷ []) (Lattice ∷ []) (record { measure = 0; levels = two 0 0; slice = [] } ∷ []) (lyon ∷ nice ∷ paris ∷ path (codes "Lille") (codes "South") ∷ []) two_months
+lille_moved = of_months (measure (codes "pay") ∷ []) (Lattice ∷ []) (record { measure = 0; levels = two 0 0; slice = []; fewer = None } ∷ []) (lyon ∷ nice ∷ paris ∷ path (codes "Lille") (codes "South") ∷ []) two_months
 
 -- nobody in Lille in February
 abbrev pub one_empty : Named
@@ -136,7 +136,7 @@ one_more_fact = record (pay_by (two 0 0) two_months) { shape = record { points =
 
 -- hours of Lyon and Nice, protected in these months
 abbrev pub hours_of_south : List Within → Named
-hours_of_south slice = of_months (measure (codes "hours") ∷ []) (Parity ∷ []) (record { measure = 0; levels = two 0 0; slice = slice } ∷ []) (lyon ∷ nice ∷ []) two_months
+hours_of_south slice = of_months (measure (codes "hours") ∷ []) (Parity ∷ []) (record { measure = 0; levels = two 0 0; slice = slice; fewer = None } ∷ []) (lyon ∷ nice ∷ []) two_months
 
 abbrev pub in_january : List Within
 in_january = record { dimension = 1; level = 0; members = 0 ∷ [] } ∷ []

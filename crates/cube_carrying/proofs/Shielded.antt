@@ -1,6 +1,6 @@
 -- What suffices for a new cube to protect a cell that an old one protects.
 use Rattle.std.specs.List.{flat_map}
-use Rattle.std.proofs.Common.{◌≡◌, ℕ, zero, suc, ◌<◌, true, not, ◌&&◌, List, [], ◌∷◌, length, map, filter, find, get_or, None, refl, sym, ap, ap₂, ◌∙◌, subst, arith, eqb, eqb-true}
+use Rattle.std.proofs.Common.{◌≡◌, ℕ, zero, suc, ◌<◌, true, not, ◌&&◌, List, [], ◌∷◌, length, map, filter, find, get_or, Option, Some, None, is_none, refl, sym, ap, ap₂, ◌∙◌, subst, arith, eqb, eqb-true}
 use Rattle.std.proofs.lemmas.Bool.{and_parts}
 use Rattle.std.proofs.lemmas.List.{length-map}
 use Rattle.cube_model.specs.declared.cell.Cell.{Cell}
@@ -12,7 +12,7 @@ use Rattle.cube_model.specs.Cores.{Core, IsCore}
 use Rattle.cube_model.specs.Cubes.{Public, Dimension, key_at, core, covers, places, is_finer, IsIn}
 use Rattle.cube_model.specs.Dims.{NamedDimension, plain, plains}
 use Rattle.cube_model.specs.Policies.{IsPolicy}
-use Rattle.cube_model.specs.Protection.{method, in_slice, under, same_cell, core_cell, is_guarded, guarded, protected_by, protected}
+use Rattle.cube_model.specs.Protection.{method, in_slice, has_fewer, under, same_cell, core_cell, is_guarded, guarded, protected_by, protected}
 use Rattle.cube_model.proofs.Members.{filter_has, map_has, same_eq, same_refl}
 use Rattle.cube_model.proofs.Objects.{protected_are}
 use Rattle.cube_model.proofs.Orders.{place_of}
@@ -22,12 +22,13 @@ use Rattle.cube_carry.specs.Names.{known, named, measure_in, dimension_in, carri
 use Rattle.cube_carry.proofs.Cells.{cell}
 use Rattle.cube_carry.proofs.Orders.{levels_at, length-plains}
 use Rattle.cube_source.specs.Blocks.{bare}
-use Rattle.cube_source.specs.Objects.{of_measure, is_sliced, stands_over}
+use Rattle.cube_source.specs.Objects.{of_measure}
 use Rattle.cube_source.proofs.Among.{same_itself, lattice_all, parity_all}
 use Rattle.cube_source.proofs.Uncut.{covers_bare, find_once}
 use Rattle.cube_carrying.specs.Exposed.{HasParts}
 use Rattle.cube_carrying.specs.KeptCells.{is_kept, Carries, StandsSuffice, GuardsSuffice}
 use Rattle.cube_carrying.specs.Places.{carried_places}
+use Rattle.cube_carrying.specs.Shields.{is_shielded, is_shielded_over}
 use Rattle.cube_carrying.proofs.Opened as opened
 use Rattle.cube_carrying.proofs.Opened.{is_there}
 use Rattle.cube_carrying.proofs.Numbered.{number_at}
@@ -50,6 +51,11 @@ all_zero f (e ∷ es) z = ap₂ (λ (x : ℕ) (xs : List ℕ). x ∷ xs) (z e) (
 -- the finest levels are carried to the finest
 core_kept : (c d : Core) (p q : Policy) → carried_levels c.dims d.dims (core (known (named c p))) ≡ core (known (named d q))
 core_kept c d p q = all_zero (λ e. get_or (core (known (named c p))) (dimension_in c.dims e) 0) d.dims.dimensions (λ e. zero_at (plains c.dims) (dimension_in c.dims e))
+
+-- an object that names no number of facts protects whatever it is
+unbounded : (g : Public) (fewer : Option ℕ) (t : Cell) → is_none fewer ≡ true → has_fewer g fewer t ≡ true
+unbounded g None t e = refl
+unbounded g (Some n) t e = absurd (cc)
 
 module _ (c d : Core) (p q : Policy) (old : IsCore c) (new : IsCore d) (rules : IsPolicy d.dims q) (parts : HasParts (named c p) (named d q)) (k : ℕ) (kb : k < length c.dims.measures) (m : ℕ) (is_m : m ≡ measure_in c.dims d.dims k) (js : List ℕ) (is_js : js ≡ carried_places c d) where
   abbrev g : Public
@@ -86,12 +92,13 @@ module _ (c d : Core) (p q : Policy) (old : IsCore c) (new : IsCore d) (rules : 
       let long = (levels_at (plains c.dims) t.levels valid).0 ∙ length-plains c.dims in
       let key : key_at g t.levels i ≡ t.key = same_eq (key_at g t.levels i) t.key (sym (covers_bare c p t i) ∙ covered) in
       let there : carried_cell c.dims d.dims t ≡ cell (carried_levels c.dims d.dims t.levels) (key_at h (carried_levels c.dims d.dims t.levels) (f i)) = ap (λ (ks : List ℕ). carried_cell c.dims d.dims (cell t.levels ks)) (sym key) ∙ opened.cell_kept c d p q old new parts t.levels i long l in
-      let at = ap (stands_over (bare d) q.objects m (carried_levels c.dims d.dims t.levels)) (sym (place_is i l)) ∙ over in
-      let n = any_from (λ (o : Object). is_finer (carried_levels c.dims d.dims t.levels) o.levels && is_sliced (bare d) m o (f i)) q.objects at in
-      let a = and_parts (is_finer (carried_levels c.dims d.dims t.levels) n.0.levels) (is_sliced (bare d) m n.0 (f i)) n.2 in
-      let b = and_parts (eqb n.0.measure m) (in_slice (bare d) n.0 (f i)) a.1 in
+      let at = ap (is_shielded_over (bare d) q.objects m (carried_levels c.dims d.dims t.levels)) (sym (place_is i l)) ∙ over in
+      let n = any_from (λ (o : Object). is_finer (carried_levels c.dims d.dims t.levels) o.levels && is_shielded (bare d) m o (f i)) q.objects at in
+      let a = and_parts (is_finer (carried_levels c.dims d.dims t.levels) n.0.levels) (is_shielded (bare d) m n.0 (f i)) n.2 in
+      let b = and_parts (eqb n.0.measure m && is_none n.0.fewer) (in_slice (bare d) n.0 (f i)) a.1 in
+      let own = and_parts (eqb n.0.measure m) (is_none n.0.fewer) b.0 in
       let held : covers h (carried_cell c.dims d.dims t) (f i) ≡ true = subst (λ (u : Cell). covers h u (f i) ≡ true) (sym there) (same_refl (key_at h (carried_levels c.dims d.dims t.levels) (f i))) in
-      kept_if t ((protected_are h m (carried_cell c.dims d.dims t) (same_way Lattice way)).1 (n.0, n.1, eqb-true n.0.measure m b.0, a.0, f i, opened.place_below c d p q old new parts i l, b.1, held))
+      kept_if t ((protected_are h m (carried_cell c.dims d.dims t) (same_way Lattice way)).1 (n.0, n.1, eqb-true n.0.measure m own.0, a.0, unbounded h n.0.fewer (carried_cell c.dims d.dims t) own.1, f i, opened.place_below c d p q old new parts i l, b.1, held))
 
   pub guards_suffice : method g k ≡ Parity → GuardsSuffice c d q m js
   unfolding key_at

@@ -8,7 +8,8 @@ use Rattle.cube_model.specs.Protection.{in_slice, is_guarded}
 use Rattle.cube_carry.specs.Continues.{has_dimension, has_levels, has_paths, has_measure, has_point}
 use Rattle.cube_carry.specs.Names.{Named, known, carried_levels}
 use Rattle.cube_source.specs.Blocks.{bare}
-use Rattle.cube_source.specs.Objects.{of_measure, stands_over}
+use Rattle.cube_source.specs.Objects.{of_measure}
+use Rattle.cube_carrying.specs.Shields.{is_shielded_over}
 
 -- The second cube has all that it needs to continue the first but for the protected cells: the dimensions with their levels, each
 -- path, each measure and each point.
@@ -20,9 +21,10 @@ pub record HasParts (a b : Named) : Type 0 where
   pub measures : list_all (has_measure a b) (count_from 0 (length a.dims.measures)) ≡ true
   pub points : list_all (has_point a b) (places (known a)) ≡ true
 
--- the place is in the slice of the old object, and no new object of the measure at or above the levels has its new place in its slice
+-- the place is in the slice of the old object, and no new object of the measure at or above the levels that names no number of facts has
+-- its new place in its slice
 abbrev pub is_exposed_at : Core → Object → Core → List Object → ℕ → List ℕ → List ℕ → ℕ → Bool
-is_exposed_at c o d os m levels at i = in_slice (bare c) o i && not (stands_over (bare d) os m levels (slice_index_or at i 0))
+is_exposed_at c o d os m levels at i = in_slice (bare c) o i && not (is_shielded_over (bare d) os m levels (slice_index_or at i 0))
 
 -- so it is at some place, for the levels of the old object
 abbrev pub is_exposed : Core → Core → List Object → ℕ → List ℕ → Object → Bool

@@ -11,7 +11,8 @@ use Rattle.cube_model.specs.Protection.{same_cell, core_cell, is_guarded, protec
 use Rattle.cube_carry.specs.Continues.{has_dimension}
 use Rattle.cube_carry.specs.Names.{carried_levels, carried_cell}
 use Rattle.cube_source.specs.Blocks.{bare}
-use Rattle.cube_source.specs.Objects.{of_measure, stands_over}
+use Rattle.cube_source.specs.Objects.{of_measure}
+use Rattle.cube_carrying.specs.Shields.{is_shielded_over}
 
 -- the new cube protects, on the measure, the cell with the names of an old one
 abbrev pub is_kept : Core → Core → Policy → ℕ → Cell → Bool
@@ -27,10 +28,10 @@ pub record Carries (c d : Core) (q : Policy) (m : ℕ) (at : List ℕ) : Type 0 
   pub levels : (ls : List ℕ) → are_levels (plains c.dims) ls ≡ true → are_levels (plains d.dims) (carried_levels c.dims d.dims ls) ≡ true
   pub finer : (x y : List ℕ) → are_levels (plains c.dims) x ≡ true → is_finer x y ≡ true → is_finer (carried_levels c.dims d.dims x) (carried_levels c.dims d.dims y) ≡ true
 
--- A cell is kept where the new place of one that it covers is in the slice of a new object at or above it.
+-- A cell is kept where the new place of one that it covers is in the slice of a new object at or above it that names no number of facts.
 abbrev pub StandsSuffice : Core → Core → Policy → ℕ → List ℕ → Type 0
 StandsSuffice c d q m at = (t : Cell) (i : ℕ) → are_levels (plains c.dims) t.levels ≡ true → i < length c.shape.points → covers (bare c) t i ≡ true
-    → stands_over (bare d) q.objects m (carried_levels c.dims d.dims t.levels) (slice_index_or at i 0) ≡ true → is_kept c d q m t ≡ true
+    → is_shielded_over (bare d) q.objects m (carried_levels c.dims d.dims t.levels) (slice_index_or at i 0) ≡ true → is_kept c d q m t ≡ true
 
 -- A core cell is kept where the new place is guarded.
 abbrev pub GuardsSuffice : Core → Core → Policy → ℕ → List ℕ → Type 0

@@ -11,3 +11,4 @@ pub mod Standing
 pub mod Links
 pub mod Given
 pub mod Crossings
+pub mod Shields

@@ -9,12 +9,12 @@ ghost use Rattle.cube_carrying.specs.Exposed as said;
 
 use crate::carried_cells::carried_levels;
 use crate::crossings::Crossing;
-use crate::slices::{in_slice, is_guarded, stands_over};
+use crate::slices::{in_slice, is_guarded, is_shielded_over};
 use cube_model::{Levels, NoMemory, Object};
 use std::alloc::Global;
 
-/// Whether a place is in the slice of an old object, and no new object of the measure at or above the levels has its
-/// new place in its slice.
+/// Whether a place is in the slice of an old object, and no new object of the measure at or above the levels that names no
+/// number of facts has its new place in its slice.
 fn is_exposed_at(crossing: &Crossing, object: &Object, levels: &Levels, place: u32) -> bool
     requires place { place < length crossing.now.old.now.shape.points }
     requires slice { Each (IsWithin crossing.now.old.now.dims) object.now.slice }
@@ -22,7 +22,7 @@ fn is_exposed_at(crossing: &Crossing, object: &Object, levels: &Levels, place: u
     ensures { result ≡ said.is_exposed_at crossing.now.old.now object.now crossing.now.new.now crossing.now.new_policy.now.objects crossing.now.measure levels.now crossing.now.places.now place }
 {
     in_slice(crossing.old, object, place)
-        && !stands_over(
+        && !is_shielded_over(
             crossing.new,
             crossing.new_policy,
             crossing.measure,

@@ -5,13 +5,13 @@ ghost use Rattle.cube_model.specs.Cubes as cubes;
 ghost use Rattle.cube_model.specs.Cubes.{are_levels};
 ghost use Rattle.cube_model.specs.Dims.{plains};
 ghost use Rattle.cube_source.specs.Blocks.{bare};
-ghost use Rattle.cube_source.specs.Objects as objects;
 ghost use Rattle.cube_carry.specs.Names as names;
+ghost use Rattle.cube_carrying.specs.Shields as shields;
 ghost use Rattle.cube_carrying.specs.Crossings.{keeps, Crosses, StandsAreEnough};
 
 use crate::carried_cells::carried_cell;
 use crate::crossings::Crossing;
-use crate::slices::stands_over;
+use crate::slices::is_shielded_over;
 use cube_model::{Cell, Levels, NoMemory};
 use cube_source::protects;
 use std::alloc::Global;
@@ -35,14 +35,15 @@ pub(crate) fn is_protected(
     ))
 }
 
-/// Whether the new place of one of the places is in the slice of an object of the measure at or above the levels.
+/// Whether the new place of one of the places is in the slice of an object of the measure at or above the levels that names
+/// no number of facts.
 fn any_under(crossing: &Crossing, levels: &Levels, covered: &[u32]) -> bool
     requires carries { Crosses crossing.now }
     requires covered { All (λ place. place < length crossing.now.places.now) covered.now }
-    ensures { result ≡ list_any (λ place. objects.stands_over (bare crossing.now.new.now) crossing.now.new_policy.now.objects crossing.now.measure levels.now (slice_index_or crossing.now.places.now place 0)) covered.now }
+    ensures { result ≡ list_any (λ place. shields.is_shielded_over (bare crossing.now.new.now) crossing.now.new_policy.now.objects crossing.now.measure levels.now (slice_index_or crossing.now.places.now place 0)) covered.now }
 {
     'covered: for place in covered {
-        if stands_over(
+        if is_shielded_over(
             crossing.new,
             crossing.new_policy,
             crossing.measure,

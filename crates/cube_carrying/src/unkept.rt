@@ -1,15 +1,17 @@
 // The first cell of a measure that an old cube protects and a new one does not.
 ghost use Rattle.std.specs.Prelude.{◌≡◌, ◌<◌, true, not, ◌&&◌, find, filter, flat_map, map, length, Some, None, if◌then◌else◌, IfOk};
-ghost use Rattle.std.specs.List.{list_any, All};
+ghost use Rattle.std.specs.List.{All};
 ghost use Rattle.std.specs.Option.{option_map};
+ghost use Rattle.cube_core.specs.Rows.{ArePlaces};
 ghost use Rattle.cube_model.specs.Cubes as cubes;
 ghost use Rattle.cube_model.specs.Cubes.{Each, are_levels, places as places_of};
 ghost use Rattle.cube_model.specs.Dims.{plains};
 ghost use Rattle.cube_model.specs.Policies.{IsPolicy, IsWithin};
 ghost use Rattle.cube_model.specs.Protection as protection;
-ghost use Rattle.cube_model.specs.Protection.{in_slice, touched, under};
+ghost use Rattle.cube_model.specs.Protection.{touched, under};
 ghost use Rattle.cube_model.specs.Requests as requests;
 ghost use Rattle.cube_source.specs.Blocks.{bare, whole, row_cell, AreBlocks};
+ghost use Rattle.cube_source.specs.Few.{guards_row};
 ghost use Rattle.cube_source.specs.Objects.{IsPlaced, of_measure};
 ghost use Rattle.cube_carry.specs.Names as names;
 ghost use Rattle.cube_carrying.specs.Crossings.{keeps, Crosses, StandsAreEnough, GuardsAreEnough};
@@ -18,7 +20,7 @@ use crate::carried_cells::carried_levels;
 use crate::crossings::Crossing;
 use crate::exposed::{is_exposed, is_exposed_somewhere, is_unguarded_at};
 use crate::protecting::{is_kept, is_protected};
-use crate::slices::touches;
+use crate::slices::guards_row;
 use cube_core::Core;
 use cube_lattice::cuboids_below;
 use cube_model::{Cell, Key, Levels, NoMemory, Object, Request, Row, Rows, What};
@@ -44,7 +46,7 @@ fn make_cell(alloc: Global, levels: &Levels, key: &Key) -> Result<Cell, NoMemory
     })
 }
 
-/// The cell of a row, where a place of it is in the slice of an old object and the new cube does not protect it.
+/// The cell of a row that an old object guards, where the new cube does not protect it.
 fn unkept_cell(
     alloc: Global,
     crossing: &Crossing,
@@ -58,16 +60,15 @@ fn unkept_cell(
     requires slice { Each (IsWithin crossing.now.old.now.dims) object.now.slice }
     requires levels { are_levels (plains crossing.now.old.now.dims) levels.now ≡ true }
     requires carried { carried.now ≡ names.carried_levels crossing.now.old.now.dims crossing.now.new.now.dims levels.now }
-    requires below { All (λ place. place < length crossing.now.old.now.shape.points) row.now.places }
+    requires below { ArePlaces (length crossing.now.old.now.shape.points) row.now.places }
     requires covered { All (λ place. cubes.covers (bare crossing.now.old.now) (row_cell levels.now row.now) place ≡ true) row.now.places }
-    ensures { IfOk result (λ found. found ≡ (if list_any (in_slice (bare crossing.now.old.now) object.now) row.now.places && not (keeps crossing.now (row_cell levels.now row.now)) then Some (row_cell levels.now row.now) else None)) }
+    ensures { IfOk result (λ found. found ≡ (if guards_row (bare crossing.now.old.now) object.now row.now.places && not (keeps crossing.now (row_cell levels.now row.now)) then Some (row_cell levels.now row.now) else None)) }
 {
-    let covered = row.places.as_slice();
-    if !touches(crossing.old, object, covered) {
+    if !guards_row(crossing.old, object, row) {
         return Ok(None);
     }
     let cell = make_cell(alloc, levels, &row.key)?;
-    if is_kept(alloc, crossing, carried, &cell, covered)? {
+    if is_kept(alloc, crossing, carried, &cell, row.places.as_slice())? {
         return Ok(None);
     }
     Ok(Some(cell))
@@ -89,7 +90,7 @@ fn unkept_row(
     requires carried { carried.now ≡ names.carried_levels crossing.now.old.now.dims crossing.now.new.now.dims levels.now }
     requires rows { rows.now ≡ requests.rows (bare crossing.now.old.now) (whole levels.now) }
     requires below { AreBlocks (length crossing.now.old.now.shape.points) rows.now }
-    ensures { IfOk result (λ found. found ≡ option_map (row_cell levels.now) (find (λ row. list_any (in_slice (bare crossing.now.old.now) object.now) row.places && not (keeps crossing.now (row_cell levels.now row))) rows.now)) }
+    ensures { IfOk result (λ found. found ≡ option_map (row_cell levels.now) (find (λ row. guards_row (bare crossing.now.old.now) object.now row.places && not (keeps crossing.now (row_cell levels.now row))) rows.now)) }
 {
     'rows: for row in rows {
         let found = unkept_cell(alloc, crossing, object, levels, carried, row)?;

@@ -7,4 +7,4 @@ pub returns-then-not-has_object : goal.returns-then-not-has_object
 returns-then-not-has_object c = ap not c.if-not-has_object.true ∙ guarded_none (bare c.args.core.now) c.args.measure c.args.objects.now c.args.place (sym c.has_object.ensures ∙ c.if-not-has_object.true)
 
 pub returns-else-not-has_object : goal.returns-else-not-has_object
-returns-else-not-has_object c = guarded_some (bare c.args.core.now) c.args.measure c.args.objects.now c.args.place c.in_slices.result (sym c.has_object.ensures ∙ c.if-not-has_object.false) c.in_slices.ensures
+returns-else-not-has_object c = guarded_some (bare c.args.core.now) c.args.measure c.args.objects.now c.args.place c.is_guarded_place.result (sym c.has_object.ensures ∙ c.if-not-has_object.false) c.is_guarded_place.ensures

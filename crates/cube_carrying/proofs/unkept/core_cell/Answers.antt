@@ -1,7 +1,7 @@
 use Rattle.std.proofs.Common.{◌<◌, ℕ, List, [], length, get_or, ap, ap₂, ◌∙◌, arith}
 use Rattle.std.proofs.lemmas.List.{get_or_default}
 use Rattle.cube_model.specs.declared.shape.Shape.{Shape}
-use Rattle.cube_source.proofs.Cuts.{cell}
+use Rattle.cube_source.proofs.Fewer.{cell}
 use Rattle.cube_carrying.proofs.Walked.{core_point}
 use Rattle.cube_carrying.proofs.unkept.core_cell.Goals as goal
 

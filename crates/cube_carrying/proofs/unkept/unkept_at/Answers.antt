@@ -6,8 +6,9 @@ use Rattle.cube_model.specs.declared.answer.Row.{Row}
 use Rattle.cube_model.specs.declared.cell.Cell.{Cell}
 use Rattle.cube_model.specs.Cubes.{places}
 use Rattle.cube_model.specs.Dims.{Dims}
-use Rattle.cube_model.specs.Protection.{in_slice, touched}
+use Rattle.cube_model.specs.Protection.{touched}
 use Rattle.cube_source.specs.Blocks.{bare, row_cell, AreBlocks}
+use Rattle.cube_source.specs.Few.{guards_row}
 use Rattle.cube_carry.specs.Names.{carried_levels}
 use Rattle.cube_carrying.specs.Exposed.{is_exposed_at}
 use Rattle.cube_carrying.specs.KeptCells as said
@@ -29,6 +30,6 @@ unkept_row-requires-clause-below c = subst (AreBlocks (length c.args.crossing.no
 pub returns : goal.returns
 returns c =
     let kept = said.is_kept c.args.crossing.now.old.now c.args.crossing.now.new.now c.args.crossing.now.new_policy.now c.args.crossing.now.measure in
-    let found = λ (rows : List Row). option_map (row_cell c.args.levels.now) (find (λ row. list_any (in_slice (bare c.args.crossing.now.old.now) c.args.object.now) row.places && not (kept (row_cell c.args.levels.now row))) rows) in
+    let found = λ (rows : List Row). option_map (row_cell c.args.levels.now) (find (λ row. guards_row (bare c.args.crossing.now.old.now) c.args.object.now row.places && not (kept (row_cell c.args.levels.now row))) rows) in
     IfOk-weaker c.unkept_row.result (λ (o : Option Cell). o ≡ found c.as_slice-2.result.now) (λ (o : Option Cell). o ≡ find (λ t. not (kept t)) (touched (bare c.args.crossing.now.old.now) c.args.object.now c.args.levels.now))
     (λ o e. e ∙ ap found (c.as_slice-2.ensures ∙ c.in_ok-rows.ensures.rows) ∙ first_row (bare c.args.crossing.now.old.now) c.args.object.now c.args.levels.now kept) c.unkept_row.ensures
