@@ -1,4 +1,6 @@
 mod Appending
+mod Ending
+mod Holding
 mod Parting
 mod Paths
 mod Replacing

@@ -91,10 +91,10 @@ others_stay a b log name few is_name at told k differs = by_number (nat_lt k (2 
     by_number true is = ap (λ (n : List ℕ). b.logs (path_of n k)) works.name ∙ works.others told (path_of a.name k) (paths_differ a.name k log (grind (arith, nat_tests)) few differs)
     by_number false is = refl
 
--- the same of the view of a store: its disk, whether it was attached, and its faults
-pub view_stays : {D : Type 0} (state : D → DiskState) (old : D) (attached : Bool) (faults : ℕ) (view : D × (Bool × ℕ)) (new : DiskState) (log : ℕ) (name : List ℕ) → (old, (attached, faults)) ≡ view
+-- the same of the view of a store: its disk, whether it was attached, its faults and the logs whose files are open
+pub view_stays : {D : Type 0} (state : D → DiskState) (old : D) (attached : Bool) (rest : ℕ × List ℕ) (view : D × (Bool × (ℕ × List ℕ))) (new : DiskState) (log : ℕ) (name : List ℕ) → (old, (attached, rest)) ≡ view
     → (IsTrue attached → IsTrue (state old).told → name ≡ (state old).name) → IsTrue view.1.0 → log < 2 ^ 32 → WorksAt (path_of name log) (state old) new
     → IsTrue (state view.0).told → (k : ℕ) → k ≢ log → logs_of new k ≡ logs_of (state view.0) k
-view_stays {D} state old attached faults view new log name is =
-    subst (λ (v : D × (Bool × ℕ)). (IsTrue attached → IsTrue (state old).told → name ≡ (state old).name) → IsTrue v.1.0 → log < 2 ^ 32 → WorksAt (path_of name log) (state old) new → IsTrue (state v.0).told → (k : ℕ) → k ≢ log → logs_of new k ≡ logs_of (state v.0) k) is
+view_stays {D} state old attached rest view new log name is =
+    subst (λ (v : D × (Bool × (ℕ × List ℕ))). (IsTrue attached → IsTrue (state old).told → name ≡ (state old).name) → IsTrue v.1.0 → log < 2 ^ 32 → WorksAt (path_of name log) (state old) new → IsTrue (state v.0).told → (k : ℕ) → k ≢ log → logs_of new k ≡ logs_of (state v.0) k) is
     (λ named on few works told. others_stay (state old) new log name few (named on told) works told)

@@ -1,19 +1,21 @@
 -- What a disk tells of its files, what its calls leave as it was, and which of its files are the logs of a store.
 use Rattle.std.specs.Prelude.{◌≡◌, ◌≢◌, ◌⊎◌, ℕ, ◌^◌, ◌-◌, ◌==◌, Bool, true, false, IsTrue, List, [], ◌++◌, None, if◌then◌else◌, nat_lt, nat_le, codes, decimal}
 use Rattle.std.specs.declared.option.Option.{Option}
+use Rattle.std.specs.List.{list_any}
 use Rattle.cube_io.specs.Seen.{StoreState}
 use Rattle.cube_io.specs.declared.store.TheConstants.{SEAL_LOG}
 use Rattle.cube_io.specs.States.{State, Log, IsWhole, settled}
 use Rattle.cube_io.specs.Whole.{whole_settled}
 
 -- Of a disk: whether it tells what it holds, the one name whose files it then tells, the names that it was asked for, the log in the file
--- of each path, and the path that was last seen to stand for its open file.
+-- of each path, the path that was last seen to stand for its open file, and how many calls it refused, up to the end of its type.
 pub record DiskState : Type 0 where
   pub told : Bool
   pub name : List ℕ
   pub names : List (List ℕ)
   pub logs : List ℕ → Log
   pub seen : Option (List ℕ)
+  pub refused : ℕ
 
 -- a call that changes no file, and asks for no name
 pub record Rests (old new : DiskState) : Type 0 where
@@ -64,13 +66,17 @@ no_log = record { state = settled []; trail = [] }
 abbrev pub logs_of : DiskState → ℕ → Log
 logs_of disk log = if nat_lt log (2 ^ 32) then disk.logs (path_of disk.name log) else no_log
 
+-- the file of the log is open: the log is one of these
+abbrev pub is_held : ℕ → List ℕ → Bool
+is_held log logs = list_any (λ k. k == log) logs
+
 -- what a store tells whose logs are in the files of a disk
 abbrev pub store_over : ℕ → Bool → DiskState → StoreState
 store_over faults attached disk = record { faults = faults; attached = attached; told = disk.told; logs = logs_of disk; names = disk.names; calls = 0 }
 
 -- a disk that tells nothing
 abbrev pub silent_disk : DiskState
-silent_disk = record { told = false; name = []; names = []; logs = λ path. no_log; seen = None }
+silent_disk = record { told = false; name = []; names = []; logs = λ path. no_log; seen = None; refused = 0 }
 
 pub logs_whole : (disk : DiskState) → ((path : List ℕ) → IsWhole (disk.logs path).state) → (log : ℕ) → IsWhole (logs_of disk log).state
 logs_whole disk whole log = by_number (nat_lt log (2 ^ 32))

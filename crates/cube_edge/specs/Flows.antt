@@ -1,5 +1,5 @@
 -- What a log says of the bytes of each connection, and how that stands to what the sockets tell.
-use Rattle.std.specs.Prelude.{◌≡◌, ℕ, ◌==◌, Bool, true, false, IsTrue, List, [], ◌∷◌, ◌++◌, length, take, slice_get, if◌then◌else◌, Option, Some, None, Result, Ok, Err}
+use Rattle.std.specs.Prelude.{◌≡◌, ℕ, ◌==◌, false, IsTrue, List, [], ◌∷◌, ◌++◌, length, take, slice_get, if◌then◌else◌, Option, Some, None, Result, Ok, Err}
 use Rattle.cube_io.specs.declared.faults.Failed.{Failed}
 use Rattle.cube_io.specs.declared.wire.Event.{Event}
 use Rattle.cube_io.specs.Wires.{LogEntry, arrival_of, open_after}
@@ -8,8 +8,9 @@ use Rattle.cube_io.specs.Wires.LogEntry.{Heard, Sent, Torn, Shut}
 use Rattle.cube_edge.specs.declared.link.Link.{Link}
 use Rattle.cube_edge.specs.declared.link.Look.{Look}
 use Rattle.cube_edge.specs.declared.link.Look.TheVariants as look
-use Rattle.cube_edge.specs.declared.link.Stage.{Stage}
 use Rattle.cube_edge.specs.declared.link.Stage.TheVariants as stage
+use Rattle.cube_edge.specs.Ends.{is_ended}
+use Rattle.cube_edge.specs.Links.{is_there, is_open}
 use Rattle.cube_edge.specs.Sockets.{SocketsState, outgoing}
 
 -- of a connection since it was opened: the bytes that went out, those of sends that failed among them, and the bytes that came
@@ -38,26 +39,14 @@ flow_after c was (e ∷ log) = flow_after c (flow_by c was e) log
 abbrev pub flow : ℕ → List LogEntry → Flow
 flow c log = flow_after c no_flow log
 
--- there is a connection
-abbrev pub is_there : Stage → Bool
-is_there stage.Free = false
-is_there stage.Open = true
-is_there stage.Closing = true
-is_there stage.Finished = true
-
--- it is open
-abbrev pub is_open : Stage → Bool
-is_open stage.Free = false
-is_open stage.Open = true
-is_open stage.Closing = false
-is_open stage.Finished = false
-
 -- Connection c is open where the log says so. Where there is one, what went out by the log is what its socket was given and what waits
--- behind that. While it is open, what came by the log, followed by what is unread, is what was taken from its socket.
+-- behind that, and the other side was told that nothing more is written just where it is closed and nothing waits. While it is open,
+-- what came by the log, followed by what is unread, is what was taken from its socket.
 pub record IsTied (c : ℕ) (sockets : SocketsState) (log : List LogEntry) (link : Link) : Type 0 where
   pub opens : open_after c false log ≡ is_open link.stage
   pub sends : IsTrue (is_there link.stage) → (flow c log).sent ≡ outgoing c sockets link.waiting
-  pub comes : IsTrue (is_open link.stage) → (flow c log).came ++ link.unread ≡ sockets.taken c
+  pub comes : IsTrue (is_open link.stage) → (flow c log).came ++ link.unread ≡ (sockets.socket c).taken
+  pub ends : IsTrue (is_there link.stage) → (sockets.socket c).shut ≡ is_ended link
 
 -- each connection
 abbrev pub AreTied : SocketsState → List LogEntry → List Link → Type 0

@@ -1,4 +1,5 @@
 pub mod Disks
+pub mod Ends
 pub mod Flows
 pub mod Lines
 pub mod Links

@@ -7,14 +7,20 @@ use Rattle.cube_io.specs.Wires.{LogEntry, arrival_of, no_plan}
 use Rattle.cube_io.specs.Wires.LogEntry.{Heard}
 use Rattle.cube_edge.specs.Sockets.{SocketsState}
 
--- Of a watch: how often it failed, whether it tells, its log, the addresses that it was told of, and its space: it takes one more event or
+-- Of a watch: how often it failed, whether it tells, its log, the addresses that it was told of, each with the seconds that
+-- a connection may be still there, and its space: it takes one more event or
 -- send that has fewer bytes than that.
 pub record WatchState : Type 0 where
   pub faults : ℕ
   pub told : Bool
   pub log : List LogEntry
-  pub heard : List (List ℕ)
+  pub heard : List (List ℕ × ℕ)
   pub capacity : ℕ
+
+-- an address with the seconds more, where the call went well
+abbrev pub HearsOf : Result (Unit {0}) Failed → List (List ℕ × ℕ) → List (List ℕ × ℕ) → List ℕ → ℕ → Type 0
+HearsOf (Ok u) old new address idle = new ≡ old ++ (address, idle) ∷ []
+HearsOf (Err e) old new address idle = new ≡ old
 
 -- a watch that tells nothing, and takes everything
 abbrev pub no_watch : WatchState

@@ -1,5 +1,6 @@
 // Files by their names, as a store of logs needs them.
 ghost use Rattle.std.specs.Prelude.{◌≡◌, ◌↔◌, ◌≤◌, ◌<◌, ◌+◌, ◌^◌, ℕ, List, Option, Some, drop, length, IsTrue, IfOk, OnOk, OnErr, IsErrOf};
+ghost use Rattle.cube_io.specs.Causes.{HasCause};
 ghost use Rattle.cube_io.specs.declared.faults.ReadFault.TheVariants as fault;
 ghost use Rattle.cube_io.specs.States.{IsWhole, Appended, Cut, Synced, Gained, shortened, settled};
 ghost use Rattle.cube_io.specs.Told.{AsksFor};
@@ -80,7 +81,8 @@ impl Extent {
 }
 
 /// Files by their names. Each is opened, locked and then worked on by the one who opened it. What stands under `told`
-/// holds where the disk tells what it holds; a file that isn't there is told as an empty log.
+/// holds where the disk tells what it holds; a file that isn't there is told as an empty log. A call that fails is one that the
+/// disk refused, and it counts it.
 pub trait Disk {
     /// A file that was opened.
     type Opened: Drop;
@@ -96,6 +98,7 @@ pub trait Disk {
 
     /// Takes the name of log 0. A disk that tells takes the one name whose files it tells, and no other.
     fn attach(&mut self, name: &str) -> Result<(), Failed>
+        ensures refused { IsTrue (state self.old).told → HasCause (state self.old).refused (state self.new).refused result }
         ensures told { (state self.new).told ≡ (state self.old).told }
         ensures name { (state self.new).name ≡ (state self.old).name }
         ensures logs { IsTrue (state self.old).told → (path : List ℕ) → (state self.new).logs path ≡ (state self.old).logs path }
@@ -104,18 +107,22 @@ pub trait Disk {
 
     /// Opens a file to read it and to write at its end, and makes it where it isn't there. What is no regular file is refused.
     fn open(&mut self, path: &str) -> Result<Self::Opened, Trouble>
+        ensures refused { IsTrue (state self.old).told → HasCause (state self.old).refused (state self.new).refused result }
         ensures rests { Rests (state self.old) (state self.new) };
 
     /// Locks a file until it is closed, however the program ends, and then puts its name on the disk.
     fn lock(&mut self, file: Self::Opened, path: &str) -> Result<Self::File, Trouble>
+        ensures refused { IsTrue (state self.old).told → HasCause (state self.old).refused (state self.new).refused result }
         ensures rests { Rests (state self.old) (state self.new) };
 
     /// How many bytes a file has.
     fn length(&mut self, file: &Self::File) -> Result<u64, Trouble>
+        ensures refused { IsTrue (state self.old).told → HasCause (state self.old).refused (state self.new).refused result }
         ensures rests { Rests (state self.old) (state self.new) };
 
     /// Sees that the path stands for the file, and that it is as this program left it.
     fn look(&mut self, file: &Self::File, path: &str, left: Extent) -> Result<(), Trouble>
+        ensures refused { IsTrue (state self.old).told → HasCause (state self.old).refused (state self.new).refused result }
         ensures rests { Rests (state self.old) (state self.new) }
         ensures file { IsTrue (state self.old).told → OnOk result (place file.now ≡ path.now) }
         ensures seen { IsTrue (state self.old).told → OnOk result ((state self.new).seen ≡ Some path.now) };
@@ -123,18 +130,22 @@ pub trait Disk {
     /// All the bytes of a file.
     fn read(&mut self, file: &mut Self::File, alloc: Global) -> Result<Text, ReadFault>
         requires { IsTrue (state self.old).told → (state self.old).seen ≡ Some (place file.old) }
+        ensures refused { IsTrue (state self.old).told → HasCause (state self.old).refused (state self.new).refused result }
         ensures rests { Rests (state self.old) (state self.new) }
         ensures bytes { IsTrue (state self.old).told → IfOk result (λ bytes. bytes ≡ ((state self.old).logs (place file.old)).state.now) }
         ensures fits { IfOk result (λ bytes. length bytes ≤ 2 ^ 28) }
         ensures long { IsTrue (state self.old).told → IsErrOf result fault.TooLong → 2 ^ 28 < length ((state self.old).logs (place file.old)).state.now };
 
-    /// Puts a front of a piece at the end of a file, and says how many bytes. A failed call leaves some front of it there.
+    /// Puts a front of a piece at the end of a file, and says how many bytes; a disk that tells puts at least one, if it has any. A
+    /// failed call leaves some front of it there.
     fn write(&mut self, file: &mut Self::File, piece: &[u8]) -> Result<usize, Trouble>
         requires { IsTrue (state self.old).told → (state self.old).seen ≡ Some (place file.old) }
+        ensures refused { IsTrue (state self.old).told → HasCause (state self.old).refused (state self.new).refused result }
         ensures works { WorksAt (place file.old) (state self.old) (state self.new) }
         ensures file { place file.new ≡ place file.old }
         ensures seen { (state self.new).seen ≡ (state self.old).seen }
         ensures bound { IfOk result (λ count. count ≤ length piece.now) }
+        ensures some { IsTrue (state self.old).told → 0 < length piece.now → IfOk result (λ count. 0 < count) }
         ensures grows { IsTrue (state self.old).told → (unsaid : List ℕ) × IfOk result (λ count. unsaid ≡ drop count piece.now)
             × Appended piece.now unsaid ((state self.old).logs (place file.old)) ((state self.new).logs (place file.old)) };
 
@@ -142,6 +153,7 @@ pub trait Disk {
     fn cut(&mut self, file: &Self::File, len: u64) -> Result<(), Trouble>
         requires seen { IsTrue (state self.old).told → (state self.old).seen ≡ Some (place file.now) }
         requires within { IsTrue (state self.old).told → len ≤ length ((state self.old).logs (place file.now)).state.now }
+        ensures refused { IsTrue (state self.old).told → HasCause (state self.old).refused (state self.new).refused result }
         ensures works { WorksAt (place file.now) (state self.old) (state self.new) }
         ensures passes { IsTrue (state self.old).told → Cut len ((state self.old).logs (place file.now)) ((state self.new).logs (place file.now)) }
         ensures done { IsTrue (state self.old).told → OnOk result (((state self.new).logs (place file.now)).state ≡ shortened ((state self.old).logs (place file.now)).state len) };
@@ -150,6 +162,7 @@ pub trait Disk {
     /// there stands behind the path. Its path is that by which the file was opened.
     fn sync(&mut self, file: &Self::File, path: &str, left: Extent) -> Result<(), Trouble>
         requires { IsTrue (state self.old).told → place file.now ≡ path.now }
+        ensures refused { IsTrue (state self.old).told → HasCause (state self.old).refused (state self.new).refused result }
         ensures works { WorksAt path.now (state self.old) (state self.new) }
         ensures passes { IsTrue (state self.old).told → Synced ((state self.old).logs path.now) ((state self.new).logs path.now) }
         ensures done { IsTrue (state self.old).told → OnOk result (((state self.new).logs path.now).state ≡ settled ((state self.old).logs path.now).state.now) }
@@ -161,6 +174,7 @@ pub trait Disk {
     fn replace(&mut self, file: Self::File, from: &str, to: &str) -> Result<(), Trouble>
         requires seen { IsTrue (state self.old).told → (state self.old).seen ≡ Some (place file) }
         requires file { IsTrue (state self.old).told → place file ≡ from.now }
+        ensures refused { IsTrue (state self.old).told → HasCause (state self.old).refused (state self.new).refused result }
         ensures works { WorksAtTwo from.now to.now (state self.old) (state self.new) }
         ensures passes { IsTrue (state self.old).told → Gained (IsEither ((state self.old).logs to.now).state ((state self.old).logs from.now).state)
             ((state self.old).logs to.now) ((state self.new).logs to.now) }

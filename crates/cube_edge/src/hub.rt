@@ -1,10 +1,13 @@
 // The connections over sockets, side by side.
-ghost use Rattle.std.specs.Prelude.{◌≡◌, ◌<◌, ◌≤◌, ◌+◌, ◌==◌, if◌then◌else◌, [], length, vec_len, slice_get, true, false, All, IsTrue, IfOk, IfSome, IsSomeAnd};
-ghost use Rattle.cube_io.specs.Causes.{HasCause};
+ghost use Rattle.std.specs.Prelude.{◌≡◌, ◌≢◌, ◌<◌, ◌≤◌, ℕ, ◌+◌, ◌*◌, ◌==◌, if◌then◌else◌, [], length, vec_len, slice_get, true, false, All, IsTrue, IfOk, IfSome, IsSomeAnd};
+ghost use Rattle.cube_io.specs.Causes.{HasCause, Rose};
 ghost use Rattle.cube_io.specs.Wires.{FitsBuffer};
 ghost use Rattle.cube_io.specs.Wires.LogEntry.{Shut};
-ghost use Rattle.cube_edge.specs.Flows.{Keeps, Takes, is_open, is_there, TakesAccept, TakesEvent, TakesNext, TakesSend, AreTied};
+ghost use Rattle.cube_edge.specs.Ends.{AreThere, Closes, LetsGo, are_free};
+ghost use Rattle.cube_edge.specs.Flows.{Keeps, Takes, TakesAccept, TakesEvent, TakesNext, TakesSend, AreTied};
 ghost use Rattle.cube_edge.specs.Lines.{GivesLine};
+ghost use Rattle.cube_edge.specs.Links.{is_open, is_there};
+ghost use Rattle.cube_edge.specs.Sockets.{Elsewhere, SameTime};
 ghost use Rattle.cube_edge.specs.declared.link.Stage.TheVariants as stage;
 
 use crate::link::{Link, Look, Stage};
@@ -30,6 +33,7 @@ pub struct Hub<S: Sockets + Drop> {
     pub now: u64,
     pub idle: u64,
     ghost capacity: { vec_len links ≡ 128 },
+    ghost clock: { IsTrue (S.state sockets).told → now ≡ (S.state sockets).clock },
 }
 
 // Room for connections.
@@ -61,8 +65,10 @@ fn turn_past(turn: usize, place: usize) -> usize
 }
 
 impl<S: Sockets + Drop> Hub<S> {
-    /// No connection.
+    /// No connection. The sockets told no time yet.
     pub fn new(alloc: Global, sockets: S) -> Result<Self, NoMemory>
+        requires { IsTrue (S.state sockets).told → (S.state sockets).clock ≡ 0 }
+        ensures idle { IfOk result (λ hub. hub.idle ≡ 0) }
         ensures sockets { IfOk result (λ hub. S.state hub.sockets ≡ S.state sockets) }
         ensures tied { IfOk result (λ hub. AreTied (S.state hub.sockets) [] hub.links.items) }
     {
@@ -78,8 +84,10 @@ impl<S: Sockets + Drop> Hub<S> {
     }
 
     /// Whether there is no connection.
-    pub fn is_settled(&self) -> bool {
-        self.links.iter().all(|link| link.stage == Stage::Free)
+    pub fn is_settled(&self) -> bool
+        ensures { result ≡ are_free self.entry.now.links.items }
+    {
+        self.links.iter().all(|link| !link.is_there())
     }
 
     // Whether a connection has unread bytes that it gives at its turn.
@@ -91,6 +99,10 @@ impl<S: Sockets + Drop> Hub<S> {
     pub fn wait(&mut self, millis: u64) -> Result<(), Failed>
         ensures cause { HasCause (S.state self.old.sockets).faults (S.state self.new.sockets).faults result }
         ensures told { (S.state self.new.sockets).told ≡ (S.state self.old.sockets).told }
+        ensures idle { self.new.idle ≡ self.old.idle }
+        ensures later { IsTrue (S.state self.old.sockets).told → (S.state self.old.sockets).clock ≤ (S.state self.new.sockets).clock }
+        ensures counted { IsTrue (S.state self.old.sockets).told → Rose (S.state self.old.sockets).waits (S.state self.new.sockets).waits }
+        ensures links { self.new.links ≡ self.old.links }
         ensures keeps { Keeps (S.state self.old.sockets) self.old.links.items (S.state self.new.sockets) self.new.links.items }
     {
         let millis = if self.has_piece() { 0 } else { millis };
@@ -102,16 +114,21 @@ impl<S: Sockets + Drop> Hub<S> {
     pub fn listen(&mut self, address: &Text, idle: u32) -> Result<(), Failed>
         ensures cause { HasCause (S.state self.old.sockets).faults (S.state self.new.sockets).faults result }
         ensures told { (S.state self.new.sockets).told ≡ (S.state self.old.sockets).told }
+        ensures idle { self.new.idle ≡ idle * 1000 }
         ensures keeps { Keeps (S.state self.old.sockets) self.old.links.items (S.state self.new.sockets) self.new.links.items }
     {
         self.idle = u64::from(idle) * 1_000;
         self.sockets.listen(address)
     }
 
-    // Writes of what waits on the connection of the last send as much as it takes. If it has its turn, that has passed.
+    // Writes of what waits on the connection of the last send as much as it takes, and its end behind that where it is closed. If it
+    // has its turn, that has passed.
     fn flush(&mut self)
         ensures faults { (S.state self.new.sockets).faults ≡ (S.state self.old.sockets).faults }
         ensures told { (S.state self.new.sockets).told ≡ (S.state self.old.sockets).told }
+        ensures idle { self.new.idle ≡ self.old.idle }
+        ensures time { SameTime (S.state self.old.sockets) (S.state self.new.sockets) }
+        ensures lets { IsTrue (S.state self.old.sockets).told → LetsGo self.old.idle (S.state self.old.sockets) self.old.links.items (S.state self.new.sockets) self.new.links.items }
         ensures keeps { Keeps (S.state self.old.sockets) self.old.links.items (S.state self.new.sockets) self.new.links.items }
     {
         let place = self.sent;
@@ -119,7 +136,7 @@ impl<S: Sockets + Drop> Hub<S> {
         let Some(link) = self.links.get_mut(place) else {
             return;
         };
-        let _ = link.push(&mut self.sockets, place as u32);
+        let _ = link.flush(&mut self.sockets, place as u32);
         self.turn = turn_past(self.turn, place);
     }
 
@@ -127,6 +144,8 @@ impl<S: Sockets + Drop> Hub<S> {
     /// open, where there is no memory for the piece, or where more would wait than may; nothing of it goes out then.
     pub fn send(&mut self, c: u32, piece: &[u8]) -> Result<(), Failed>
         ensures sockets { self.new.sockets ≡ self.old.sockets }
+        ensures idle { self.new.idle ≡ self.old.idle }
+        ensures there { AreThere self.old.links.items self.new.links.items }
         ensures takes { TakesSend result c piece.now (S.state self.old.sockets) self.old.links.items (S.state self.new.sockets) self.new.links.items }
     {
         let Some(link) = self.links.get_mut(c as usize) else {
@@ -145,15 +164,19 @@ impl<S: Sockets + Drop> Hub<S> {
     /// Whether a connection is open.
     pub fn is_open(&self, place: usize) -> bool
         requires { place < 128 }
-        ensures { IsTrue result → IsSomeAnd (slice_get self.entry.now.links.items place) (λ link. is_open link.stage ≡ true) }
+        ensures opens { IsTrue result → IsSomeAnd (slice_get self.entry.now.links.items place) (λ link. is_open link.stage ≡ true) }
+        ensures closed { result ≡ false → IfSome (slice_get self.entry.now.links.items place) (λ link. is_open link.stage ≡ false) }
     {
         self.links[place].is_open()
     }
 
-    /// Closes a connection behind what waits, where it is open.
+    /// Closes a connection behind what waits, where it is open. It is there still.
     pub fn close(&mut self, c: u32)
         ensures faults { (S.state self.new.sockets).faults ≡ (S.state self.old.sockets).faults }
         ensures told { (S.state self.new.sockets).told ≡ (S.state self.old.sockets).told }
+        ensures idle { self.new.idle ≡ self.old.idle }
+        ensures time { SameTime (S.state self.old.sockets) (S.state self.new.sockets) }
+        ensures closes { Closes c self.old.links.items self.new.links.items }
         ensures takes { Takes (Shut c) (S.state self.old.sockets) self.old.links.items (S.state self.new.sockets) self.new.links.items }
     {
         if let Some(link) = self.links.get_mut(c as usize) {
@@ -172,6 +195,11 @@ impl<S: Sockets + Drop> Hub<S> {
         ensures line { IfSome result (λ event. GivesLine event buf.new) }
         ensures faults { (S.state self.new.sockets).faults ≡ (S.state self.old.sockets).faults }
         ensures told { (S.state self.new.sockets).told ≡ (S.state self.old.sockets).told }
+        ensures idle { self.new.idle ≡ self.old.idle }
+        ensures time { SameTime (S.state self.old.sockets) (S.state self.new.sockets) }
+        ensures rest { (d : ℕ) → d ≢ place → slice_get self.new.links.items d ≡ slice_get self.old.links.items d }
+        ensures others { IsTrue (S.state self.old.sockets).told → Elsewhere place (S.state self.old.sockets) (S.state self.new.sockets) }
+        ensures lets { IsTrue (S.state self.old.sockets).told → LetsGo self.old.idle (S.state self.old.sockets) self.old.links.items (S.state self.new.sockets) self.new.links.items }
         ensures takes { TakesEvent result buf.new (S.state self.old.sockets) self.old.links.items (S.state self.new.sockets) self.new.links.items }
     {
         let c = place as u32;
@@ -198,7 +226,7 @@ impl<S: Sockets + Drop> Hub<S> {
     }
 
     /// Looks at the connections whose turn it is, up to one of which there is something to say. Of that it is the turn still while a
-    /// line of what is unread ends, until something is sent on it.
+    /// line of what is unread ends, until something is sent on it. A connection is let go only for a cause.
     pub fn pass(&mut self, buf: &mut [u8]) -> Option<Event>
         requires { 0 < length buf.old }
         ensures size { length buf.new ≡ length buf.old }
@@ -206,6 +234,9 @@ impl<S: Sockets + Drop> Hub<S> {
         ensures line { IfSome result (λ event. GivesLine event buf.new) }
         ensures faults { (S.state self.new.sockets).faults ≡ (S.state self.old.sockets).faults }
         ensures told { (S.state self.new.sockets).told ≡ (S.state self.old.sockets).told }
+        ensures idle { self.new.idle ≡ self.old.idle }
+        ensures time { SameTime (S.state self.old.sockets) (S.state self.new.sockets) }
+        ensures lets { IsTrue (S.state self.old.sockets).told → LetsGo self.old.idle (S.state self.old.sockets) self.old.links.items (S.state self.new.sockets) self.new.links.items }
         ensures takes { TakesEvent result buf.new (S.state self.old.sockets) self.old.links.items (S.state self.new.sockets) self.new.links.items }
     {
         'links: for place in self.turn..MAX_LINKS {
@@ -224,6 +255,8 @@ impl<S: Sockets + Drop> Hub<S> {
         ensures free { IfOk result (λ found. IfSome found (λ c. IsSomeAnd (slice_get self.old.links.items c) (λ link. is_there link.stage ≡ false))) }
         ensures cause { HasCause (S.state self.old.sockets).faults (S.state self.new.sockets).faults result }
         ensures told { (S.state self.new.sockets).told ≡ (S.state self.old.sockets).told }
+        ensures idle { self.new.idle ≡ self.old.idle }
+        ensures time { SameTime (S.state self.old.sockets) (S.state self.new.sockets) }
         ensures takes { TakesAccept result (S.state self.old.sockets) self.old.links.items (S.state self.new.sockets) self.new.links.items }
     {
         let Some(place) = free_number(&self.links) else {
@@ -249,6 +282,8 @@ impl<S: Sockets + Drop> Hub<S> {
         ensures line { IfOk result (λ found. IfSome found (λ event. GivesLine event buf.new)) }
         ensures cause { HasCause (S.state self.old.sockets).faults (S.state self.new.sockets).faults result }
         ensures told { (S.state self.new.sockets).told ≡ (S.state self.old.sockets).told }
+        ensures idle { self.new.idle ≡ self.old.idle }
+        ensures time { SameTime (S.state self.old.sockets) (S.state self.new.sockets) }
         ensures takes { TakesNext result buf.new (S.state self.old.sockets) self.old.links.items (S.state self.new.sockets) self.new.links.items }
     {
         self.flush();

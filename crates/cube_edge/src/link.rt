@@ -1,10 +1,11 @@
 // One connection over sockets.
-ghost use Rattle.std.specs.Prelude.{◌≡◌, List, ℕ, ◌≢◌, ◌<◌, ◌≤◌, ◌-◌, ◌++◌, ◌==◌, ◌&&◌, not, [], length, take, position, is_some, true, false, IsTrue, IfOk, OnOk, OnErr, Some, None, unwrap_or};
+ghost use Rattle.std.specs.Prelude.{◌≡◌, ◌⊎◌, List, ℕ, ◌≢◌, ◌<◌, ◌≤◌, ◌-◌, ◌++◌, ◌==◌, ◌&&◌, not, if◌then◌else◌, [], length, take, position, is_some, true, false, IsTrue, IfOk, OnOk, OnErr, Some, None, unwrap_or};
 ghost use Rattle.cube_edge.specs.declared.link.Look.TheVariants as look;
-ghost use Rattle.cube_edge.specs.Flows.{TurnTies, is_there, is_open};
+ghost use Rattle.cube_edge.specs.Ends.{EndsWell, Finds, Reads, Drops, Sees, IsUnmoved};
+ghost use Rattle.cube_edge.specs.Flows.{TurnTies};
 ghost use Rattle.cube_edge.specs.Lines.{is_feed};
-ghost use Rattle.cube_edge.specs.Links.{patience, is_late, closed_behind};
-ghost use Rattle.cube_edge.specs.Sockets.{OnlyOn, Elsewhere, MovedNothing, LookFits, LookTells, outgoing};
+ghost use Rattle.cube_edge.specs.Links.{patience, is_late, is_there, is_open, closed_behind};
+ghost use Rattle.cube_edge.specs.Sockets.{OnlyOn, Elsewhere, SameTime, LookFits, LookTells, outgoing, shut_if};
 
 use crate::lines::{first_line, has_line};
 use crate::sink::behind;
@@ -73,6 +74,13 @@ impl Link {
         }
     }
 
+    /// Whether there is one.
+    pub fn is_there(&self) -> bool
+        ensures { result ≡ is_there self.now.stage }
+    {
+        self.stage != Stage::Free
+    }
+
     /// Whether it is open.
     pub fn is_open(&self) -> bool
         ensures { result ≡ is_open self.now.stage }
@@ -121,9 +129,13 @@ impl Link {
         ensures only { OnlyOn c (S.state sockets.old) (S.state sockets.new) }
         ensures goes { IsTrue (S.state sockets.old).told
             → outgoing c (S.state sockets.new) self.new.waiting ≡ outgoing c (S.state sockets.old) self.old.waiting }
-        ensures taken { IsTrue (S.state sockets.old).told → (S.state sockets.new).taken c ≡ (S.state sockets.old).taken c }
+        ensures taken { IsTrue (S.state sockets.old).told → ((S.state sockets.new).socket c).taken ≡ ((S.state sockets.old).socket c).taken }
+        ensures gone { IsTrue (S.state sockets.old).told → OnErr result (((S.state sockets.new).socket c).gone ≡ true) }
+        ensures shut { IsTrue (S.state sockets.old).told → ((S.state sockets.new).socket c).shut ≡ ((S.state sockets.old).socket c).shut }
+        ensures none { self.old.waiting ≡ [] → self.new.waiting ≡ [] }
         ensures unread { self.new.unread ≡ self.old.unread }
         ensures moved { self.new.waiting ≢ self.old.waiting → self.new.still_since ≡ None }
+        ensures still { (self.new.still_since ≡ None) ⊎ (self.new.still_since ≡ self.old.still_since) }
         ensures stage { self.new.stage ≡ self.old.stage }
     {
         if self.waiting.is_empty() {
@@ -135,6 +147,31 @@ impl Link {
             self.still_since = None;
         }
         Ok(())
+    }
+
+    /// Writes of what waits as much as the connection takes. Where it is closed, and nothing waits then, the other side is told at
+    /// once that nothing more is written.
+    pub fn flush<S: Sockets>(&mut self, sockets: &mut S, c: u32) -> Result<(), Gone>
+        ensures only { OnlyOn c (S.state sockets.old) (S.state sockets.new) }
+        ensures goes { IsTrue (S.state sockets.old).told
+            → outgoing c (S.state sockets.new) self.new.waiting ≡ outgoing c (S.state sockets.old) self.old.waiting }
+        ensures taken { IsTrue (S.state sockets.old).told → ((S.state sockets.new).socket c).taken ≡ ((S.state sockets.old).socket c).taken }
+        ensures gone { IsTrue (S.state sockets.old).told → OnErr result (((S.state sockets.new).socket c).gone ≡ true) }
+        ensures ends { IsTrue (S.state sockets.old).told → EndsWell c (S.state sockets.old) self.old (S.state sockets.new) self.new }
+        ensures unread { is_open self.old.stage ≡ true → self.new.unread ≡ self.old.unread }
+        ensures still { IsUnmoved self.old self.new }
+        ensures there { is_there self.new.stage ≡ is_there self.old.stage }
+        ensures opens { is_open self.new.stage ≡ is_open self.old.stage }
+    {
+        match self.stage {
+            Stage::Open => self.push(sockets, c),
+            Stage::Closing => {
+                let pushed = self.push(sockets, c);
+                self.close(sockets, c);
+                pushed
+            }
+            Stage::Free | Stage::Finished => Ok(()),
+        }
     }
 
     /// Whether a line of what is unread ends.
@@ -194,7 +231,7 @@ impl Link {
         ensures only { OnlyOn c (S.state sockets.old) (S.state sockets.new) }
         ensures fits { LookFits result buf.new }
         ensures hears { IsTrue (S.state sockets.old).told → LookTells c result buf.new (S.state sockets.old) self.old.unread (S.state sockets.new) self.new.unread }
-        ensures given { IsTrue (S.state sockets.old).told → (S.state sockets.new).given c ≡ (S.state sockets.old).given c }
+        ensures sees { IsTrue (S.state sockets.old).told → Reads c result (S.state sockets.old) (S.state sockets.new) }
         ensures waiting { self.new.waiting ≡ self.old.waiting }
         ensures still { self.new.still_since ≡ self.old.still_since }
         ensures stage { self.new.stage ≡ self.old.stage }
@@ -216,7 +253,7 @@ impl Link {
         ensures only { OnlyOn c (S.state sockets.old) (S.state sockets.new) }
         ensures fits { LookFits result buf.new }
         ensures hears { IsTrue (S.state sockets.old).told → LookTells c result buf.new (S.state sockets.old) self.old.unread (S.state sockets.new) self.new.unread }
-        ensures given { IsTrue (S.state sockets.old).told → (S.state sockets.new).given c ≡ (S.state sockets.old).given c }
+        ensures sees { IsTrue (S.state sockets.old).told → Reads c result (S.state sockets.old) (S.state sockets.new) }
         ensures waiting { self.new.waiting ≡ self.old.waiting }
         ensures still { self.new.still_since ≡ self.old.still_since }
         ensures stage { self.new.stage ≡ self.old.stage }
@@ -229,14 +266,18 @@ impl Link {
 
     // Writes what waits, and gives the next line where nothing does.
     fn hear<S: Sockets>(&mut self, sockets: &mut S, c: u32, buf: &mut [u8]) -> Look
-        requires { 0 < length buf.old }
+        requires buf { 0 < length buf.old }
+        requires opens { is_open self.old.stage ≡ true }
         ensures size { length buf.new ≡ length buf.old }
         ensures only { OnlyOn c (S.state sockets.old) (S.state sockets.new) }
         ensures fits { LookFits result buf.new }
         ensures hears { IsTrue (S.state sockets.old).told → LookTells c result buf.new (S.state sockets.old) self.old.unread (S.state sockets.new) self.new.unread }
         ensures goes { IsTrue (S.state sockets.old).told
             → outgoing c (S.state sockets.new) self.new.waiting ≡ outgoing c (S.state sockets.old) self.old.waiting }
+        ensures sees { IsTrue (S.state sockets.old).told → Sees c result (S.state sockets.old) self.old (S.state sockets.new) self.new }
+        ensures ends { IsTrue (S.state sockets.old).told → EndsWell c (S.state sockets.old) self.old (S.state sockets.new) self.new }
         ensures moved { self.new.waiting ≢ self.old.waiting → self.new.still_since ≡ None }
+        ensures still { IsUnmoved self.old self.new }
         ensures stage { self.new.stage ≡ self.old.stage }
     {
         if self.push(sockets, c).is_err() {
@@ -248,10 +289,11 @@ impl Link {
         self.next_line(sockets, c, buf)
     }
 
-    /// Closes it behind what waits. What is unread is dropped.
+    /// Closes it behind what waits; where nothing does, the other side is told that nothing more is written. What is unread is dropped.
     pub fn close<S: Sockets>(&mut self, sockets: &mut S, c: u32)
-        ensures faults { (S.state sockets.new).faults ≡ (S.state sockets.old).faults }
-        ensures quiet { MovedNothing (S.state sockets.old) (S.state sockets.new) }
+        ensures only { OnlyOn c (S.state sockets.old) (S.state sockets.new) }
+        ensures shut { IsTrue (S.state sockets.old).told → (S.state sockets.new).socket c ≡ shut_if (length self.old.waiting == 0) ((S.state sockets.old).socket c) }
+        ensures still { (self.new.still_since ≡ None) ⊎ ((self.new.still_since ≡ self.old.still_since) × (0 < length self.old.waiting)) }
         ensures waiting { self.new.waiting ≡ self.old.waiting }
         ensures unread { self.new.unread ≡ [] }
         ensures stage { self.new.stage ≡ closed_behind self.old.waiting }
@@ -265,27 +307,60 @@ impl Link {
         }
     }
 
-    // Writes what waits, says behind it that nothing more is written, and drops what comes.
-    fn wind_up<S: Sockets>(&mut self, sockets: &mut S, c: u32, buf: &mut [u8]) -> Look
+    // Drops what comes, until it was too much. It is no more where nothing waits and nothing comes, or too much came.
+    fn drop_bytes<S: Sockets>(&mut self, sockets: &mut S, c: u32, buf: &mut [u8]) -> Look
         requires { 0 < length buf.old }
+        ensures size { length buf.new ≡ length buf.old }
+        ensures only { OnlyOn c (S.state sockets.old) (S.state sockets.new) }
+        ensures sees { IsTrue (S.state sockets.old).told → Drops c result (S.state sockets.old) self.old.waiting (S.state sockets.new) }
+        ensures none { (bytes : List ℕ) → LookFits result bytes }
+        ensures waiting { self.new.waiting ≡ self.old.waiting }
+        ensures still { self.new.still_since ≡ self.old.still_since }
+        ensures stage { self.new.stage ≡ self.old.stage }
+    {
+        if self.dropped > MAX_DROPPED {
+            return self.look_waiting();
+        }
+        match sockets.read(c, buf) {
+            Ok(Some(count)) => {
+                self.dropped = self.dropped.saturating_add(count);
+                Look::Quiet
+            }
+            Ok(None) => Look::Quiet,
+            Err(Gone) => self.look_waiting(),
+        }
+    }
+
+    // It is no more where nothing waits.
+    fn look_waiting(&self) -> Look
+        ensures { result ≡ (if length self.now.waiting == 0 then look.Gone else look.Quiet) }
+    {
+        if self.waiting.is_empty() {
+            Look::Gone
+        } else {
+            Look::Quiet
+        }
+    }
+
+    // Writes what waits, tells the other side behind it that nothing more is written, and drops what comes.
+    fn wind_up<S: Sockets>(&mut self, sockets: &mut S, c: u32, buf: &mut [u8]) -> Look
+        requires buf { 0 < length buf.old }
+        requires closed { is_open self.old.stage ≡ false }
         ensures size { length buf.new ≡ length buf.old }
         ensures only { OnlyOn c (S.state sockets.old) (S.state sockets.new) }
         ensures goes { IsTrue (S.state sockets.old).told
             → outgoing c (S.state sockets.new) self.new.waiting ≡ outgoing c (S.state sockets.old) self.old.waiting }
+        ensures sees { IsTrue (S.state sockets.old).told → Sees c result (S.state sockets.old) self.old (S.state sockets.new) self.new }
+        ensures ends { IsTrue (S.state sockets.old).told → EndsWell c (S.state sockets.old) self.old (S.state sockets.new) self.new }
         ensures none { (bytes : List ℕ) → LookFits result bytes }
-        ensures open { is_open self.old.stage ≡ false → is_open self.new.stage ≡ false }
+        ensures still { IsUnmoved self.old self.new }
+        ensures there { is_there self.new.stage ≡ is_there self.old.stage }
+        ensures opens { is_open self.new.stage ≡ false }
     {
-        if self.push(sockets, c).is_err() {
+        if self.flush(sockets, c).is_err() {
             return Look::Gone;
         }
-        if self.stage == Stage::Closing {
-            self.close(sockets, c);
-        }
-        match sockets.read(c, buf) {
-            Ok(Some(count)) => self.drop_bytes(count),
-            Err(Gone) if self.waiting.is_empty() => Look::Gone,
-            Err(Gone) | Ok(None) => Look::Quiet,
-        }
+        self.drop_bytes(sockets, c, buf)
     }
 
     /// Writes what waits. An open connection gives its next line where nothing waits, and of another what comes is dropped.
@@ -298,9 +373,12 @@ impl Link {
             → outgoing c (S.state sockets.new) self.new.waiting ≡ outgoing c (S.state sockets.old) self.old.waiting }
         ensures hears { IsTrue (S.state sockets.old).told → is_open self.old.stage ≡ true
             → LookTells c result buf.new (S.state sockets.old) self.old.unread (S.state sockets.new) self.new.unread }
+        ensures sees { IsTrue (S.state sockets.old).told → Sees c result (S.state sockets.old) self.old (S.state sockets.new) self.new }
+        ensures ends { IsTrue (S.state sockets.old).told → EndsWell c (S.state sockets.old) self.old (S.state sockets.new) self.new }
         ensures none { is_open self.old.stage ≡ false → (bytes : List ℕ) → LookFits result bytes }
-        ensures there { is_there self.old.stage ≡ false → is_there self.new.stage ≡ false }
-        ensures open { is_open self.new.stage ≡ is_open self.old.stage }
+        ensures still { IsUnmoved self.old self.new }
+        ensures there { is_there self.new.stage ≡ is_there self.old.stage }
+        ensures opens { is_open self.new.stage ≡ is_open self.old.stage }
     {
         match self.stage {
             Stage::Free => Look::Quiet,
@@ -309,7 +387,7 @@ impl Link {
         }
     }
 
-    /// Looks at it, and lets it go where it is no more or was still for too long.
+    /// Looks at it, and lets it go where it is at its end or was still for too long; `now` is the time that the sockets told last.
     pub fn turn<S: Sockets>(
         &mut self,
         alloc: Global,
@@ -319,11 +397,14 @@ impl Link {
         now: u64,
         idle: u64,
     ) -> Look
-        requires { 0 < length buf.old }
+        requires buf { 0 < length buf.old }
+        requires clock { IsTrue (S.state sockets.old).told → now ≡ (S.state sockets.old).clock }
         ensures size { length buf.new ≡ length buf.old }
         ensures fits { LookFits result buf.new }
         ensures faults { (S.state sockets.new).faults ≡ (S.state sockets.old).faults }
         ensures told { (S.state sockets.new).told ≡ (S.state sockets.old).told }
+        ensures time { SameTime (S.state sockets.old) (S.state sockets.new) }
+        ensures finds { IsTrue (S.state sockets.old).told → Finds c idle result (S.state sockets.old) self.old (S.state sockets.new) self.new }
         ensures others { IsTrue (S.state sockets.old).told → Elsewhere c (S.state sockets.old) (S.state sockets.new) }
         ensures ties { IsTrue (S.state sockets.old).told → TurnTies c result buf.new (S.state sockets.old) self.old (S.state sockets.new) self.new }
     {
@@ -335,19 +416,5 @@ impl Link {
         *self = Link::new(alloc, Stage::Free);
         sockets.close(c);
         Look::Gone
-    }
-
-    // Drops bytes that came, until they are too many.
-    fn drop_bytes(&mut self, count: usize) -> Look
-        ensures waiting { self.new.waiting ≡ self.old.waiting }
-        ensures stage { self.new.stage ≡ self.old.stage }
-        ensures none { (buf : List ℕ) → LookFits result buf }
-    {
-        self.dropped = self.dropped.saturating_add(count);
-        if self.dropped > MAX_DROPPED {
-            Look::Gone
-        } else {
-            Look::Quiet
-        }
     }
 }

@@ -16,7 +16,7 @@ pub struct MemWatch {
     alloc: Global,
     scroll: Scroll,
     free: usize,
-    heard: Vec<Text>,
+    heard: Vec<(Text, u32)>,
     faults: u64,
     ghost owing: { owed_by scroll.log + free ≤ scroll.entries_left },
 }
@@ -86,12 +86,12 @@ impl Watch for MemWatch {
         }
     }
 
-    fn listen(&mut self, address: &Text) -> Result<(), Failed> {
+    fn listen(&mut self, address: &Text, idle: u32) -> Result<(), Failed> {
         let name = match Text::from_bytes(self.alloc, address.as_slice()) {
             Ok(name) => name,
             Err(_) => return Err(self.fail()),
         };
-        match self.heard.push(name) {
+        match self.heard.push((name, idle)) {
             Ok(()) => Ok(()),
             Err(_) => Err(self.fail()),
         }

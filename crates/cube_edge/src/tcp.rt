@@ -1,5 +1,5 @@
 // The sockets of the machine.
-ghost use Rattle.std.specs.Prelude.{◌≡◌, ◌<◌, ◌≤◌, length, IfOk, IfSome};
+ghost use Rattle.std.specs.Prelude.{◌≡◌, ◌<◌, ◌≤◌, false, length, IfOk, IfSome};
 ghost use Rattle.cube_io.specs.Causes.{Rose};
 ghost use Rattle.cube_edge.specs.Sockets.{silent_sockets};
 
@@ -234,7 +234,9 @@ fn mark(door: &mut Door, streams: &mut [Option<Stream>], event: &Event) {
 
 impl<'a, R: Net + Clock, N: Write + Drop> TcpSockets<'a, R, N> {
     /// Sockets of which none listens.
-    pub fn new(alloc: Global, rt: &'a R, notes: N) -> Result<Self, NoMemory> {
+    pub fn new(alloc: Global, rt: &'a R, notes: N) -> Result<Self, NoMemory>
+        ensures told { IfOk result (λ sockets. (⟦<TcpSockets<'a, R, N> as Sockets>⟧.state sockets).told ≡ false) }
+    {
         Ok(TcpSockets {
             rt,
             notes,

@@ -1,10 +1,9 @@
 // Who is told of what happens on a wire.
 ghost use Rattle.std.specs.Prelude.{◌≡◌, ◌↔◌, ◌<◌, ◌≤◌, length, IsTrue, OnOk, OnErr};
 ghost use Rattle.cube_io.specs.Causes.{HasCause};
-ghost use Rattle.cube_io.specs.Told.{AsksFor};
 ghost use Rattle.cube_io.specs.Wires.{FitsBuffer, IsOpen, IsSound, arrival_of};
 ghost use Rattle.cube_io.specs.Wires.LogEntry.{Heard, Sent, Torn, Shut};
-ghost use Rattle.cube_edge.specs.Watches.{WatchState, Notes, no_watch};
+ghost use Rattle.cube_edge.specs.Watches.{WatchState, Notes, HearsOf, no_watch};
 
 use cube_io::{Event, Failed};
 use cube_model::Text;
@@ -29,12 +28,12 @@ pub trait Watch {
         ensures log { IsTrue (state self.old).told → (state self.new).log ≡ (state self.old).log }
         ensures heard { IsTrue (state self.old).told → (state self.new).heard ≡ (state self.old).heard };
 
-    /// The wire is to listen on an address.
-    fn listen(&mut self, address: &Text) -> Result<(), Failed>
+    /// The wire is to listen on an address, where a connection may be still for so many seconds.
+    fn listen(&mut self, address: &Text, idle: u32) -> Result<(), Failed>
         ensures cause { HasCause (state self.old).faults (state self.new).faults result }
         ensures told { (state self.new).told ≡ (state self.old).told }
         ensures log { IsTrue (state self.old).told → (state self.new).log ≡ (state self.old).log }
-        ensures heard { IsTrue (state self.old).told → AsksFor result (state self.old).heard (state self.new).heard address.now };
+        ensures heard { IsTrue (state self.old).told → HearsOf result (state self.old).heard (state self.new).heard address.now idle };
 
     /// An event came. The bytes of a piece stand at the front of the buffer.
     fn hear(&mut self, event: Event, buf: &[u8])
@@ -74,7 +73,7 @@ impl Watch for NoWatch {
         Ok(())
     }
 
-    fn listen(&mut self, _address: &Text) -> Result<(), Failed> {
+    fn listen(&mut self, _address: &Text, _idle: u32) -> Result<(), Failed> {
         Ok(())
     }
 

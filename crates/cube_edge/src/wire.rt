@@ -1,10 +1,13 @@
 // The wire over sockets.
-ghost use Rattle.std.specs.Prelude.{◌≡◌, ◌<◌, ⊤, [], length, IsTrue, IfOk, IfSome};
-ghost use Rattle.cube_io.specs.Causes.{HasCause};
-ghost use Rattle.cube_io.specs.Wires.{FitsBuffer};
+ghost use Rattle.std.specs.Prelude.{◌≡◌, ◌<◌, ◌≤◌, ⊤, [], length, IsTrue, IfOk, IfSome};
+ghost use Rattle.cube_io.specs.Causes.{HasCause, Rose};
+ghost use Rattle.cube_io.specs.Wires.{FitsBuffer, IsOpen};
+ghost use Rattle.cube_io.specs.Wires.LogEntry.{Shut};
+ghost use Rattle.cube_edge.specs.Ends.{Closes, LetsGo, NoneOpen, Settles, idle_of};
 ghost use Rattle.cube_edge.specs.Flows.{AreTied};
 ghost use Rattle.cube_edge.specs.Lines.{GivesLine};
-ghost use Rattle.cube_edge.specs.Watches.{NotesNext, wire_over};
+ghost use Rattle.cube_edge.specs.Sockets.{SameTime};
+ghost use Rattle.cube_edge.specs.Watches.{Notes, NotesNext, wire_over};
 
 use crate::hub::{Hub, MAX_LINKS};
 use crate::sockets::Sockets;
@@ -40,14 +43,16 @@ pub struct SocketWire<S: Sockets + Drop, N: Watch + Drop> {
     watch: N,
     send_faults: u64,
     ghost tells: { IsTrue (N.state watch).told → IsTrue (S.state hub.sockets).told },
+    ghost heeds: { IsTrue (N.state watch).told → hub.idle ≡ idle_of 0 (N.state watch).heard },
     ghost tied: { IsTrue (N.state watch).told → AreTied (S.state hub.sockets) (N.state watch).log hub.links.items },
 }
 
 impl<S: Sockets + Drop, N: Watch + Drop> SocketWire<S, N> {
-    /// A wire that does not listen yet. A watch that tells was told of nothing yet.
+    /// A wire that does not listen yet. Sockets that tell told no time yet, and a watch that tells was told of nothing yet.
     pub fn new(alloc: Global, sockets: S, watch: N) -> Result<Self, NoMemory>
         requires tells { IsTrue (N.state watch).told → IsTrue (S.state sockets).told }
-        requires fresh { IsTrue (N.state watch).told → (N.state watch).log ≡ [] }
+        requires clock { IsTrue (S.state sockets).told → (S.state sockets).clock ≡ 0 }
+        requires fresh { IsTrue (N.state watch).told → ((N.state watch).log ≡ []) × ((N.state watch).heard ≡ []) }
         ensures { IfOk result (λ wire. ⟦<SocketWire<S, N> as Wire>⟧.state wire ≡ wire_over (S.state sockets) (N.state watch) 0) }
     {
         Ok(SocketWire {
@@ -72,18 +77,52 @@ impl<S: Sockets + Drop, N: Watch + Drop> SocketWire<S, N> {
     }
 
     /// Closes each connection behind what waits, and waits until they are closed, for at most two seconds.
-    pub fn settle(&mut self) {
-        let mut buf = [0u8; 4_096];
+    pub fn settle(&mut self)
+        ensures closes { IsTrue (S.state self.old.hub.sockets).told → NoneOpen self.new.hub.links.items }
+        ensures settles { IsTrue (S.state self.old.hub.sockets).told → Settles (S.state self.old.hub.sockets).clock (S.state self.old.hub.sockets).faults (S.state self.new.hub.sockets) self.new.hub.links.items (N.state self.new.watch).capacity }
+    {
+        self.close_all();
+        if self.wait(0).is_ok() {
+            self.drain(self.hub.now);
+        }
+    }
+
+    // Closes each connection behind what waits.
+    fn close_all(&mut self)
+        ensures closes { NoneOpen self.new.hub.links.items }
+        ensures told { (S.state self.new.hub.sockets).told ≡ (S.state self.old.hub.sockets).told }
+        ensures faults { (S.state self.new.hub.sockets).faults ≡ (S.state self.old.hub.sockets).faults }
+        ensures time { SameTime (S.state self.old.hub.sockets) (S.state self.new.hub.sockets) }
+    {
         for c in 0..MAX_LINKS {
             if self.hub.is_open(c) {
-                self.close(c as u32);
+                self.shut(c as u32);
             }
         }
-        if self.wait(0).is_err() {
-            return;
-        }
-        let start = self.hub.now;
-        'waits: for _ in 0..u64::MAX {
+    }
+
+    // Closes a connection.
+    fn shut(&mut self, c: u32)
+        requires { IsTrue (N.state self.old.watch).told → IsOpen c (N.state self.old.watch).log }
+        ensures closes { Closes c self.old.hub.links.items self.new.hub.links.items }
+        ensures told { (S.state self.new.hub.sockets).told ≡ (S.state self.old.hub.sockets).told }
+        ensures faults { (S.state self.new.hub.sockets).faults ≡ (S.state self.old.hub.sockets).faults }
+        ensures time { SameTime (S.state self.old.hub.sockets) (S.state self.new.hub.sockets) }
+        ensures sends { self.new.send_faults ≡ self.old.send_faults }
+        ensures notes { Notes (Shut c) (N.state self.old.watch) (N.state self.new.watch) }
+    {
+        self.hub.close(c);
+        self.watch.shut(c);
+    }
+
+    // Waits until no connection is left, for at most two seconds from a time on.
+    fn drain(&mut self, start: u64)
+        requires { IsTrue (S.state self.old.hub.sockets).told → NoneOpen self.old.hub.links.items }
+        ensures closes { IsTrue (S.state self.old.hub.sockets).told → NoneOpen self.new.hub.links.items }
+        ensures settles { IsTrue (S.state self.old.hub.sockets).told → Settles start (S.state self.old.hub.sockets).faults (S.state self.new.hub.sockets) self.new.hub.links.items (N.state self.new.watch).capacity }
+    {
+        let mut buf = [0u8; 4_096];
+        'waits: for _wait in 0..u64::MAX {
             if !self.watch.takes(buf.len()) {
                 return;
             }
@@ -102,6 +141,10 @@ impl<S: Sockets + Drop, N: Watch + Drop> SocketWire<S, N> {
         requires buf { 0 < length buf.old }
         requires capacity { length buf.old < (N.state self.old.watch).capacity }
         ensures size { length buf.new ≡ length buf.old }
+        ensures told { (S.state self.new.hub.sockets).told ≡ (S.state self.old.hub.sockets).told }
+        ensures faults { (S.state self.new.hub.sockets).faults ≡ (S.state self.old.hub.sockets).faults }
+        ensures time { SameTime (S.state self.old.hub.sockets) (S.state self.new.hub.sockets) }
+        ensures lets { IsTrue (S.state self.old.hub.sockets).told → LetsGo self.old.hub.idle (S.state self.old.hub.sockets) self.old.hub.links.items (S.state self.new.hub.sockets) self.new.hub.links.items }
     {
         let Some(event) = self.hub.pass(buf) else {
             return;
@@ -112,6 +155,10 @@ impl<S: Sockets + Drop, N: Watch + Drop> SocketWire<S, N> {
     // Waits for something to do.
     fn wait(&mut self, millis: u64) -> Result<(), Failed>
         ensures cause { HasCause (S.state self.old.hub.sockets).faults (S.state self.new.hub.sockets).faults result }
+        ensures told { (S.state self.new.hub.sockets).told ≡ (S.state self.old.hub.sockets).told }
+        ensures later { IsTrue (S.state self.old.hub.sockets).told → (S.state self.old.hub.sockets).clock ≤ (S.state self.new.hub.sockets).clock }
+        ensures counted { IsTrue (S.state self.old.hub.sockets).told → Rose (S.state self.old.hub.sockets).waits (S.state self.new.hub.sockets).waits }
+        ensures links { self.new.hub.links ≡ self.old.hub.links }
         ensures sends { self.new.send_faults ≡ self.old.send_faults }
         ensures quiet { N.state self.new.watch ≡ N.state self.old.watch }
     {
@@ -147,7 +194,7 @@ impl<S: Sockets + Drop, N: Watch + Drop> Wire for SocketWire<S, N> {
     ghost allows = { λ store log. ⊤ };
 
     fn listen(&mut self, address: &Text, idle: u32) -> Result<(), Failed> {
-        match self.watch.listen(address) {
+        match self.watch.listen(address, idle) {
             Ok(()) => self.hub.listen(address, idle),
             Err(Failed) => Err(Failed),
         }
@@ -188,7 +235,6 @@ impl<S: Sockets + Drop, N: Watch + Drop> Wire for SocketWire<S, N> {
     }
 
     fn close(&mut self, c: u32) {
-        self.hub.close(c);
-        self.watch.shut(c);
+        self.shut(c);
     }
 }

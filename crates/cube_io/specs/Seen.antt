@@ -32,14 +32,14 @@ pub record StoreState : Type 0 where
   pub names : List (List ℕ)
   pub calls : ℕ
 
--- of a wire: how often it failed, and a send on it, whether it tells its log, the log, the addresses that it was asked for, and what
--- it is to play
+-- of a wire: how often it failed, and a send on it, whether it tells its log, the log, the addresses that it was asked for, each with the
+-- seconds that a connection may be still there, and what it is to play
 pub record WireState : Type 0 where
   pub faults : ℕ
   pub send_faults : ℕ
   pub told : Bool
   pub log : List LogEntry
-  pub heard : List (List ℕ)
+  pub heard : List (List ℕ × ℕ)
   pub plan : Plan
 
 -- An object before a run and after it, and what it told of itself.

@@ -41,7 +41,12 @@ silent_wire faults send_faults = record { faults = faults; send_faults = send_fa
 
 -- ---- names and addresses
 
--- it was asked for; after a failed call it may lack
+-- a name was asked for; after a failed call it may lack
 abbrev pub AsksFor : Result (Unit {0}) Failed → List (List ℕ) → List (List ℕ) → List ℕ → Type 0
 AsksFor (Ok u) old new name = new ≡ old ++ name ∷ []
 AsksFor (Err e) old new name = (new ≡ old) ⊎ (new ≡ old ++ name ∷ [])
+
+-- an address was asked for, where a connection may be still for so many seconds; after a failed call it may lack
+abbrev pub ListensOn : Result (Unit {0}) Failed → List (List ℕ × ℕ) → List (List ℕ × ℕ) → List ℕ → ℕ → Type 0
+ListensOn (Ok u) old new address idle = new ≡ old ++ (address, idle) ∷ []
+ListensOn (Err e) old new address idle = (new ≡ old) ⊎ (new ≡ old ++ (address, idle) ∷ [])

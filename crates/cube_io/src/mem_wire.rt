@@ -1,21 +1,14 @@
 // A wire in memory that plays some events.
-ghost use Rattle.std.specs.Prelude.{◌≡◌, ⊤, [], true, length, IfOk};
-ghost use Rattle.cube_io.specs.Mem.{names_in};
+ghost use Rattle.std.specs.Prelude.{◌≡◌, ⊤, [], ◌∷◌, ◌++◌, true, length, IfOk, OnOk, OnErr};
 ghost use Rattle.cube_io.specs.Scrolls.{entry_of, is_event};
 ghost use Rattle.cube_io.specs.Wires.{NextTells, FitsBuffer, arrival_of, no_plan};
 ghost use Rattle.cube_io.specs.Wires.LogEntry.{Heard};
 
-use crate::record::{Record, Target};
 use crate::scroll::Note;
 use crate::wire_log::WireLog;
 use crate::{Event, Failed, Store, Wire};
 use cube_model::{NoMemory, Text};
 use std::alloc::Global;
-
-// Room for how many addresses, and for how many bytes of them.
-const ADDRESSES: usize = 8;
-
-const ADDRESS_BYTES: usize = 1_024;
 
 /// An event that a wire in memory plays.
 #[derive(Drop)]
@@ -36,13 +29,14 @@ pub struct FailingSend {
 }
 
 /// A wire in memory. It plays its events, of which the last is the end, and tells its log. It fails at the calls that it is
-/// told, and where its space is used up.
+/// told, and where its space is used up or there is no memory for an address.
 #[derive(Drop)]
 pub struct MemWire {
+    alloc: Global,
     plays: Vec<Play>,
     at: usize,
     log: WireLog,
-    heard: Record,
+    heard: Vec<(Text, u32)>,
     failing_nexts: Vec<u64>,
     failing_sends: Vec<FailingSend>,
     nexts: u64,
@@ -69,10 +63,11 @@ impl MemWire {
         ensures send_faults { IfOk result (λ wire. (⟦<MemWire as Wire>⟧.state wire).send_faults ≡ 0) }
     {
         Ok(MemWire {
+            alloc,
             plays,
             at: 0,
             log: WireLog::with_capacity(alloc, entries, bytes)?,
-            heard: Record::with_capacity(alloc, ADDRESSES, ADDRESS_BYTES)?,
+            heard: Vec::new(alloc),
             failing_nexts,
             failing_sends,
             nexts: 0,
@@ -120,6 +115,21 @@ fn note_piece(log: &mut WireLog, c: u32, bytes: &[u8], buf: &mut [u8]) -> Result
     Ok(Event::Piece(c, n))
 }
 
+// Remembers an address, and how many seconds a connection may be still there.
+fn hear_address(
+    alloc: Global,
+    heard: &mut Vec<(Text, u32)>,
+    address: &Text,
+    idle: u32,
+) -> Result<(), NoMemory>
+    ensures ok { OnOk result (heard.new.items ≡ heard.old.items ++ (address.now, idle) ∷ []) }
+    ensures err { OnErr result (heard.new.items ≡ heard.old.items) }
+{
+    let name = Text::from_bytes(alloc, address.as_slice())?;
+    heard.push((name, idle))?;
+    Ok(())
+}
+
 // Plays an event.
 fn play_next(log: &mut WireLog, play: Option<&Play>, buf: &mut [u8]) -> Result<Event, Failed>
     requires { length buf.old ≡ 65536 }
@@ -135,14 +145,14 @@ fn play_next(log: &mut WireLog, play: Option<&Play>, buf: &mut [u8]) -> Result<E
 }
 
 impl Wire for MemWire {
-    ghost state = { λ w. record { faults = w.faults; send_faults = w.send_faults; told = true; log = w.log.scroll.log; heard = names_in w.heard; plan = no_plan } };
+    ghost state = { λ w. record { faults = w.faults; send_faults = w.send_faults; told = true; log = w.log.scroll.log; heard = w.heard.items; plan = no_plan } };
 
     ghost allows = { λ store log. ⊤ };
 
-    fn listen(&mut self, address: &Text, _idle: u32) -> Result<(), Failed> {
-        match self.heard.write(Target::Names, address.as_slice()) {
+    fn listen(&mut self, address: &Text, idle: u32) -> Result<(), Failed> {
+        match hear_address(self.alloc, &mut self.heard, address, idle) {
             Ok(()) => Ok(()),
-            Err(_) => {
+            Err(NoMemory) => {
                 self.faults = self.faults.saturating_add(1);
                 Err(Failed)
             }

@@ -2,7 +2,7 @@
 ghost use Rattle.std.specs.Prelude.{◌≡◌, List, [], ◌∷◌, ◌++◌, length, IsTrue, IfOk};
 ghost use Rattle.cube_io.specs.Causes.{HasCause};
 ghost use Rattle.cube_io.specs.Seen.{StoreState, WireState};
-ghost use Rattle.cube_io.specs.Told.{AsksFor, PlaysOn};
+ghost use Rattle.cube_io.specs.Told.{ListensOn, PlaysOn};
 ghost use Rattle.cube_io.specs.Wires.{LogEntry, FitsBuffer, IsOpen, IsSound, SendTells, NextTells};
 ghost use Rattle.cube_io.specs.Wires.LogEntry.{Shut};
 
@@ -32,13 +32,14 @@ pub trait Wire {
     /// for those to say who give the wire: who serves it has to show it, whatever it is.
     ghost allows: { StoreState → List LogEntry → Type 0 };
 
-    /// Listens on an address. A connection that is still for so many seconds may be closed; none where they are 0.
+    /// Listens on an address. A connection that is still for so many seconds may be closed; none where they are 0. What it heard
+    /// is the address with the seconds.
     fn listen(&mut self, address: &Text, idle: u32) -> Result<(), Failed>
         ensures cause { HasCause (state self.old).faults (state self.new).faults result }
         ensures sends { (state self.new).send_faults ≡ (state self.old).send_faults }
         ensures told { (state self.new).told ≡ (state self.old).told }
         ensures log { IsTrue (state self.old).told → (state self.new).log ≡ (state self.old).log }
-        ensures heard { IsTrue (state self.old).told → AsksFor result (state self.old).heard (state self.new).heard address.now };
+        ensures heard { IsTrue (state self.old).told → ListensOn result (state self.old).heard (state self.new).heard address.now idle };
 
     /// The next event. The bytes of a piece stand at the front of the buffer.
     fn next<S: Store>(&mut self, store: &S, buf: &mut [u8]) -> Result<Event, Failed>

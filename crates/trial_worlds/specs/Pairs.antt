@@ -14,8 +14,8 @@ behind name beside file other path = if bytes_eq path name then file else if byt
 abbrev pub log_at : FilePair → List ℕ → Log
 log_at files path = behind files.name files.beside (log_of files.file) (log_of files.other) path
 
-abbrev pub disk_over : FilePair → List (List ℕ) → Option (List ℕ) → DiskState
-disk_over files names seen = record { told = true; name = files.name; names = names; logs = log_at files; seen = seen }
+abbrev pub disk_over : FilePair → List (List ℕ) → Option (List ℕ) → ℕ → DiskState
+disk_over files names seen refused = record { told = true; name = files.name; names = names; logs = log_at files; seen = seen; refused = refused }
 
 pub files_whole : (files : FilePair) (path : List ℕ) → IsWhole (log_at files path).state
 files_whole files path = by (bytes_eq path files.name) (bytes_eq path files.beside)

@@ -1,5 +1,6 @@
 // A disk in memory with two files, whose calls fail where they are told to.
-ghost use Rattle.std.specs.Prelude.{◌≡◌, ◌≤◌, ◌++◌, [], Some, None, true, drop, length, IfSome, if◌then◌else◌};
+ghost use Rattle.cube_io.specs.Causes.{Rose};
+ghost use Rattle.std.specs.Prelude.{◌≡◌, ◌≤◌, ◌<◌, ◌++◌, [], Some, None, IfNone, true, false, drop, length, IfSome, if◌then◌else◌};
 ghost use Rattle.trial_worlds.specs.Pairs.{disk_over, files_whole};
 
 use crate::file_pair::{FilePair, no_space};
@@ -37,10 +38,13 @@ pub struct MemDisk {
     most: usize,
     failing: Vec<u64>,
     calls: u64,
+    refused: u64,
+    ghost some: { 0 < most },
 }
 
 impl MemDisk {
     pub fn new(alloc: Global, name: Text, beside: Text, most: usize, failing: Vec<u64>) -> Self
+        requires { 0 < most }
         ensures { (⟦<MemDisk as Disk>⟧.state result).told ≡ true }
     {
         MemDisk {
@@ -59,6 +63,7 @@ impl MemDisk {
             most,
             failing,
             calls: 0,
+            refused: 0,
         }
     }
 
@@ -69,15 +74,49 @@ impl MemDisk {
         self.files.bytes_at(path)
     }
 
-    // Counts a call, and says whether it is to fail.
+    // Counts a call, and says whether it is to fail. If so, it counts as refused.
     fn fails(&mut self) -> bool
         ensures files { self.new.files ≡ self.old.files }
         ensures names { self.new.names ≡ self.old.names }
         ensures seen { self.new.seen ≡ self.old.seen }
+        ensures most { self.new.most ≡ self.old.most }
+        ensures well { result ≡ false → self.new.refused ≡ self.old.refused }
+        ensures later { self.old.refused ≤ self.new.refused }
+        ensures rose { result ≡ true → Rose self.old.refused self.new.refused }
     {
         let call = self.calls;
         self.calls = call.saturating_add(1);
-        self.failing.contains(&call)
+        let fails = self.failing.contains(&call);
+        if fails {
+            self.refuse();
+        }
+        fails
+    }
+
+    // Why a path does not stand for a file as it was left, if it does not.
+    fn trouble_with(&self, file: &MemFile, path: &str, left: Extent) -> Option<Trouble>
+        ensures { IfNone result (file.now.path ≡ path.now) }
+    {
+        if file.path.as_slice() != path.as_bytes() {
+            return Some(Trouble::Moved);
+        }
+        match self.files.bytes_at(path.as_bytes()) {
+            Some(bytes) if left.allows(bytes.len() as u64) => None,
+            Some(_) => Some(Trouble::Changed),
+            None => Some(Trouble::Moved),
+        }
+    }
+
+    // Counts a call that is refused.
+    fn refuse(&mut self)
+        ensures files { self.new.files ≡ self.old.files }
+        ensures names { self.new.names ≡ self.old.names }
+        ensures seen { self.new.seen ≡ self.old.seen }
+        ensures most { self.new.most ≡ self.old.most }
+        ensures later { self.old.refused ≤ self.new.refused }
+        ensures rose { Rose self.old.refused self.new.refused }
+    {
+        self.refused = self.refused.saturating_add(1);
     }
 }
 
@@ -85,6 +124,7 @@ impl MemDisk {
 pub(crate) fn front(piece: &[u8], most: usize) -> &[u8]
     ensures rest { piece.now ≡ result.now ++ drop (length result.now) piece.now }
     ensures short { length result.now ≤ length piece.now }
+    ensures some { 0 < most → 0 < length piece.now → 0 < length result.now }
 {
     match piece.get(..most) {
         Some(front) => front,
@@ -97,22 +137,30 @@ impl Disk for MemDisk {
 
     type File = MemFile;
 
-    ghost state = { λ s. disk_over s.files s.names (if s.seen.any then Some s.seen.path else None) };
+    ghost state = { λ s. disk_over s.files s.names (if s.seen.any then Some s.seen.path else None) s.refused };
 
     ghost place = { λ file. file.path };
 
     ghost whole = { λ s p told. files_whole s.files p };
 
     fn attach(&mut self, name: &str) -> Result<(), Failed> {
-        if self.fails() || name.as_bytes() != self.files.name.as_slice() {
+        if self.fails() {
+            return Err(Failed);
+        }
+        if name.as_bytes() != self.files.name.as_slice() {
+            self.refuse();
             return Err(Failed);
         }
         let Ok(name) = Text::from_bytes(self.alloc, name.as_bytes()) else {
+            self.refuse();
             return Err(Failed);
         };
         match self.names.push(name) {
             Ok(()) => Ok(()),
-            Err(_) => Err(Failed),
+            Err(_) => {
+                self.refuse();
+                Err(Failed)
+            }
         }
     }
 
@@ -122,7 +170,10 @@ impl Disk for MemDisk {
         }
         match Text::from_bytes(self.alloc, path.as_bytes()) {
             Ok(path) => Ok(MemFile { path }),
-            Err(_) => Err(no_space()),
+            Err(_) => {
+                self.refuse();
+                Err(no_space())
+            }
         }
     }
 
@@ -139,27 +190,30 @@ impl Disk for MemDisk {
         }
         match self.files.bytes_at(file.path.as_slice()) {
             Some(bytes) => Ok(bytes.len() as u64),
-            None => Err(Trouble::NoFile),
+            None => {
+                self.refuse();
+                Err(Trouble::NoFile)
+            }
         }
     }
 
     fn look(&mut self, file: &MemFile, path: &str, left: Extent) -> Result<(), Trouble> {
-        if self.fails() || file.path.as_slice() != path.as_bytes() {
+        if self.fails() {
             return Err(Trouble::Moved);
         }
-        let length = match self.files.bytes_at(path.as_bytes()) {
-            Some(bytes) => bytes.len() as u64,
-            None => return Err(Trouble::Moved),
-        };
-        if !left.allows(length) {
-            return Err(Trouble::Changed);
+        if let Some(trouble) = self.trouble_with(file, path, left) {
+            self.refuse();
+            return Err(trouble);
         }
         match Text::from_bytes(self.alloc, path.as_bytes()) {
             Ok(path) => {
                 self.seen = Seen { any: true, path };
                 Ok(())
             }
-            Err(_) => Err(no_space()),
+            Err(_) => {
+                self.refuse();
+                Err(no_space())
+            }
         }
     }
 
@@ -170,14 +224,21 @@ impl Disk for MemDisk {
         match self.files.bytes_at(file.path.as_slice()) {
             Some(bytes) => {
                 if bytes.len() > MAX_READ {
+                    self.refuse();
                     return Err(ReadFault::TooLong);
                 }
                 match Text::from_bytes(alloc, bytes) {
                     Ok(text) => Ok(text),
-                    Err(_) => Err(ReadFault::NoMemory),
+                    Err(_) => {
+                        self.refuse();
+                        Err(ReadFault::NoMemory)
+                    }
                 }
             }
-            None => Err(ReadFault::Failed),
+            None => {
+                self.refuse();
+                Err(ReadFault::Failed)
+            }
         }
     }
 
@@ -187,6 +248,7 @@ impl Disk for MemDisk {
         }
         let front = front(piece, self.most);
         let Ok(text) = Text::from_bytes(self.alloc, front) else {
+            self.refuse();
             return Err(no_space());
         };
         match self
@@ -194,7 +256,10 @@ impl Disk for MemDisk {
             .perform(self.alloc, file.path.as_slice(), Deed::Put(text))
         {
             Ok(()) => Ok(front.len()),
-            Err(trouble) => Err(trouble),
+            Err(trouble) => {
+                self.refuse();
+                Err(trouble)
+            }
         }
     }
 
@@ -202,23 +267,37 @@ impl Disk for MemDisk {
         if self.fails() {
             return Err(no_space());
         }
-        self.files
-            .perform(self.alloc, file.path.as_slice(), Deed::Cut(len))
+        let done = self
+            .files
+            .perform(self.alloc, file.path.as_slice(), Deed::Cut(len));
+        if done.is_err() {
+            self.refuse();
+        }
+        done
     }
 
     fn sync(&mut self, _file: &MemFile, path: &str, _left: Extent) -> Result<(), Trouble> {
         if self.fails() {
             return Err(no_space());
         }
-        self.files.perform(self.alloc, path.as_bytes(), Deed::Sync)
+        let done = self.files.perform(self.alloc, path.as_bytes(), Deed::Sync);
+        if done.is_err() {
+            self.refuse();
+        }
+        done
     }
 
     fn replace(&mut self, _file: MemFile, from: &str, to: &str) -> Result<(), Trouble> {
         if self.fails() {
             return Err(no_space());
         }
-        self.files
-            .replace(self.alloc, from.as_bytes(), to.as_bytes())?;
+        let done = self
+            .files
+            .replace(self.alloc, from.as_bytes(), to.as_bytes());
+        if done.is_err() {
+            self.refuse();
+            return done;
+        }
         if self.fails() {
             return Err(no_space());
         }

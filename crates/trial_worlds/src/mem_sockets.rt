@@ -1,6 +1,6 @@
 // Sockets in memory, over which one client talks.
 ghost use Rattle.std.specs.Prelude.{◌≡◌, ◌≤◌, ◌<◌, ◌+◌, ◌++◌, [], true, Some, None, take, length, IsTrue, OnOk, OnErr};
-ghost use Rattle.trial_worlds.specs.OneClient.{one_client};
+ghost use Rattle.trial_worlds.specs.OneClient.{is_number, one_client};
 
 use crate::mem_disk::front;
 use cube_edge::{Gone, Sockets};
@@ -16,7 +16,10 @@ pub struct MemSockets {
     taken: usize,
     given: Text,
     number: Option<u32>,
+    is_gone: bool,
+    is_shut: bool,
     most: usize,
+    waits: u64,
     ghost within: { taken ≤ length coming },
     ghost unread: { number ≡ None → taken ≡ 0 },
     ghost unsent: { number ≡ None → given ≡ [] },
@@ -24,15 +27,24 @@ pub struct MemSockets {
 
 impl MemSockets {
     pub fn new(alloc: Global, coming: Text, most: usize) -> Self
-        ensures { (⟦<MemSockets as Sockets>⟧.state result).told ≡ true }
+        ensures told { (⟦<MemSockets as Sockets>⟧.state result).told ≡ true }
+        ensures clock { (⟦<MemSockets as Sockets>⟧.state result).clock ≡ 0 }
     {
         MemSockets {
             coming,
             taken: 0,
             given: Text::new(alloc),
             number: None,
+            is_gone: false,
+            is_shut: false,
             most,
+            waits: 0,
         }
+    }
+
+    /// Whether the client was told that it is given no more.
+    pub fn is_shut(&self) -> bool {
+        self.is_shut
     }
 
     /// What the client was given.
@@ -43,7 +55,7 @@ impl MemSockets {
 
 // Whether the client has a number.
 fn has(number: Option<u32>, c: u32) -> bool
-    ensures { IsTrue result → number ≡ Some c }
+    ensures { result ≡ is_number number c }
 {
     match number {
         Some(d) => d == c,
@@ -76,7 +88,7 @@ fn put_front(given: &mut Text, piece: &[u8], most: usize) -> usize
 }
 
 impl Sockets for MemSockets {
-    ghost state = { λ s. one_client s.number (take s.taken s.coming) s.given };
+    ghost state = { λ s. one_client s.number (record { taken = take s.taken s.coming; given = s.given; gone = s.is_gone; shut = s.is_shut }) s.waits };
 
     fn listen(&mut self, _address: &Text) -> Result<(), Failed> {
         Ok(())
@@ -87,15 +99,22 @@ impl Sockets for MemSockets {
             return Ok(false);
         }
         self.number = Some(c);
+        self.is_gone = false;
+        self.is_shut = false;
         Ok(true)
     }
 
     fn wait(&mut self, _millis: u64) -> Result<u64, Failed> {
+        self.waits = self.waits.saturating_add(1);
         Ok(0)
     }
 
     fn read(&mut self, c: u32, buf: &mut [u8]) -> Result<Option<usize>, Gone> {
-        if !has(self.number, c) || self.taken == self.coming.len() {
+        if !has(self.number, c) {
+            return Err(Gone);
+        }
+        if self.taken == self.coming.len() {
+            self.is_gone = true;
             return Err(Gone);
         }
         take_byte(self.coming.as_slice(), &mut self.taken, buf);
@@ -109,7 +128,11 @@ impl Sockets for MemSockets {
         Ok(put_front(&mut self.given, piece, self.most))
     }
 
-    fn finish(&mut self, _c: u32) {}
+    fn finish(&mut self, c: u32) {
+        if has(self.number, c) {
+            self.is_shut = true;
+        }
+    }
 
     fn close(&mut self, _c: u32) {}
 }

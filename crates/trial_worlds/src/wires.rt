@@ -55,6 +55,7 @@ fn a_log_has_what_the_sockets_tell(rt: HostRuntime) -> Result<(), Fail> {
     // What was sent waits for the next look for an event.
     assert_eq!(rt; before.as_slice(), b"".as_slice());
     assert_eq!(rt; wire.sockets().given(), b"hello".as_slice());
+    assert!(rt; wire.sockets().is_shut());
     let scroll = wire.watch().scroll();
     let log: &[(Note, &[u8]); 4] = &[
         (Note::Opened(0), b""),

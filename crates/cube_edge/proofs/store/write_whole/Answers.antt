@@ -1,4 +1,4 @@
-use Rattle.std.proofs.Common.{List, ℕ, ◌∙◌, sym, subst, rules}
+use Rattle.std.proofs.Common.{◌≡◌, ◌<◌, ◌-◌, List, ℕ, length, length-drop, ◌∙◌, sym, ap, subst, arith, rules}
 use Rattle.std.specs.Prelude.{IsTrue}
 use Rattle.cube_io.specs.States.{Appended}
 use Rattle.cube_edge.proofs.Appending.{works_on, appended_on}
@@ -22,4 +22,10 @@ writes-preserved g c =
           let more = c.in_ok-count.ensures.grows (subst IsTrue (sym inv.works.told) told) in
           subst (λ (l : List ℕ). Appended c.args.piece.now l ((g.D.Disk.state c.args.disk.now).logs (g.D.Disk.place c.args.file.now)) ((g.D.Disk.state c.write.new.self).logs (g.D.Disk.place c.args.file.now))) (more.1 ∙ sym c.behind-rest.ensures)
           (appended_on (g.D.Disk.place c.args.file.now) (g.D.Disk.place c.writes.file) (g.D.Disk.state c.args.disk.now) (g.D.Disk.state c.writes.disk) (g.D.Disk.state c.write.new.self) c.args.piece.now c.writes.rest.now more.0 inv.file (inv.grows told) more.2);
+      refused = λ told. (c.in_ok-count.ensures.refused (subst IsTrue (sym inv.works.told) told)).steady ∙ inv.refused told;
+      shorter = λ told.
+          let some : 0 < length c.writes.rest.now = search rules in
+          let count : 0 < c.in_ok-count.count = c.in_ok-count.ensures.some (subst IsTrue (sym inv.works.told) told) some in
+          let less : length c.behind-rest.result.now ≡ length c.writes.rest.now - c.in_ok-count.count = ap (λ (l : List ℕ). length l) c.behind-rest.ensures ∙ length-drop c.in_ok-count.count c.writes.rest.now in
+          omega (arith, inv.shorter told, count, some, less);
     }

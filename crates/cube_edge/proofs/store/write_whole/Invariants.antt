@@ -1,4 +1,4 @@
-use Rattle.std.proofs.Common.{◌≡◌}
+use Rattle.std.proofs.Common.{◌≡◌, ◌≤◌, ◌+◌, length}
 use Rattle.std.specs.Prelude.{IsTrue}
 use Rattle.cube_io.specs.States.{Appended}
 use Rattle.cube_edge.specs.Disks.{WorksAt}
@@ -10,4 +10,6 @@ invariant-writes g l = record {
   seen : (g.D.Disk.state l.disk).seen ≡ (g.D.Disk.state l.initial.disk).seen;
   works : WorksAt (g.D.Disk.place l.initial.file) (g.D.Disk.state l.initial.disk) (g.D.Disk.state l.disk);
   grows : IsTrue (g.D.Disk.state l.initial.disk).told → Appended l.piece l.rest ((g.D.Disk.state l.initial.disk).logs (g.D.Disk.place l.initial.file)) ((g.D.Disk.state l.disk).logs (g.D.Disk.place l.initial.file));
+  refused : IsTrue (g.D.Disk.state l.initial.disk).told → (g.D.Disk.state l.disk).refused ≡ (g.D.Disk.state l.initial.disk).refused;
+  shorter : IsTrue (g.D.Disk.state l.initial.disk).told → length l.rest + l._write ≤ length l.piece;
 }

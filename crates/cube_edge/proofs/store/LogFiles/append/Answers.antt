@@ -4,8 +4,5 @@ use Rattle.cube_edge.specs.Disks.{path_of}
 use Rattle.cube_edge.proofs.Appending.{nothing_appended}
 use Rattle.cube_edge.proofs.store.LogFiles.append.Goals as goal
 
-pub returns-then-is_err-clause-grows : goal.returns-then-is_err-clause-grows
-returns-then-is_err-clause-grows g c = λ told. (c.args.piece.now, search rules, nothing_appended (path_of (string_bytes c.args.self.now.name) c.args.log) c.args.piece.now (g.D.Disk.state c.args.self.now.disk) (g.D.Disk.state c.open.new.self.disk) c.open.ensures.rests told)
-
 pub returns-in_default-clause-grows : goal.returns-in_default-clause-grows
 returns-in_default-clause-grows g c = λ told. (c.args.piece.now, tt, nothing_appended (path_of (string_bytes c.args.self.now.name) c.args.log) c.args.piece.now (g.D.Disk.state c.args.self.now.disk) (g.D.Disk.state c.open.new.self.disk) c.open.ensures.rests told)
