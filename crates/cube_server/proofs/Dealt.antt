@@ -38,7 +38,7 @@ less_one a b e = omega (arith, e)
 pub asked_deals : (c : ℕ) (q : Request) (ask : Ask) (o : Outcome) (r : Reply) (old new : DeskState) (log log' : List LogEntry) (live : Bool)
     → new.outcomes ≡ old.outcomes ++ o ∷ [] → r ≡ old.manner.reply old.rooms ask o → new.rooms ≡ old.manner.next old.rooms ask o → new.capacity + 1 ≡ old.capacity
     → (o ≡ JournalFault → old.manner.next old.rooms ask Given ≢ old.rooms) → Replies c q r log log' live
-    → Deals c (wanted_by old.manner (Asked ask) c q) old new log log' live (record { ask = ask; outcome = o } ∷ [])
+    → Deals c (wanted_by old.manner (Asked ask) c q) live old new log log' (record { ask = ask; outcome = o } ∷ [])
 asked_deals c q ask o r old new log log' live gained er en one fresh s =
     let handled : Call = record { ask = ask; outcome = o } in
     let next : List Room = old.manner.next old.rooms ask o in
@@ -56,7 +56,7 @@ asked_deals c q ask o r old new log log' live gained er en one fresh s =
     }
 
 pub constant_deals : (c : ℕ) (q : Request) (f : Fixed) (desk : DeskState) (log log' : List LogEntry) (live : Bool)
-    → Replies c q (reply.Fixed f) log log' live → Deals c (wanted_by desk.manner (Constant f) c q) desk desk log log' live []
+    → Replies c q (reply.Fixed f) log log' live → Deals c (wanted_by desk.manner (Constant f) c q) live desk desk log log' []
 constant_deals c q f desk log log' live s = record {
   talks = s.talks;
   asked = called_none desk;
@@ -67,7 +67,7 @@ constant_deals c q f desk log log' live s = record {
 }
 
 pub starved_deals : (c : ℕ) (q : Request) (f : Fixed) (old new : DeskState) (log log' : List LogEntry) (live : Bool) → OneMiss old new → Replies c q (reply.Fixed constant.NoMemory) log log' live
-    → Deals c (wanted_by old.manner (Constant f) c q) old new log log' live []
+    → Deals c (wanted_by old.manner (Constant f) c q) live old new log log' []
 starved_deals c q f old new log log' live one s = record {
   talks = s.talks;
   asked = called_missed old new one;
@@ -91,7 +91,7 @@ missed_called (Asked ask) old new k one = called_once ask NoMemory old new one.a
 missed_called (Constant f) old new k one = called_missed old new one
 
 pub missed_deals : (w : Wanted) (c : ℕ) (q : Request) (old new : DeskState) (log log' : List LogEntry) (live : Bool) → IsConstant old.manner → OneMiss old new → Replies c q (reply.Fixed constant.NoMemory) log log' live
-    → Deals c (wanted_by old.manner w c q) old new log log' live (missed_calls w)
+    → Deals c (wanted_by old.manner w c q) live old new log log' (missed_calls w)
 missed_deals (Asked ask) c q old new log log' live k one s =
     asked_deals c q ask NoMemory (reply.Fixed constant.NoMemory) old new log log' live one.added (sym (k.memory old.rooms ask).0) (one.rooms ∙ sym (k.memory old.rooms ask).1) one.capacity (λ e. cc) s
 missed_deals (Constant f) c q old new log log' live k one s = starved_deals c q f old new log log' live one s
@@ -99,7 +99,7 @@ missed_deals (Constant f) c q old new log log' live k one s = starved_deals c q 
 -- ---- items
 
 -- sends alone
-pub speech_deals : (c : ℕ) (op : Turn → Turn) (desk : DeskState) (log log' : List LogEntry) (live : Bool) → Speaks c op log log' live → Deals c op desk desk log log' live []
+pub speech_deals : (c : ℕ) (op : Turn → Turn) (desk : DeskState) (log log' : List LogEntry) (live : Bool) → Speaks c op log log' live → Deals c op live desk desk log log' []
 speech_deals c op desk log log' live s = record {
   talks = s.talks;
   asked = called_none desk;
@@ -114,7 +114,7 @@ more_asks asks h = grind (arith, nat_tests)
 
 -- one item
 pub one_dealt : (m : Manner) (c : ℕ) (i : Item) (old new : DeskState) (log log' : List LogEntry) (live : Bool) (calls : List Call) → 1 ≤ old.capacity
-    → Deals c (dealt_with m c i) old new log log' live calls → Deals c (dealt_all m c (i ∷ [])) old new log log' live calls
+    → Deals c (dealt_with m c i) live old new log log' calls → Deals c (dealt_all m c (i ∷ [])) live old new log log' calls
 one_dealt m c i old new log log' live calls some d = record {
   talks = d.talks;
   asked = d.asked;
@@ -125,17 +125,17 @@ one_dealt m c i old new log log' live calls some d = record {
 }
 
 pub body_dealt : (m : Manner) (c : ℕ) (waits : Bool) (desk : DeskState) (log log' : List LogEntry) (live : Bool) → 1 ≤ desk.capacity
-    → Speaks c (body_said c waits) log log' live → Deals c (dealt_all m c (said_in_body waits)) desk desk log log' live []
+    → Speaks c (body_said c waits) log log' live → Deals c (dealt_all m c (said_in_body waits)) live desk desk log log' []
 body_dealt m c true desk log log' live some s = one_dealt m c Continue desk desk log log' live [] some (speech_deals c (dealt_with m c Continue) desk log log' live s)
 body_dealt m c false desk log log' live some s = speech_deals c (λ t. t) desk log log' live s
 
 pub dead_dealt : (m : Manner) (c : ℕ) (h : Sound) (desk : DeskState) (log log' : List LogEntry) (live : Bool) → 1 ≤ desk.capacity
-    → Speaks c (dead_said c h) log log' live → Deals c (dealt_all m c (said_to_dead h)) desk desk log log' live []
+    → Speaks c (dead_said c h) log log' live → Deals c (dealt_all m c (said_to_dead h)) live desk desk log log' []
 dead_dealt m c sound.More desk log log' live some s = speech_deals c (λ t. t) desk log log' live s
 dead_dealt m c sound.Continue desk log log' live some s = speech_deals c (λ t. t) desk log log' live s
 dead_dealt m c sound.Whole desk log log' live some s = speech_deals c (λ t. t) desk log log' live s
 dead_dealt m c (sound.Bad f) desk log log' live some s = one_dealt m c (Bad f) desk desk log log' live [] some (speech_deals c (dealt_with m c (Bad f)) desk log log' live s)
 
 -- nothing was said
-pub none_dealt : (m : Manner) (c : ℕ) (desk : DeskState) (log : List LogEntry) → Deals c (dealt_all m c []) desk desk log log true []
+pub none_dealt : (m : Manner) (c : ℕ) (desk : DeskState) (log : List LogEntry) → Deals c (dealt_all m c []) true desk desk log log []
 none_dealt m c desk log = speech_deals c (λ t. t) desk log log true (none_spoken c (λ t. t) log (λ k. refl))

@@ -1,6 +1,7 @@
 -- How what a crash may leave adds up over asks.
-use Rattle.std.proofs.Common.{◌≡◌, ◌≢◌, ◌⊎◌, ◌↔◌, inl, inr, ⊎_elim, ℕ, ◌+◌, IsTrue, List, [], ◌∷◌, ◌++◌, length, map, filter, refl, sym, ◌∙◌, ap, subst, arith, cond, append_assoc, append-nil, length-append}
+use Rattle.std.proofs.Common.{◌≡◌, ◌≢◌, ◌⊎◌, ◌↔◌, inl, inr, ⊎_elim, ℕ, ◌+◌, ◌-◌, ◌*◌, ◌≤◌, Bool, true, false, IsTrue, List, [], ◌∷◌, ◌++◌, length, map, filter, refl, sym, ◌∙◌, ap, subst, arith, cond, append_assoc, append-nil, length-append}
 use Rattle.std.proofs.lemmas.List.{append_cancel_left, map-append}
+use Rattle.std.proofs.lemmas.Bool.{false≢true}
 use Rattle.std.proofs.lemmas.List.Elements.{filter-append}
 use Rattle.std.proofs.lemmas.List.Sums.{sum_by-append}
 use Rattle.cube_model.specs.declared.ask.Ask.{Ask}
@@ -8,14 +9,14 @@ use Rattle.cube_model.specs.declared.outcome.Outcome.{Outcome}
 use Rattle.cube_model.specs.declared.outcome.Outcome.TheVariants.{Given, JournalFault, NoMemory}
 use Rattle.cube_model.specs.declared.reply.Reply.{Reply}
 use Rattle.cube_model.specs.Rooms.{Room}
-use Rattle.cube_io.specs.Desks.{Manner, Answered, ForeignStay, GivesRooms, LeavesAll, IsOneOf, is_fault, faults_in}
+use Rattle.cube_io.specs.Desks.{Manner, Answered, ForeignStay, GivesRooms, LeavesAll, IsOneOf, is_fault, faults_in, has_fault, most_calls}
 use Rattle.cube_io.specs.Seen.{StoreState}
 use Rattle.cube_io.specs.States.{State, Log, Gained, settled}
 use Rattle.cube_io.proofs.Leaving.{leaves_all_map, leaves_all_none, leaves_all_then}
 use Rattle.cube_io.proofs.Outcomes.{memory_or_not}
 use Rattle.cube_io.proofs.Trails.{gained_none, gained_then, gained_map}
 use Rattle.cube_server.specs.Logs.{Call}
-use Rattle.cube_server.specs.Seen.{DeskState}
+use Rattle.cube_server.specs.Seen.{DeskState, Moment}
 use Rattle.cube_server.specs.Crashes.{after, Reaches, OnTheWay, FailedFresh, IsInHand, found_memory, Called, Endures}
 
 pub after_more : (m : Manner) (rooms : List Room) (xs ys : List Call) → after m rooms (xs ++ ys) ≡ after m (after m rooms xs) ys
@@ -91,26 +92,70 @@ same_holds : (P : Type 0) → P ↔ P
 same_holds P = (λ p. p, λ p. p)
 
 -- nothing was asked
-pub endures_none : (w x : List Room → ℕ → State → Type 0) (d : DeskState) (s : StoreState) → Endures w w x x d d s s []
-endures_none w x d s = record {
+pub endures_none : (p : Moment) → Endures p p []
+endures_none p = record {
   manner = refl;
   counted = refl;
   fewer = omega arith;
   told = refl;
   names = λ t. refl;
-  asked = called_none d;
-  within_stays = λ r k st. same_holds (w r k st);
-  exact_stays = λ r k st. same_holds (x r k st);
-  passed = λ t k h. gained_none _ (s.logs k) (s.logs k) refl;
+  asked = called_none p.desk;
+  within_stays = λ r k st. same_holds (p.within r k st);
+  exact_stays = λ r k st. same_holds (p.exact r k st);
+  passed = λ t k h. gained_none _ (p.store.logs k) (p.store.logs k) refl;
   stays_within = λ t k h. h;
   stays_exact = λ n t k h. h;
-  in_hand = λ t k h. leaves_all_none (GivesRooms x k) (IsInHand d.manner d.rooms []) (s.logs k) (s.logs k) refl;
+  in_hand = λ t k h. leaves_all_none (GivesRooms p.exact k) (IsInHand p.desk.manner p.desk.rooms []) (p.store.logs k) (p.store.logs k) refl;
   others = λ t k no. refl;
   more = omega arith;
   later = omega arith;
   steady = λ n. refl;
   risen = omega arith;
+  few = λ t. omega arith;
+  spared = λ n. refl;
 }
+
+-- ---- how often the store was called
+
+fault_stays : (xs ys : List Outcome) → has_fault xs ≡ true → has_fault (xs ++ ys) ≡ true
+fault_stays [] ys h = absurd (false≢true h)
+fault_stays (Given ∷ xs) ys h = fault_stays xs ys h
+fault_stays (JournalFault ∷ xs) ys h = refl
+fault_stays (NoMemory ∷ xs) ys h = fault_stays xs ys h
+
+-- so many calls at most for each of some asks, and for each of some more
+calls_add : (b c : Bool) (k l x y z : ℕ) → (b ≡ true → c ≡ true) → y ≤ x + cond b 4 2 * k → z ≤ y + cond c 4 2 * l → z ≤ x + cond c 4 2 * (k + l)
+calls_add true true k l x y z h f g = omega (arith, f, g)
+calls_add true false k l x y z h f g = absurd (false≢true (h refl))
+calls_add false true k l x y z h f g = omega (arith, f, g)
+calls_add false false k l x y z h f g = omega (arith, f, g)
+
+calls_once : (b c : Bool) (m n x y : ℕ) → n + 1 ≡ m → (b ≡ true → c ≡ true) → y ≤ x + cond b 4 2 → y ≤ x + cond c 4 2 * (m - n)
+calls_once true true m n x y one h f = let k : m - n ≡ 1 = omega (arith, one) in rw k (omega (arith, f))
+calls_once true false m n x y one h f = absurd (false≢true (h refl))
+calls_once false true m n x y one h f = let k : m - n ≡ 1 = omega (arith, one) in rw k (omega (arith, f))
+calls_once false false m n x y one h f = let k : m - n ≡ 1 = omega (arith, one) in rw k (omega (arith, f))
+
+calls_then : (b c : Bool) (m n o x y z : ℕ) → n ≤ m → o ≤ n → (b ≡ true → c ≡ true) → y ≤ x + cond b 4 2 * (m - n) → z ≤ y + cond c 4 2 * (n - o) → z ≤ x + cond c 4 2 * (m - o)
+calls_then b c m n o x y z first second h f g = let k : (m - n) + (n - o) ≡ m - o = omega (arith, first, second) in subst (λ (i : ℕ). z ≤ x + cond c 4 2 * i) k (calls_add b c (m - n) (n - o) x y z h f g)
+
+-- ---- who was spared
+
+none_left : (xs ys : List Outcome) → xs ++ ys ≡ [] → (xs ≡ []) × (ys ≡ [])
+none_left [] ys e = (refl, e)
+none_left (x ∷ xs) ys e = absurd (cc)
+
+spared_then : (xs ys : List Call) → filter found_memory (map (λ c. c.outcome) (xs ++ ys)) ≡ [] → (filter found_memory (map (λ c. c.outcome) xs) ≡ []) × (filter found_memory (map (λ c. c.outcome) ys) ≡ [])
+spared_then xs ys e =
+    let outcome_of = λ (x : Call). x.outcome in
+    none_left (filter found_memory (map outcome_of xs)) (filter found_memory (map outcome_of ys))
+    (sym (filter-append found_memory (map outcome_of xs) (map outcome_of ys)) ∙ ap (filter found_memory) (sym (map-append outcome_of xs ys)) ∙ e)
+
+-- an ask that found memory is one that did
+found_one : (o : Outcome) → filter found_memory (o ∷ []) ≡ [] → o ≡ NoMemory
+found_one Given e = absurd (cc)
+found_one JournalFault e = absurd (cc)
+found_one NoMemory e = refl
 
 count_more : (xs : List Outcome) (o : Outcome) → faults_in (xs ++ o ∷ []) ≡ faults_in xs + faults_in (o ∷ [])
 count_more xs o = sum_by-append (λ x. cond (is_fault x) 1 0) xs (o ∷ [])
@@ -119,8 +164,15 @@ both_ways : (P Q R : Type 0) → Q ↔ P → R ↔ Q → R ↔ P
 both_ways P Q R f g = (λ r. f.0 (g.0 r), λ p. g.1 (f.1 p))
 
 -- some asks, and then more
-pub endures_then : (w w' w'' x x' x'' : List Room → ℕ → State → Type 0) (a b c : DeskState) (s t u : StoreState) (xs ys : List Call) → Endures w w' x x' a b s t xs → Endures w' w'' x' x'' b c t u ys → Endures w w'' x x'' a c s u (xs ++ ys)
-endures_then w w' w'' x x' x'' a b c s t u xs ys f g =
+pub endures_then : (p q r : Moment) (xs ys : List Call) → Endures p q xs → Endures q r ys → Endures p r (xs ++ ys)
+endures_then p q r xs ys f g =
+    let a = p.desk in
+    let b = q.desk in
+    let c = r.desk in
+    let s = p.store in
+    let t = q.store in
+    let u = r.store in
+    let w = p.within in
     let fewer = f.more in
     let few = g.more in
     let first : Reaches a.manner a.rooms b.rooms = (xs, f.asked.rooms_are) in
@@ -132,14 +184,14 @@ endures_then w w' w'' x x' x'' a b c s t u xs ys f g =
       told = g.told ∙ f.told;
       names = λ h. g.names (rw f.told h) ∙ f.names h;
       asked = called_then a b c xs ys f.manner f.asked g.asked;
-      within_stays = λ r k st. both_ways (w r k st) (w' r k st) (w'' r k st) (f.within_stays r k st) (g.within_stays r k st);
-      exact_stays = λ r k st. both_ways (x r k st) (x' r k st) (x'' r k st) (f.exact_stays r k st) (g.exact_stays r k st);
+      within_stays = λ rs k st. both_ways (w rs k st) (q.within rs k st) (r.within rs k st) (f.within_stays rs k st) (g.within_stays rs k st);
+      exact_stays = λ rs k st. both_ways (p.exact rs k st) (q.exact rs k st) (r.exact rs k st) (f.exact_stays rs k st) (g.exact_stays rs k st);
       passed = λ h k e.
           gained_then (OnTheWay a.manner w a.rooms c.rooms k) (s.logs k) (t.logs k) (u.logs k)
           (gained_map (OnTheWay a.manner w a.rooms b.rooms k) (OnTheWay a.manner w a.rooms c.rooms k) (s.logs k) (t.logs k)
           (λ st y. record { here = y.here; from = y.from; to = reaches_then a.manner y.here b.rooms c.rooms y.to onward; there = y.there })
           (f.passed h k e))
-          (gained_map (OnTheWay b.manner w' b.rooms c.rooms k) (OnTheWay a.manner w a.rooms c.rooms k) (t.logs k) (u.logs k)
+          (gained_map (OnTheWay b.manner q.within b.rooms c.rooms k) (OnTheWay a.manner w a.rooms c.rooms k) (t.logs k) (u.logs k)
           (λ st y. record {
             here = y.here;
             from = reaches_then a.manner a.rooms b.rooms y.here first (subst (λ (m : Manner). Reaches m b.rooms y.here) f.manner y.from);
@@ -153,9 +205,9 @@ endures_then w w' w'' x x' x'' a b c s t u xs ys f g =
           let second : faults_in c.outcomes ≡ faults_in b.outcomes = omega (arith, same, fewer, few) in
           g.stays_exact second (rw f.told h) k (f.stays_exact first h k e);
       in_hand = λ h k e.
-          in_hand_then a.manner b.manner (GivesRooms x k) (GivesRooms x' k) a.rooms b.rooms xs ys (s.logs k) (t.logs k) (u.logs k) f.manner f.asked.rooms_are
-          (λ r bytes y. (f.exact_stays r k (settled bytes)).0 y) (f.in_hand h k e) (g.in_hand (rw f.told h) k (f.stays_within h k e));
-      others = λ h k no. g.others (rw f.told h) k (λ r st y. no r st ((f.within_stays r k st).0 y)) ∙ f.others h k no;
+          in_hand_then a.manner b.manner (GivesRooms p.exact k) (GivesRooms q.exact k) a.rooms b.rooms xs ys (s.logs k) (t.logs k) (u.logs k) f.manner f.asked.rooms_are
+          (λ rs bytes y. (f.exact_stays rs k (settled bytes)).0 y) (f.in_hand h k e) (g.in_hand (rw f.told h) k (f.stays_within h k e));
+      others = λ h k no. g.others (rw f.told h) k (λ rs st y. no rs st ((f.within_stays rs k st).0 y)) ∙ f.others h k no;
       more = omega (arith, fewer, few);
       later = omega (arith, f.later, g.later);
       steady = λ same.
@@ -163,6 +215,11 @@ endures_then w w' w'' x x' x'' a b c s t u xs ys f g =
           let second : faults_in c.outcomes ≡ faults_in b.outcomes = omega (arith, same, fewer, few) in
           g.steady second ∙ f.steady first;
       risen = omega (arith, fewer, few, f.risen, g.risen, f.later, g.later);
+      few = λ h.
+          calls_then (has_fault b.outcomes) (has_fault c.outcomes) a.capacity b.capacity c.capacity s.calls t.calls u.calls f.fewer g.fewer
+          (λ is. subst (λ (os : List Outcome). has_fault os ≡ true) (sym g.asked.outcomes_are) (fault_stays b.outcomes g.asked.added is))
+          (f.few h) (g.few (rw f.told h));
+      spared = λ none. let n = spared_then xs ys none in g.spared n.1 ∙ f.spared n.0;
     }
 
 not_fault : (o : Outcome) (outs outs' : List Outcome) → o ≢ JournalFault → outs' ≡ outs ++ o ∷ [] → outs' ≢ outs ++ JournalFault ∷ []
@@ -183,26 +240,27 @@ is_or_not JournalFault = inl refl
 is_or_not NoMemory = inr (λ e. cc)
 
 -- what the clauses of one answer say
-pub record OneAnswer (ask : Ask) (reply : Reply) (w w' x x' : List Room → ℕ → State → Type 0) (a b : DeskState) (s t : StoreState) : Type 0 where
-  pub answered : Answered a.manner ask a.rooms b.rooms a.outcomes b.outcomes s.faults t.faults reply
-  pub manner : b.manner ≡ a.manner
-  pub capacity : b.capacity + 1 ≡ a.capacity
-  pub told : t.told ≡ s.told
-  pub names : IsTrue s.told → t.names ≡ s.names
-  pub memory : b.outcomes ≡ a.outcomes ++ NoMemory ∷ [] → t ≡ s
-  pub within_stays : (r : List Room) (log : ℕ) (state : State) → w' r log state ↔ w r log state
-  pub exact_stays : (r : List Room) (log : ℕ) (state : State) → x' r log state ↔ x r log state
-  pub passed : IsTrue s.told → (log : ℕ) → w a.rooms log (s.logs log).state → Gained (λ state. w a.rooms log state ⊎ w b.rooms log state) (s.logs log) (t.logs log)
-  pub within : IsTrue s.told → (log : ℕ) → w a.rooms log (s.logs log).state → w' b.rooms log (t.logs log).state
-  pub exact : b.outcomes ≢ a.outcomes ++ JournalFault ∷ [] → IsTrue s.told → (log : ℕ) → x a.rooms log (s.logs log).state → x' b.rooms log (t.logs log).state
-  pub in_hand : IsTrue s.told → (log : ℕ) → w a.rooms log (s.logs log).state → LeavesAll (GivesRooms x log) (IsOneOf a.rooms (a.manner.next a.rooms ask Given)) (s.logs log) (t.logs log)
-  pub others : ForeignStay w s t
+pub record OneAnswer (ask : Ask) (reply : Reply) (p q : Moment) : Type 0 where
+  pub answered : Answered p.desk.manner ask p.desk.rooms q.desk.rooms p.desk.outcomes q.desk.outcomes p.store.faults q.store.faults reply
+  pub manner : q.desk.manner ≡ p.desk.manner
+  pub capacity : q.desk.capacity + 1 ≡ p.desk.capacity
+  pub told : q.store.told ≡ p.store.told
+  pub names : IsTrue p.store.told → q.store.names ≡ p.store.names
+  pub memory : q.desk.outcomes ≡ p.desk.outcomes ++ NoMemory ∷ [] → q.store ≡ p.store
+  pub calls : IsTrue p.store.told → q.store.calls ≤ p.store.calls + most_calls p.desk.outcomes
+  pub within_stays : (r : List Room) (log : ℕ) (state : State) → q.within r log state ↔ p.within r log state
+  pub exact_stays : (r : List Room) (log : ℕ) (state : State) → q.exact r log state ↔ p.exact r log state
+  pub passed : IsTrue p.store.told → (log : ℕ) → p.within p.desk.rooms log (p.store.logs log).state → Gained (λ state. p.within p.desk.rooms log state ⊎ p.within q.desk.rooms log state) (p.store.logs log) (q.store.logs log)
+  pub within : IsTrue p.store.told → (log : ℕ) → p.within p.desk.rooms log (p.store.logs log).state → q.within q.desk.rooms log (q.store.logs log).state
+  pub exact : q.desk.outcomes ≢ p.desk.outcomes ++ JournalFault ∷ [] → IsTrue p.store.told → (log : ℕ) → p.exact p.desk.rooms log (p.store.logs log).state → q.exact q.desk.rooms log (q.store.logs log).state
+  pub in_hand : IsTrue p.store.told → (log : ℕ) → p.within p.desk.rooms log (p.store.logs log).state → LeavesAll (GivesRooms p.exact log) (IsOneOf p.desk.rooms (p.desk.manner.next p.desk.rooms ask Given)) (p.store.logs log) (q.store.logs log)
+  pub others : ForeignStay p.within p.store q.store
 
 one_more : (o : Outcome) (xs ys : List Outcome) (m n : ℕ) → ys ≡ xs ++ o ∷ [] → n + 1 ≡ m → n + length ys ≡ m + length xs
 one_more o xs ys m n added one = omega (arith, one, ap length added ∙ length-append xs (o ∷ []))
 
-pub endures_answer : (ask : Ask) (reply : Reply) (w w' x x' : List Room → ℕ → State → Type 0) (a b : DeskState) (s t : StoreState) → (one : OneAnswer ask reply w w' x x' a b s t) → Endures w w' x x' a b s t (record { ask = ask; outcome = one.answered.outcome } ∷ [])
-endures_answer ask reply w w' x x' a b s t one = by (is_or_not one.answered.outcome)
+pub endures_answer : (ask : Ask) (reply : Reply) (p q : Moment) → (one : OneAnswer ask reply p q) → Endures p q (record { ask = ask; outcome = one.answered.outcome } ∷ [])
+endures_answer ask reply p q one = by (is_or_not one.answered.outcome)
   where
     out : Outcome
     out = one.answered.outcome
@@ -210,36 +268,45 @@ endures_answer ask reply w w' x x' a b s t one = by (is_or_not one.answered.outc
     call : Call
     call = record { ask = ask; outcome = out }
 
-    way : Reaches a.manner a.rooms b.rooms
+    way : Reaches p.desk.manner p.desk.rooms q.desk.rooms
     way = (call ∷ [], one.answered.moved)
 
-    called : Called a b (call ∷ [])
-    called = called_once ask out a b one.answered.added one.answered.moved (λ is. (one.answered.failed is).1)
+    called : Called p.desk q.desk (call ∷ [])
+    called = called_once ask out p.desk q.desk one.answered.added one.answered.moved (λ is. (one.answered.failed is).1)
 
-    count : faults_in b.outcomes ≡ faults_in a.outcomes + faults_in (out ∷ [])
-    count = ap faults_in one.answered.added ∙ count_more a.outcomes out
+    count : faults_in q.desk.outcomes ≡ faults_in p.desk.outcomes + faults_in (out ∷ [])
+    count = ap faults_in one.answered.added ∙ count_more p.desk.outcomes out
 
-    gone : IsTrue s.told → (log : ℕ) → w a.rooms log (s.logs log).state → Gained (OnTheWay a.manner w a.rooms b.rooms log) (s.logs log) (t.logs log)
-    gone h k e = gained_map (λ state. w a.rooms k state ⊎ w b.rooms k state) (OnTheWay a.manner w a.rooms b.rooms k) (s.logs k) (t.logs k) (λ st y. side k st y) (one.passed h k e)
+    gone : IsTrue p.store.told → (log : ℕ) → p.within p.desk.rooms log (p.store.logs log).state → Gained (OnTheWay p.desk.manner p.within p.desk.rooms q.desk.rooms log) (p.store.logs log) (q.store.logs log)
+    gone h k e = gained_map (λ state. p.within p.desk.rooms k state ⊎ p.within q.desk.rooms k state) (OnTheWay p.desk.manner p.within p.desk.rooms q.desk.rooms k) (p.store.logs k) (q.store.logs k) (λ st y. side k st y) (one.passed h k e)
       where
-        side : (k : ℕ) (st : State) → (w a.rooms k st ⊎ w b.rooms k st) → OnTheWay a.manner w a.rooms b.rooms k st
-        side k st (inl y) = record { here = a.rooms; from = reaches_none a.manner a.rooms; to = way; there = y }
-        side k st (inr y) = record { here = b.rooms; from = way; to = reaches_none a.manner b.rooms; there = y }
+        side : (k : ℕ) (st : State) → (p.within p.desk.rooms k st ⊎ p.within q.desk.rooms k st) → OnTheWay p.desk.manner p.within p.desk.rooms q.desk.rooms k st
+        side k st (inl y) = record { here = p.desk.rooms; from = reaches_none p.desk.manner p.desk.rooms; to = way; there = y }
+        side k st (inr y) = record { here = q.desk.rooms; from = way; to = reaches_none p.desk.manner q.desk.rooms; there = y }
 
-    held : IsTrue s.told → (log : ℕ) → w a.rooms log (s.logs log).state → LeavesAll (GivesRooms x log) (IsInHand a.manner a.rooms (call ∷ [])) (s.logs log) (t.logs log)
+    held : IsTrue p.store.told → (log : ℕ) → p.within p.desk.rooms log (p.store.logs log).state → LeavesAll (GivesRooms p.exact log) (IsInHand p.desk.manner p.desk.rooms (call ∷ [])) (p.store.logs log) (q.store.logs log)
     held h k e = ⊎_elim
-        (λ is. leaves_all_none (GivesRooms x k) (IsInHand a.manner a.rooms (call ∷ [])) (s.logs k) (t.logs k)
-        (ap (λ (z : StoreState). z.logs k) (one.memory (one.answered.added ∙ ap (λ (o : Outcome). a.outcomes ++ o ∷ []) is))))
-        (λ found. in_hand_once a.manner (GivesRooms x k) a.rooms call (s.logs k) (t.logs k) found (one.in_hand h k e))
+        (λ is. leaves_all_none (GivesRooms p.exact k) (IsInHand p.desk.manner p.desk.rooms (call ∷ [])) (p.store.logs k) (q.store.logs k)
+        (ap (λ (z : StoreState). z.logs k) (one.memory (one.answered.added ∙ ap (λ (o : Outcome). p.desk.outcomes ++ o ∷ []) is))))
+        (λ found. in_hand_once p.desk.manner (GivesRooms p.exact k) p.desk.rooms call (p.store.logs k) (q.store.logs k) found (one.in_hand h k e))
         (memory_or_not out)
 
-    by : ((out ≡ JournalFault) ⊎ (out ≢ JournalFault)) → Endures w w' x x' a b s t (call ∷ [])
+    called_few : IsTrue p.store.told → q.store.calls ≤ p.store.calls + most_calls q.desk.outcomes * (p.desk.capacity - q.desk.capacity)
+    called_few h =
+        calls_once (has_fault p.desk.outcomes) (has_fault q.desk.outcomes) p.desk.capacity q.desk.capacity p.store.calls q.store.calls one.capacity
+        (λ is. subst (λ (os : List Outcome). has_fault os ≡ true) (sym one.answered.added) (fault_stays p.desk.outcomes (out ∷ []) is))
+        (one.calls h)
+
+    spares : filter found_memory (out ∷ []) ≡ [] → q.store ≡ p.store
+    spares none = one.memory (one.answered.added ∙ ap (λ (o : Outcome). p.desk.outcomes ++ o ∷ []) (found_one out none))
+
+    by : ((out ≡ JournalFault) ⊎ (out ≢ JournalFault)) → Endures p q (call ∷ [])
     by (inl is) =
-        let c : faults_in b.outcomes ≡ faults_in a.outcomes + 1 = count ∙ ap (λ (z : Outcome). faults_in a.outcomes + faults_in (z ∷ [])) is in
+        let c : faults_in q.desk.outcomes ≡ faults_in p.desk.outcomes + 1 = count ∙ ap (λ (z : Outcome). faults_in p.desk.outcomes + faults_in (z ∷ [])) is in
         let rose = (one.answered.failed is).0 in
         record {
           manner = one.manner;
-          counted = one_more out a.outcomes b.outcomes a.capacity b.capacity one.answered.added one.capacity;
+          counted = one_more out p.desk.outcomes q.desk.outcomes p.desk.capacity q.desk.capacity one.answered.added one.capacity;
           fewer = omega (arith, one.capacity);
           told = one.told;
           names = one.names;
@@ -255,13 +322,15 @@ endures_answer ask reply w w' x x' a b s t one = by (is_or_not one.answered.outc
           later = one.answered.later;
           steady = λ same. absurd (omega (arith, same, c));
           risen = omega (arith, c, rose);
+          few = called_few;
+          spared = spares;
         }
     by (inr other) =
-        let c : faults_in b.outcomes ≡ faults_in a.outcomes = count ∙ ap (λ (z : ℕ). faults_in a.outcomes + z) (count_of out other) ∙ omega arith in
-        let same : t.faults ≡ s.faults = one.answered.steady other in
+        let c : faults_in q.desk.outcomes ≡ faults_in p.desk.outcomes = count ∙ ap (λ (z : ℕ). faults_in p.desk.outcomes + z) (count_of out other) ∙ omega arith in
+        let same : q.store.faults ≡ p.store.faults = one.answered.steady other in
         record {
           manner = one.manner;
-          counted = one_more out a.outcomes b.outcomes a.capacity b.capacity one.answered.added one.capacity;
+          counted = one_more out p.desk.outcomes q.desk.outcomes p.desk.capacity q.desk.capacity one.answered.added one.capacity;
           fewer = omega (arith, one.capacity);
           told = one.told;
           names = one.names;
@@ -270,13 +339,15 @@ endures_answer ask reply w w' x x' a b s t one = by (is_or_not one.answered.outc
           exact_stays = one.exact_stays;
           passed = gone;
           stays_within = one.within;
-          stays_exact = λ e. one.exact (not_fault out a.outcomes b.outcomes other one.answered.added);
+          stays_exact = λ e. one.exact (not_fault out p.desk.outcomes q.desk.outcomes other one.answered.added);
           in_hand = held;
           others = one.others;
           more = omega (arith, c);
           later = one.answered.later;
           steady = λ e. same;
           risen = omega (arith, c, same);
+          few = called_few;
+          spared = spares;
         }
 
 -- an ask that found no memory: it left the rooms, and that one outcome
@@ -289,26 +360,34 @@ pub record OneMiss (a b : DeskState) : Type 0 where
 abbrev pub called_missed : (a b : DeskState) → OneMiss a b → Called a b []
 called_missed a b one = record { rooms_are = one.rooms; added = NoMemory ∷ []; outcomes_are = one.added; matched = refl; fresh = tt }
 
-pub endures_miss : (w w' x x' : List Room → ℕ → State → Type 0) (a b : DeskState) (s : StoreState) (calls : List Call) → OneMiss a b → Called a b calls
-    → ((r : List Room) (log : ℕ) (state : State) → w' r log state ↔ w r log state) → ((r : List Room) (log : ℕ) (state : State) → x' r log state ↔ x r log state) → Endures w w' x x' a b s s calls
-endures_miss w w' x x' a b s calls one asked ws xs =
+pub endures_miss : (p q : Moment) (calls : List Call) → OneMiss p.desk q.desk → Called p.desk q.desk calls → q.store ≡ p.store
+    → ((r : List Room) (log : ℕ) (state : State) → q.within r log state ↔ p.within r log state) → ((r : List Room) (log : ℕ) (state : State) → q.exact r log state ↔ p.exact r log state) → Endures p q calls
+endures_miss p q calls one asked same ws xs =
+    let a = p.desk in
+    let b = q.desk in
+    let s = p.store in
     let c : faults_in b.outcomes ≡ faults_in a.outcomes = ap faults_in one.added ∙ count_more a.outcomes NoMemory ∙ omega arith in
+    let logs = λ (k : ℕ). ap (λ (z : StoreState). z.logs k) same in
+    let faults = ap (λ (z : StoreState). z.faults) same in
+    let times = ap (λ (z : StoreState). z.calls) same in
     record {
       manner = one.manner;
       counted = one_more NoMemory a.outcomes b.outcomes a.capacity b.capacity one.added one.capacity;
       fewer = omega (arith, one.capacity);
-      told = refl;
-      names = λ h. refl;
+      told = ap (λ (z : StoreState). z.told) same;
+      names = λ h. ap (λ (z : StoreState). z.names) same;
       asked = asked;
       within_stays = ws;
       exact_stays = xs;
-      passed = λ h k e. gained_none _ (s.logs k) (s.logs k) refl;
-      stays_within = λ h k e. rw one.rooms ((ws a.rooms k (s.logs k).state).1 e);
-      stays_exact = λ n h k e. rw one.rooms ((xs a.rooms k (s.logs k).state).1 e);
-      in_hand = λ h k e. leaves_all_none (GivesRooms x k) (IsInHand a.manner a.rooms calls) (s.logs k) (s.logs k) refl;
-      others = λ h k no. refl;
+      passed = λ h k e. gained_none _ (s.logs k) (q.store.logs k) (logs k);
+      stays_within = λ h k e. rw (one.rooms, logs k) ((ws a.rooms k (s.logs k).state).1 e);
+      stays_exact = λ n h k e. rw (one.rooms, logs k) ((xs a.rooms k (s.logs k).state).1 e);
+      in_hand = λ h k e. leaves_all_none (GivesRooms p.exact k) (IsInHand a.manner a.rooms calls) (s.logs k) (q.store.logs k) (logs k);
+      others = λ h k no. logs k;
       more = omega (arith, c);
-      later = omega arith;
-      steady = λ n. refl;
-      risen = omega (arith, c);
+      later = omega (arith, faults);
+      steady = λ n. faults;
+      risen = omega (arith, c, faults);
+      few = λ h. omega (arith, times);
+      spared = λ n. same;
     }

@@ -10,3 +10,4 @@ pub mod Standing
 pub mod Enduring
 pub mod Likeness
 pub mod Closings
+pub mod Failing

@@ -127,7 +127,7 @@ abbrev pub left_conns : Bool → ℕ → List ℕ → List (ℕ × List ℕ) →
 left_conns live c text conns = without c conns ++ (if live then (c, text) ∷ [] else [])
 
 came_meets : (m : Manner) (c : ℕ) (piece : List ℕ) (live : Bool) (last : List Line) (conns : List (ℕ × List ℕ)) (x y : DeskState) (u v : List LogEntry) (calls : List Call) → is_open c conns ≡ true
-    → Deals c (dealt_all m c (behind (length (came_on c conns)) (came_on c conns ++ piece))) x y u v live calls
+    → Deals c (dealt_all m c (behind (length (came_on c conns)) (came_on c conns ++ piece))) live x y u v calls
     → (0 < y.capacity → AreKept last (left_conns live c (came_on c conns ++ piece) conns)) → AreOpen last v → Meets (met m (Came c piece)) last conns x y u v calls
 came_meets m c piece live last conns x y u v calls is d k opens = record {
   conns' = left_conns live c (came_on c conns ++ piece) conns;
@@ -145,7 +145,7 @@ came_meets m c piece live last conns x y u v calls is d k opens = record {
 -- the connection stays open
 pub piece_on : (c : ℕ) (piece : List ℕ) (e e' : Ear) (old new last : List Line) (conns : List (ℕ × List ℕ)) (x y : DeskState) (u v : List LogEntry) (calls : List Call)
     → IsTakenOut c e old new → last ≡ new ++ line c e' ∷ [] → AreKept old conns → AreOpen old u
-    → ((stream : List ℕ) → Keeps stream (kept_bytes e) → HearsPiece c stream piece x y u v (left.On e') calls)
+    → ((stream : List ℕ) → Keeps stream (kept_bytes e) → HearsPiece c stream piece (left.On e') x y u v calls)
     → Meets (met x.manner (Came c piece)) last conns x y u v calls
 piece_on c piece e e' old new last conns x y u v calls t l k opens heard =
     let one = take_one c e old new conns t k in
@@ -159,7 +159,7 @@ piece_on c piece e e' old new last conns x y u v calls t l k opens heard =
 -- it was closed
 pub piece_off : (c : ℕ) (piece : List ℕ) (e : Ear) (head : List ℕ) (old new last : List Line) (conns : List (ℕ × List ℕ)) (x y : DeskState) (u v : List LogEntry) (calls : List Call)
     → IsTakenOut c e old new → last ≡ new → AreKept old conns → AreOpen old u
-    → ((stream : List ℕ) → Keeps stream (kept_bytes e) → HearsPiece c stream piece x y u v (left.Off head) calls)
+    → ((stream : List ℕ) → Keeps stream (kept_bytes e) → HearsPiece c stream piece (left.Off head) x y u v calls)
     → Meets (met x.manner (Came c piece)) last conns x y u v calls
 piece_off c piece e head old new last conns x y u v calls t l k opens heard =
     let one = take_one c e old new conns t k in

@@ -87,7 +87,7 @@ next_said stream past t rest piece h n split one =
 
 -- one part more was heard and dealt with
 onward : (m : Manner) (c : ℕ) (stream piece t rest bytes : List ℕ) (h : Heard) (n : Conn) (a x y : DeskState) (log u v : List LogEntry) (live : Bool) (xs ys : List Call)
-    → (g : Progress m c stream piece (t ++ rest) bytes a x log u xs) → OneHeard (stream ++ g.past) t h n → (d : Deals c (dealt_all m c (said h n)) x y u v live ys)
+    → (g : Progress m c stream piece (t ++ rest) bytes a x log u xs) → OneHeard (stream ++ g.past) t h n → (d : Deals c (dealt_all m c (said h n)) live x y u v ys)
     → (os : List Outcome) (ss : List (Option ℕ)) (bs : List Bool) (cs : List Call)
     → dealt_all m c (behind (length stream) (stream ++ piece)) (turn (course a.rooms a.capacity ((g.asked.added ++ d.asked.added) ++ os) ((g.sends ++ d.sends) ++ ss) ((g.starved ++ d.starved) ++ bs) cs log) true)
     ≡ dealt_all m c (behind (length (stream ++ (g.past ++ t))) (stream ++ piece)) (turn (course y.rooms y.capacity os ss bs (cs ++ (xs ++ ys)) v) live)
@@ -102,7 +102,7 @@ onward m c stream piece t rest bytes h n a x y log u v live xs ys g one d os ss 
     )
 
 pub one_more : (m : Manner) (c : ℕ) (stream piece t rest bytes bytes' : List ℕ) (h : Heard) (n : Conn) (a x y : DeskState) (log u v : List LogEntry) (xs ys : List Call)
-    → x.manner ≡ a.manner → (g : Progress m c stream piece (t ++ rest) bytes a x log u xs) → OneHeard (stream ++ g.past) t h n → Deals c (dealt_all m c (said h n)) x y u v true ys → Keeps (stream ++ (g.past ++ t)) bytes'
+    → x.manner ≡ a.manner → (g : Progress m c stream piece (t ++ rest) bytes a x log u xs) → OneHeard (stream ++ g.past) t h n → Deals c (dealt_all m c (said h n)) true x y u v ys → Keeps (stream ++ (g.past ++ t)) bytes'
     → Progress m c stream piece rest bytes' a y log v (xs ++ ys)
 one_more m c stream piece t rest bytes bytes' h n a x y log u v xs ys same g one d k = record {
   past = g.past ++ t;
@@ -122,8 +122,8 @@ no_asks = refl
 
 -- the connection was closed
 pub piece_closed : (m : Manner) (c : ℕ) (stream piece t rest bytes : List ℕ) (h : Heard) (n : Conn) (a x y : DeskState) (log u v : List LogEntry) (xs ys : List Call)
-    → x.manner ≡ a.manner → (g : Progress m c stream piece (t ++ rest) bytes a x log u xs) → OneHeard (stream ++ g.past) t h n → Deals c (dealt_all m c (said h n)) x y u v false ys → Talks c log u true
-    → Deals c (dealt_all m c (behind (length stream) (stream ++ piece))) a y log v false (xs ++ ys)
+    → x.manner ≡ a.manner → (g : Progress m c stream piece (t ++ rest) bytes a x log u xs) → OneHeard (stream ++ g.past) t h n → Deals c (dealt_all m c (said h n)) false x y u v ys → Talks c log u true
+    → Deals c (dealt_all m c (behind (length stream) (stream ++ piece))) false a y log v (xs ++ ys)
 piece_closed m c stream piece t rest bytes h n a x y log u v xs ys same g one d talks = record {
   talks = talks_then c log u v false talks d.talks;
   asked = called_then a x y xs ys same g.asked d.asked;
@@ -137,7 +137,7 @@ piece_closed m c stream piece t rest bytes h n a x y log u v xs ys same g one d 
 
 -- the asks are used up
 pub piece_spent : (m : Manner) (c : ℕ) (stream piece rest bytes : List ℕ) (a x : DeskState) (log u : List LogEntry) (calls : List Call) → Progress m c stream piece rest bytes a x log u calls → Talks c log u true → x.capacity ≡ 0
-    → Deals c (dealt_all m c (behind (length stream) (stream ++ piece))) a x log u true calls
+    → Deals c (dealt_all m c (behind (length stream) (stream ++ piece))) true a x log u calls
 piece_spent m c stream piece rest bytes a x log u calls g talks none = record {
   talks = talks;
   asked = g.asked;
@@ -150,7 +150,7 @@ piece_spent m c stream piece rest bytes a x log u calls g talks none = record {
 
 -- all of it was heard
 pub piece_heard : (m : Manner) (c : ℕ) (stream piece bytes : List ℕ) (a x : DeskState) (log u : List LogEntry) (calls : List Call) → Progress m c stream piece [] bytes a x log u calls → Talks c log u true
-    → Deals c (dealt_all m c (behind (length stream) (stream ++ piece))) a x log u true calls × Keeps (stream ++ piece) bytes
+    → Deals c (dealt_all m c (behind (length stream) (stream ++ piece))) true a x log u calls × Keeps (stream ++ piece) bytes
 piece_heard m c stream piece bytes a x log u calls g talks =
     let all : piece ≡ g.past = g.split ∙ append-nil g.past in (
       record {
@@ -187,9 +187,9 @@ used_some used rest some few = omega (arith, some, length-take-le used rest few)
 -- the connection is open behind what was used
 pub step_on : (m : Manner) (c : ℕ) (stream piece rest : List ℕ) (used : ℕ) (e next : Ear) (h : Heard) (n : Conn) (a x y : DeskState) (log u v : List LogEntry) (xs ys : List Call)
     → Progress m c stream piece rest (kept_bytes e) a x log u xs → x.manner ≡ m → x.manner ≡ a.manner → 0 < used → used ≤ length rest → Hears (said_before e) (kept_bytes e ++ take used rest) h n
-    → Deals c (dealt_all x.manner c (said h n)) x y u v true ys → OnLeaves (left.On next) n → Progress m c stream piece (drop used rest) (kept_bytes next) a y log v (xs ++ ys)
+    → Deals c (dealt_all x.manner c (said h n)) true x y u v ys → OnLeaves (left.On next) n → Progress m c stream piece (drop used rest) (kept_bytes next) a y log v (xs ++ ys)
 step_on m c stream piece rest used e next h n a x y log u v xs ys was same kept some few hears deals leaves =
-    let d : Deals c (dealt_all m c (said h n)) x y u v true ys = subst (λ (k : Manner). Deals c (dealt_all k c (said h n)) x y u v true ys) same deals in
+    let d : Deals c (dealt_all m c (said h n)) true x y u v ys = subst (λ (k : Manner). Deals c (dealt_all k c (said h n)) true x y u v ys) same deals in
     let g = cut_rest m c stream piece rest (kept_bytes e) used a x log u xs was in
     let t = take used rest in
     let one = one_heard e (stream ++ g.past) t h n g.keeps (used_some used rest some few) hears in
@@ -199,9 +199,9 @@ step_on m c stream piece rest used e next h n a x y log u v xs ys was same kept 
 -- it was closed there
 pub step_off : (m : Manner) (c : ℕ) (stream piece rest : List ℕ) (used : ℕ) (e : Ear) (h : Heard) (n : Conn) (a x y : DeskState) (log u v : List LogEntry) (xs ys : List Call)
     → Progress m c stream piece rest (kept_bytes e) a x log u xs → x.manner ≡ m → x.manner ≡ a.manner → 0 < used → used ≤ length rest → Hears (said_before e) (kept_bytes e ++ take used rest) h n
-    → Deals c (dealt_all x.manner c (said h n)) x y u v false ys → Talks c log u true → Deals c (dealt_all m c (behind (length stream) (stream ++ piece))) a y log v false (xs ++ ys)
+    → Deals c (dealt_all x.manner c (said h n)) false x y u v ys → Talks c log u true → Deals c (dealt_all m c (behind (length stream) (stream ++ piece))) false a y log v (xs ++ ys)
 step_off m c stream piece rest used e h n a x y log u v xs ys was same kept some few hears deals talks =
-    let d : Deals c (dealt_all m c (said h n)) x y u v false ys = subst (λ (k : Manner). Deals c (dealt_all k c (said h n)) x y u v false ys) same deals in
+    let d : Deals c (dealt_all m c (said h n)) false x y u v ys = subst (λ (k : Manner). Deals c (dealt_all k c (said h n)) false x y u v ys) same deals in
     let g = cut_rest m c stream piece rest (kept_bytes e) used a x log u xs was in
     let t = take used rest in
     let one = one_heard e (stream ++ g.past) t h n g.keeps (used_some used rest some few) hears in

@@ -1,6 +1,7 @@
 pub mod Seen
 pub mod Logs
 pub mod Rows
+pub mod Failing
 pub mod Ears
 pub mod Pools
 pub mod Crashes

@@ -17,15 +17,16 @@ use Rattle.cube_http.specs.declared.connection.Heard.{Heard as Sound}
 use Rattle.cube_http.specs.declared.connection.Heard.TheVariants as heard
 use Rattle.cube_http.specs.declared.targets.Wanted.{Wanted}
 use Rattle.cube_io.specs.Seen.{StoreState}
-use Rattle.cube_io.specs.States.{State}
 use Rattle.cube_server.specs.Crashes.{FailedFresh, Called, Endures}
 use Rattle.cube_server.specs.Logs.{Luck, Call, Course, Turn, Run, spoken, replied, answered, wanted_by, dealt_all, behind, run_of, log_of, calls_of, end_of, met}
 use Rattle.cube_server.specs.declared.serving.ServeFault.{ServeFault}
 use Rattle.cube_server.specs.declared.serving.ServeFault.TheVariants as fault
-use Rattle.cube_server.specs.Seen.{DeskState}
-use Rattle.cube_server.specs.Ears.{AreKept, AreOpen, OnGoes, is_on}
+use Rattle.cube_server.specs.Seen.{DeskState, Moment}
+use Rattle.cube_server.specs.Ears.{AreKept, AreOpen, Keeps, OnGoes, is_on, kept_bytes}
+use Rattle.cube_server.specs.declared.lines.Ear.{Ear}
 use Rattle.cube_server.specs.declared.deal.Left.{Left}
 use Rattle.cube_server.specs.declared.lines.Line.{Line}
+use Rattle.cube_server.specs.declared.lines.Lines.{Lines}
 
 -- each reply of the desk has a status with a phrase
 abbrev pub IsPhrased : Manner → Type 0
@@ -71,7 +72,7 @@ pub record Speaks (c : ℕ) (op : Turn → Turn) (log log' : List LogEntry) (liv
   pub runs : (k : Course) (left : List (Option ℕ)) → op (turn (speaking k (sends ++ left) log) true) ≡ turn (speaking k left log') live
 
 -- a step of the definition that may ask the desk too, and asks it just this
-pub record Deals (c : ℕ) (op : Turn → Turn) (old new : DeskState) (log log' : List LogEntry) (live : Bool) (calls : List Call) : Type 0 where
+pub record Deals (c : ℕ) (op : Turn → Turn) (live : Bool) (old new : DeskState) (log log' : List LogEntry) (calls : List Call) : Type 0 where
   pub talks : Talks c log log' live
   pub asked : Called old new calls
   pub sends : List (Option ℕ)
@@ -81,15 +82,19 @@ pub record Deals (c : ℕ) (op : Turn → Turn) (old new : DeskState) (log log' 
       → op (turn (course old.rooms old.capacity (asked.added ++ os) (sends ++ ss) (starved ++ bs) cs log) true) ≡ turn (course new.rooms new.capacity os ss bs (cs ++ calls) log') live
 
 -- the reply to what a request wants: where it goes out, the request was dealt with
-abbrev pub MakesReply : Wanted → DeskState → DeskState → Reply → List Call → Type 0
-MakesReply w old new r calls =
-    (q : Request) (c : ℕ) (log log' : List LogEntry) (live : Bool) → Speaks c (answered c q r) log log' live → Deals c (wanted_by old.manner w c q) old new log log' live calls
+abbrev pub MakesReply : Wanted → Reply → DeskState → DeskState → List Call → Type 0
+MakesReply w r old new calls =
+    (q : Request) (c : ℕ) (log log' : List LogEntry) (live : Bool) → Speaks c (answered c q r) log log' live → Deals c (wanted_by old.manner w c q) live old new log log' calls
 
 -- A piece on a connection on which a stream came before: what the items whose last byte lies in it lead to, and, while asks may be made,
 -- that an open connection keeps what goes on as the stream with the piece does.
-pub record HearsPiece (c : ℕ) (stream piece : List ℕ) (old new : DeskState) (log log' : List LogEntry) (left : Left) (calls : List Call) : Type 0 where
-  pub deals : Deals c (dealt_all old.manner c (behind (length stream) (stream ++ piece))) old new log log' (is_on left) calls
+pub record HearsPiece (c : ℕ) (stream piece : List ℕ) (left : Left) (old new : DeskState) (log log' : List LogEntry) (calls : List Call) : Type 0 where
+  pub deals : Deals c (dealt_all old.manner c (behind (length stream) (stream ++ piece))) (is_on left) old new log log' calls
   pub goes : 0 < new.capacity → OnGoes left (stream ++ piece)
+
+-- the same, whatever stream came that goes on as what is kept does
+abbrev pub HearsAll : ℕ → Ear → List ℕ → Left → DeskState → DeskState → List LogEntry → List LogEntry → List Call → Type 0
+HearsAll c ear piece left old new log log' calls = (stream : List ℕ) → Keeps stream (kept_bytes ear) → HearsPiece c stream piece left old new log log' calls
 
 -- what is sent where the client may wait for leave
 abbrev pub body_said : ℕ → Bool → Turn → Turn
@@ -115,9 +120,9 @@ pub record Meets (op : Run → Run) (lines' : List Line) (conns : List (ℕ × L
   pub runs : (n : ℕ) (os : List Outcome) (ss : List (Option ℕ)) (bs : List Bool) (cs : List Call)
       → op (run conns n (course old.rooms old.capacity (asked.added ++ os) (sends ++ ss) (starved ++ bs) cs log)) ≡ run conns' n (course new.rooms new.capacity os ss bs (cs ++ calls) log')
 
--- the same, whatever came on the connections that were open before
-abbrev pub MeetsAll : (Run → Run) → List Line → List Line → DeskState → DeskState → List LogEntry → List LogEntry → List Call → Type 0
-MeetsAll op lines lines' old new log log' calls = (conns : List (ℕ × List ℕ)) → AreKept lines conns → Meets op lines' conns old new log log' calls
+-- what an event leads to, whatever came on the connections that were open before
+abbrev pub MeetsAll : Arrival → Lines → Lines → DeskState → DeskState → List LogEntry → List LogEntry → List Call → Type 0
+MeetsAll event lines lines' old new log log' calls = (conns : List (ℕ × List ℕ)) → AreKept lines.lines.items conns → Meets (met old.manner event) lines'.lines.items conns old new log log' calls
 
 -- the stated numbers of asks and of events
 pub record Stated : Type 0 where
@@ -163,9 +168,9 @@ pub record Takes (lines' : List Line) (conns : List (ℕ × List ℕ)) (old new 
   pub more : is_end event ≡ false
   pub meets : Meets (met old.manner event) lines' conns old new (log ++ Heard event ∷ []) log' calls
 
--- the same, whatever came on the connections that were open before
-abbrev pub TakesAll : List Line → List Line → DeskState → DeskState → List LogEntry → List LogEntry → List Call → Type 0
-TakesAll lines lines' old new log log' calls = (conns : List (ℕ × List ℕ)) → AreKept lines conns → Takes lines' conns old new log log' calls
+-- so it was where this holds, whatever came on the connections that were open before
+abbrev pub TakesWhere : Type 0 → Lines → Lines → DeskState → DeskState → List LogEntry → List LogEntry → List Call → Type 0
+TakesWhere more lines lines' old new log log' calls = more → (conns : List (ℕ × List ℕ)) → AreKept lines.lines.items conns → Takes lines'.lines.items conns old new log log' calls
 
 -- What is said by the fault that ends a call of at most so many events: the wire failed before the stated asks and events were used up;
 -- or one of these was, and both were counted.
@@ -176,7 +181,7 @@ IsCounted (fault.Spent requests taken) told old new events log =
 
 -- The wire allows that the next event is looked for at each moment of a call of which all is true that is promised of a call which ends
 -- there since the wire fails: the log so far is that of the definition, and what its asks leave is on the store.
-abbrev pub Permits : {D S : Type 0} → (D → DeskState) → (D → List Room → ℕ → State → Type 0) → (D → List Room → ℕ → State → Type 0) → (S → StoreState) → (StoreState → List LogEntry → Type 0) → ℕ → D → S → Type 0
-Permits {D} {S} at within exact tells allows events desk store = (d : D) (t : S) (log : List LogEntry) (calls : List Call)
-    → Serves (at desk) (at d) events log calls → IsCounted fault.WireFailed true (at desk) (at d) events log → has_end log ≡ false
-    → Endures (within desk) (within d) (exact desk) (exact d) (at desk) (at d) (tells store) (tells t) calls → allows (tells t) log
+abbrev pub Permits : {D S : Type 0} → (D → StoreState → Moment) → (S → StoreState) → (StoreState → List LogEntry → Type 0) → ℕ → D → S → Type 0
+Permits {D} {S} at tells allows events desk store = (d : D) (t : S) (log : List LogEntry) (calls : List Call)
+    → Serves (at desk (tells store)).desk (at d (tells t)).desk events log calls → IsCounted fault.WireFailed true (at desk (tells store)).desk (at d (tells t)).desk events log → has_end log ≡ false
+    → Endures (at desk (tells store)) (at d (tells t)) calls → allows (tells t) log

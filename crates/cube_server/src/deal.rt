@@ -1,12 +1,12 @@
 // What is said on one connection, and what it leads to.
-ghost use Rattle.std.specs.Prelude.{◌≡◌, ◌<◌, ◌≤◌, [], ℕ, List, length, drop, IsTrue, true, false};
+ghost use Rattle.std.specs.Prelude.{◌≡◌, ◌≤◌, [], length, drop, IsTrue, true, false};
 ghost use Rattle.cube_io.specs.Wires.{IsSound};
 ghost use Rattle.cube_http.specs.Targets.{wanted};
-ghost use Rattle.cube_server.specs.Crashes.{Endures};
-ghost use Rattle.cube_server.specs.Ears.{kept_bytes, said, Fits, Keeps, is_on, is_continue, IsBad, OnKeeps, OnLeaves};
-ghost use Rattle.cube_server.specs.Logs.{Call, wanted_by, dealt_all};
-ghost use Rattle.cube_server.specs.Seen.{desk_of, OnlySends};
-ghost use Rattle.cube_server.specs.Steps.{Speaks, Deals, MakesReply, HearsPiece, IsPhrased, body_said, dead_said};
+ghost use Rattle.cube_server.specs.Crashes.{Leads, LeadsOver};
+ghost use Rattle.cube_server.specs.Ears.{said, Fits, is_on, is_continue, IsBad, OnKeeps, OnLeaves};
+ghost use Rattle.cube_server.specs.Logs.{wanted_by, dealt_all};
+ghost use Rattle.cube_server.specs.Seen.{moment, OnlySends};
+ghost use Rattle.cube_server.specs.Steps.{Speaks, Deals, MakesReply, HearsAll, IsPhrased, body_said, dead_said};
 ghost use Rattle.cube_http.specs.Responses.{has_phrase, status_of};
 
 use crate::lines::Ear;
@@ -38,7 +38,7 @@ fn reply_to<S: Store, D: Desk<S>>(
     requires fits { D.fits desk.old store.old }
     requires capacity { 1 ≤ D.capacity desk.old }
     requires phrased { IsPhrased (D.manner desk.old) }
-    ensures does { let at = desk_of D.manner D.rooms D.capacity D.outcomes in (calls : List Call) × Endures (D.within desk.old) (D.within desk.new) (D.exact desk.old) (D.exact desk.new) (at desk.old) (at desk.new) (S.state store.old) (S.state store.new) calls × MakesReply wanted.now (at desk.old) (at desk.new) result calls }
+    ensures does { let at = moment D.manner D.rooms D.capacity D.outcomes D.exact D.within in Leads (at desk.old (S.state store.old)) (at desk.new (S.state store.new)) (MakesReply wanted.now result) }
     ensures phrase { IsTrue (has_phrase (status_of result)) }
     ensures fits { D.fits desk.new store.new }
 {
@@ -58,7 +58,7 @@ fn make_reply<S: Store, D: Desk<S>>(
     requires fits { D.fits desk.old store.old }
     requires capacity { 1 ≤ D.capacity desk.old }
     requires phrased { IsPhrased (D.manner desk.old) }
-    ensures does { let at = desk_of D.manner D.rooms D.capacity D.outcomes in (calls : List Call) × Endures (D.within desk.old) (D.within desk.new) (D.exact desk.old) (D.exact desk.new) (at desk.old) (at desk.new) (S.state store.old) (S.state store.new) calls × MakesReply (wanted done.now) (at desk.old) (at desk.new) result calls }
+    ensures does { let at = moment D.manner D.rooms D.capacity D.outcomes D.exact D.within in Leads (at desk.old (S.state store.old)) (at desk.new (S.state store.new)) (MakesReply (wanted done.now) result) }
     ensures phrase { IsTrue (has_phrase (status_of result)) }
     ensures fits { D.fits desk.new store.new }
 {
@@ -81,7 +81,7 @@ fn answer_request<S: Store, D: Desk<S>, W: Wire>(
     requires capacity { 1 ≤ D.capacity desk.old }
     requires phrased { IsPhrased (D.manner desk.old) }
     requires live { IsTrue (W.state wire.old).told → IsSound c (W.state wire.old).log }
-    ensures does { let at = desk_of D.manner D.rooms D.capacity D.outcomes in (calls : List Call) × Endures (D.within desk.old) (D.within desk.new) (D.exact desk.old) (D.exact desk.new) (at desk.old) (at desk.new) (S.state store.old) (S.state store.new) calls × (IsTrue (W.state wire.old).told → Deals c (wanted_by (D.manner desk.old) (wanted done.now) c done.now) (at desk.old) (at desk.new) (W.state wire.old).log (W.state wire.new).log result calls) }
+    ensures does { let at = moment D.manner D.rooms D.capacity D.outcomes D.exact D.within in LeadsOver (W.state wire.old) (W.state wire.new) (at desk.old (S.state store.old)) (at desk.new (S.state store.new)) (Deals c (wanted_by (D.manner desk.old) (wanted done.now) c done.now) result) }
     ensures fits { D.fits desk.new store.new }
     ensures sending { OnlySends (W.state wire.old) (W.state wire.new) }
 {
@@ -146,7 +146,7 @@ fn deal_done<S: Store, D: Desk<S>, W: Wire>(
     requires capacity { 1 ≤ D.capacity desk.old }
     requires phrased { IsPhrased (D.manner desk.old) }
     requires live { IsTrue (W.state wire.old).told → IsSound c (W.state wire.old).log }
-    ensures does { let at = desk_of D.manner D.rooms D.capacity D.outcomes in (calls : List Call) × Endures (D.within desk.old) (D.within desk.new) (D.exact desk.old) (D.exact desk.new) (at desk.old) (at desk.new) (S.state store.old) (S.state store.new) calls × (IsTrue (W.state wire.old).told → Deals c (wanted_by (D.manner desk.old) (wanted done) c done) (at desk.old) (at desk.new) (W.state wire.old).log (W.state wire.new).log (is_on result) calls) }
+    ensures does { let at = moment D.manner D.rooms D.capacity D.outcomes D.exact D.within in LeadsOver (W.state wire.old) (W.state wire.new) (at desk.old (S.state store.old)) (at desk.new (S.state store.new)) (Deals c (wanted_by (D.manner desk.old) (wanted done) c done) (is_on result)) }
     ensures keeps { OnKeeps result [] }
     ensures fits { D.fits desk.new store.new }
     ensures sending { OnlySends (W.state wire.old) (W.state wire.new) }
@@ -173,7 +173,7 @@ fn deal<S: Store, D: Desk<S>, W: Wire>(
     requires phrased { IsPhrased (D.manner desk.old) }
     requires live { IsTrue (W.state wire.old).told → IsSound c (W.state wire.old).log }
     requires heard { Fits heard conn }
-    ensures does { let at = desk_of D.manner D.rooms D.capacity D.outcomes in (calls : List Call) × Endures (D.within desk.old) (D.within desk.new) (D.exact desk.old) (D.exact desk.new) (at desk.old) (at desk.new) (S.state store.old) (S.state store.new) calls × (IsTrue (W.state wire.old).told → Deals c (dealt_all (D.manner desk.old) c (said heard conn)) (at desk.old) (at desk.new) (W.state wire.old).log (W.state wire.new).log (is_on result) calls) }
+    ensures does { let at = moment D.manner D.rooms D.capacity D.outcomes D.exact D.within in LeadsOver (W.state wire.old) (W.state wire.new) (at desk.old (S.state store.old)) (at desk.new (S.state store.new)) (Deals c (dealt_all (D.manner desk.old) c (said heard conn)) (is_on result)) }
     ensures leaves { OnLeaves result conn }
     ensures fits { D.fits desk.new store.new }
     ensures sending { OnlySends (W.state wire.old) (W.state wire.new) }
@@ -208,8 +208,7 @@ pub fn hear_piece<S: Store, D: Desk<S>, W: Wire>(
     requires capacity { 1 ≤ D.capacity desk.old }
     requires phrased { IsPhrased (D.manner desk.old) }
     requires live { IsTrue (W.state wire.old).told → IsSound c (W.state wire.old).log }
-    ensures does { let at = desk_of D.manner D.rooms D.capacity D.outcomes in (calls : List Call) × Endures (D.within desk.old) (D.within desk.new) (D.exact desk.old) (D.exact desk.new) (at desk.old) (at desk.new) (S.state store.old) (S.state store.new) calls × (IsTrue (W.state wire.old).told → (stream : List ℕ) → Keeps stream (kept_bytes ear)
-        → HearsPiece c stream piece.now (at desk.old) (at desk.new) (W.state wire.old).log (W.state wire.new).log result calls) }
+    ensures does { let at = moment D.manner D.rooms D.capacity D.outcomes D.exact D.within in LeadsOver (W.state wire.old) (W.state wire.new) (at desk.old (S.state store.old)) (at desk.new (S.state store.new)) (HearsAll c ear piece.now result) }
     ensures fits { D.fits desk.new store.new }
     ensures sending { OnlySends (W.state wire.old) (W.state wire.new) }
 {

@@ -2,10 +2,14 @@
 ghost use Rattle.std.specs.Prelude.{◌≡◌, [], ◌∷◌, ◌++◌, true, Some, None, codes};
 ghost use Rattle.cube_model.specs.declared.outcome.Outcome.TheVariants.{Given, NoMemory};
 ghost use Rattle.cube_model.specs.declared.reply.Fixed.TheVariants as fixed;
+ghost use Rattle.cube_model.specs.Rooms.{Room};
+ghost use Rattle.cube_io.specs.Desks.{LeavesAll};
 ghost use Rattle.cube_io.specs.Wires.Arrival.{Opened, Came, End};
 ghost use Rattle.cube_io.specs.Wires.LogEntry.{Sent, Torn, Shut};
 ghost use Rattle.cube_server.specs.Alike.{LogsAreAlike};
 ghost use Rattle.cube_server.specs.Closings.{FailsLast};
+ghost use Rattle.cube_server.specs.Crashes.{IsInHand};
+ghost use Rattle.cube_server.specs.Failing.{Gives, enters, failed_first, kept, log_before, log_behind};
 ghost use Rattle.cube_server.specs.Rows.{played, texts, get, ok_head, ample, mixed_events, refused_events, anew_events, refused_with};
 
 /// What goes out, and what is asked.
@@ -37,4 +41,16 @@ pub fn logs_are_alike()
 /// Behind a send that failed its connection is closed, and nothing more goes out before an event comes.
 pub fn failed_sends_are_closed()
     ensures { FailsLast }
+{}
+
+/// What a crash may leave while two asks are answered, of which the journal fails for the first: nothing yet, or the request of the first
+/// alone, which was in hand, or that of the second alone; but not both. The log of such a run leaves just that, and were the request
+/// of the ask that failed left out of what is in hand, it would leave more.
+pub fn worked_fault()
+    ensures nothing { (r : Room) → IsInHand (enters r) [] failed_first [] }
+    ensures first { (r : Room) → IsInHand (enters r) [] failed_first (r ∷ []) }
+    ensures second { (r : Room) → IsInHand (enters r) [] failed_first (r ∷ r ∷ []) }
+    ensures both { (r : Room) → ¬ IsInHand (enters r) [] failed_first (r ∷ r ∷ r ∷ []) }
+    ensures leaves { (r : Room) → LeavesAll (Gives r) (IsInHand (enters r) [] failed_first) log_before log_behind }
+    ensures without { (r : Room) → ¬ LeavesAll (Gives r) (IsInHand (enters r) [] (kept ∷ [])) log_before log_behind }
 {}

@@ -5,12 +5,11 @@ ghost use Rattle.cube_io.specs.Told.{PlaysOn};
 ghost use Rattle.cube_io.specs.Wires.{Arrival, LogEntry, IsSound, FitsBuffer, arrival_of, events_in};
 ghost use Rattle.cube_io.specs.Wires.LogEntry.{Heard};
 ghost use Rattle.cube_io.specs.Wires.Arrival.{Opened, Came, Closed, End};
-ghost use Rattle.cube_server.specs.Crashes.{Endures};
+ghost use Rattle.cube_server.specs.Crashes.{LeadsOver};
 ghost use Rattle.cube_server.specs.Ears.{has, IsAnew, HasCapacity, AreOpen, AreOpenBut, AreOpenAt, is_last};
-ghost use Rattle.cube_server.specs.Logs.{Call, met};
 ghost use Rattle.cube_server.specs.Pools.{IsFree};
-ghost use Rattle.cube_server.specs.Seen.{DeskState, desk_of, OnlySends};
-ghost use Rattle.cube_server.specs.Steps.{IsPhrased, IsCounted, MeetsAll, Permits, TakesAll, Serves, has_end};
+ghost use Rattle.cube_server.specs.Seen.{DeskState, moment, OnlySends};
+ghost use Rattle.cube_server.specs.Steps.{IsPhrased, IsCounted, MeetsAll, Permits, TakesWhere, Serves, has_end};
 
 use crate::deal::{Left, hear_piece};
 use crate::lines::{Ear, Lines};
@@ -64,7 +63,7 @@ fn open_conn<W: Wire>(wire: &mut W, lines: &mut Lines, c: u32)
     requires live { IsTrue (W.state wire.old).told → IsSound c (W.state wire.old).log }
     ensures capacity { HasCapacity lines.new 0 }
     ensures meets { IsTrue (W.state wire.old).told → AreOpenBut c lines.old.lines.items (W.state wire.old).log
-        → (desk : DeskState) → MeetsAll (met desk.manner (Opened c)) lines.old.lines.items lines.new.lines.items desk desk (W.state wire.old).log (W.state wire.new).log [] }
+        → (desk : DeskState) → MeetsAll (Opened c) lines.old lines.new desk desk (W.state wire.old).log (W.state wire.new).log [] }
     ensures sending { OnlySends (W.state wire.old) (W.state wire.new) }
 {
     match fresh_ear(lines, c) {
@@ -80,7 +79,7 @@ fn close_conn(lines: &mut Lines, c: u32)
     requires { HasCapacity lines.old 0 }
     ensures capacity { HasCapacity lines.new 0 }
     ensures meets { (log : List LogEntry) → AreOpenBut c lines.old.lines.items log
-        → (desk : DeskState) → MeetsAll (met desk.manner (Closed c)) lines.old.lines.items lines.new.lines.items desk desk log log [] }
+        → (desk : DeskState) → MeetsAll (Closed c) lines.old lines.new desk desk log log [] }
 {
     match lines.take(c) {
         Some(ear) => lines.give(ear.renew()),
@@ -104,8 +103,7 @@ fn hear<S: Store, D: Desk<S>, W: Wire>(
     requires lines { HasCapacity lines.old 0 }
     requires live { IsTrue (W.state wire.old).told → AreOpen lines.old.lines.items (W.state wire.old).log }
     ensures lines { HasCapacity lines.new 0 }
-    ensures does { let at = desk_of D.manner D.rooms D.capacity D.outcomes in (calls : List Call) × Endures (D.within desk.old) (D.within desk.new) (D.exact desk.old) (D.exact desk.new) (at desk.old) (at desk.new) (S.state store.old) (S.state store.new) calls × (IsTrue (W.state wire.old).told → MeetsAll (met (D.manner desk.old) (Came c piece.now)) lines.old.lines.items lines.new.lines.items
-        (at desk.old) (at desk.new) (W.state wire.old).log (W.state wire.new).log calls) }
+    ensures does { let at = moment D.manner D.rooms D.capacity D.outcomes D.exact D.within in LeadsOver (W.state wire.old) (W.state wire.new) (at desk.old (S.state store.old)) (at desk.new (S.state store.new)) (MeetsAll (Came c piece.now) lines.old lines.new) }
     ensures fits { D.fits desk.new store.new }
     ensures sending { OnlySends (W.state wire.old) (W.state wire.new) }
 {
@@ -136,8 +134,7 @@ fn meet<S: Store, D: Desk<S>, W: Wire>(
     requires live { IsTrue (W.state wire.old).told → AreOpenAt event lines.old.lines.items (W.state wire.old).log }
     requires more { is_last event ≡ false }
     ensures lines { HasCapacity lines.new 0 }
-    ensures does { let at = desk_of D.manner D.rooms D.capacity D.outcomes in (calls : List Call) × Endures (D.within desk.old) (D.within desk.new) (D.exact desk.old) (D.exact desk.new) (at desk.old) (at desk.new) (S.state store.old) (S.state store.new) calls × (IsTrue (W.state wire.old).told → MeetsAll (met (D.manner desk.old) (arrival_of event buf.now)) lines.old.lines.items lines.new.lines.items
-        (at desk.old) (at desk.new) (W.state wire.old).log (W.state wire.new).log calls) }
+    ensures does { let at = moment D.manner D.rooms D.capacity D.outcomes D.exact D.within in LeadsOver (W.state wire.old) (W.state wire.new) (at desk.old (S.state store.old)) (at desk.new (S.state store.new)) (MeetsAll (arrival_of event buf.now) lines.old lines.new) }
     ensures fits { D.fits desk.new store.new }
     ensures sending { OnlySends (W.state wire.old) (W.state wire.new) }
 {
@@ -176,8 +173,7 @@ fn take_event<S: Store, D: Desk<S>, W: Wire>(
     requires live { IsTrue (W.state wire.old).told → AreOpen lines.old.lines.items (W.state wire.old).log }
     requires allowed { IsTrue (W.state wire.old).told → W.allows (S.state store.old) (W.state wire.old).log }
     ensures lines { HasCapacity lines.new 0 }
-    ensures does { let at = desk_of D.manner D.rooms D.capacity D.outcomes in (calls : List Call) × Endures (D.within desk.old) (D.within desk.new) (D.exact desk.old) (D.exact desk.new) (at desk.old) (at desk.new) (S.state store.old) (S.state store.new) calls × (result ≡ Taken.More → IsTrue (W.state wire.old).told → TakesAll lines.old.lines.items lines.new.lines.items
-        (at desk.old) (at desk.new) (W.state wire.old).log (W.state wire.new).log calls) }
+    ensures does { let at = moment D.manner D.rooms D.capacity D.outcomes D.exact D.within in LeadsOver (W.state wire.old) (W.state wire.new) (at desk.old (S.state store.old)) (at desk.new (S.state store.new)) (TakesWhere (result ≡ Taken.More) lines.old lines.new) }
     ensures ended { result ≡ Taken.Ended → (desk.new ≡ desk.old) × (store.new ≡ store.old) × (IsTrue (W.state wire.old).told → (W.state wire.new).log ≡ (W.state wire.old).log ++ Heard End ∷ []) }
     ensures failed { result ≡ Taken.Failed → (desk.new ≡ desk.old) × (store.new ≡ store.old) × (IsTrue (W.state wire.old).told → (W.state wire.new).log ≡ (W.state wire.old).log) × Rose (W.state wire.old).faults (W.state wire.new).faults }
     ensures fits { D.fits desk.new store.new }
@@ -214,13 +210,13 @@ fn serve_lines<S: Store, D: Desk<S>, W: Wire>(
     requires none { lines.old.lines.items ≡ [] }
     requires buf { length buf.old ≡ 65536 }
     requires log { IsTrue (W.state wire.old).told → (W.state wire.old).log ≡ [] }
-    requires permits { let at = desk_of D.manner D.rooms D.capacity D.outcomes in IsTrue (W.state wire.old).told → Permits {D = D} {S = S} at D.within D.exact S.state W.allows events desk.old store.old }
+    requires permits { let at = moment D.manner D.rooms D.capacity D.outcomes D.exact D.within in IsTrue (W.state wire.old).told → Permits {D = D} {S = S} at S.state W.allows events desk.old store.old }
     ensures lines { HasCapacity lines.new 0 }
-    ensures serves { let at = desk_of D.manner D.rooms D.capacity D.outcomes in (calls : List Call) × Endures (D.within desk.old) (D.within desk.new) (D.exact desk.old) (D.exact desk.new) (at desk.old) (at desk.new) (S.state store.old) (S.state store.new) calls × (IsTrue (W.state wire.old).told → Serves (at desk.old) (at desk.new) events (W.state wire.new).log calls) }
+    ensures serves { let at = moment D.manner D.rooms D.capacity D.outcomes D.exact D.within in LeadsOver (W.state wire.old) (W.state wire.new) (at desk.old (S.state store.old)) (at desk.new (S.state store.new)) (λ d e started log calls. Serves d e events log calls) }
     ensures ended { IsTrue (W.state wire.old).told → OnOk result ((es : List Arrival) × (events_in (W.state wire.new).log ≡ es ++ End ∷ []) × (length es < events)) }
     ensures unended { IsTrue (W.state wire.old).told → OnErr result (has_end (W.state wire.new).log ≡ false) }
     ensures capacity { OnOk result (0 < D.capacity desk.new) }
-    ensures spent { let at = desk_of D.manner D.rooms D.capacity D.outcomes in IfErr result (λ fault. IsCounted fault (W.state wire.old).told (at desk.old) (at desk.new) events (W.state wire.new).log) }
+    ensures spent { let at = moment D.manner D.rooms D.capacity D.outcomes D.exact D.within in IfErr result (λ fault. IsCounted fault (W.state wire.old).told (at desk.old (S.state store.old)).desk (at desk.new (S.state store.new)).desk events (W.state wire.new).log) }
     ensures failed { result ≡ Err ServeFault.WireFailed → Rose (W.state wire.old).faults (W.state wire.new).faults }
     ensures steady { result ≢ Err ServeFault.WireFailed → (W.state wire.new).faults ≡ (W.state wire.old).faults }
     ensures sends { (W.state wire.old).send_faults ≤ (W.state wire.new).send_faults }
@@ -270,14 +266,14 @@ pub fn serve<S: Store, D: Desk<S>, W: Wire>(
     requires phrased { IsPhrased (D.manner desk.old) }
     requires pool { IsFree pool.old }
     requires log { IsTrue (W.state wire.old).told → (W.state wire.old).log ≡ [] }
-    requires permits { let at = desk_of D.manner D.rooms D.capacity D.outcomes in IsTrue (W.state wire.old).told → Permits {D = D} {S = S} at D.within D.exact S.state W.allows events desk.old store.old }
-    ensures serves { let at = desk_of D.manner D.rooms D.capacity D.outcomes in (calls : List Call) × Endures (D.within desk.old) (D.within desk.new) (D.exact desk.old) (D.exact desk.new) (at desk.old) (at desk.new) (S.state store.old) (S.state store.new) calls × (IsTrue (W.state wire.old).told → Serves (at desk.old) (at desk.new) events (W.state wire.new).log calls) }
+    requires permits { let at = moment D.manner D.rooms D.capacity D.outcomes D.exact D.within in IsTrue (W.state wire.old).told → Permits {D = D} {S = S} at S.state W.allows events desk.old store.old }
+    ensures serves { let at = moment D.manner D.rooms D.capacity D.outcomes D.exact D.within in LeadsOver (W.state wire.old) (W.state wire.new) (at desk.old (S.state store.old)) (at desk.new (S.state store.new)) (λ d e started log calls. Serves d e events log calls) }
 
     // Ok comes exactly at the end, and a fault only before it.
     ensures ended { IsTrue (W.state wire.old).told → OnOk result ((es : List Arrival) × (events_in (W.state wire.new).log ≡ es ++ End ∷ []) × (length es < events)) }
     ensures unended { IsTrue (W.state wire.old).told → OnErr result (has_end (W.state wire.new).log ≡ false) }
     ensures capacity { OnOk result (0 < D.capacity desk.new) }
-    ensures spent { let at = desk_of D.manner D.rooms D.capacity D.outcomes in IfErr result (λ fault. IsCounted fault (W.state wire.old).told (at desk.old) (at desk.new) events (W.state wire.new).log) }
+    ensures spent { let at = moment D.manner D.rooms D.capacity D.outcomes D.exact D.within in IfErr result (λ fault. IsCounted fault (W.state wire.old).told (at desk.old (S.state store.old)).desk (at desk.new (S.state store.new)).desk events (W.state wire.new).log) }
     ensures failed { result ≡ Err ServeFault.WireFailed → Rose (W.state wire.old).faults (W.state wire.new).faults }
     ensures steady { result ≢ Err ServeFault.WireFailed → (W.state wire.new).faults ≡ (W.state wire.old).faults }
     ensures sends { (W.state wire.old).send_faults ≤ (W.state wire.new).send_faults }

@@ -9,7 +9,7 @@ pub items-init : goal.items-init
 items-init g c = record {
   fits = c.requires.fits;
   calls = [];
-  endures = endures_none _ _ _ _;
+  endures = endures_none _;
   sending = sends_none _;
   talks = λ told. talks_none c.args.c _;
   progress = λ told stream k. progress_start (g.D.Desk.manner c.args.desk.now) c.args.c stream c.args.piece.now _ _ _ k;
@@ -45,7 +45,7 @@ items-preserved g c =
     record {
       fits = c.in-On.ensures.fits;
       calls = was.calls ++ calls;
-      endures = endures_then _ _ _ _ _ _ _ _ _ _ _ _ _ _ was.endures endures;
+      endures = endures_then _ _ _ _ _ was.endures endures;
       sending = sends_then _ _ _ was.sending c.in-On.ensures.sending;
       talks = λ told. talks_then c.args.c _ _ _ _ (was.talks told) (does (rw (← was.sending.plays.told) at told)).talks;
       progress = λ told stream k.
@@ -59,7 +59,7 @@ returns-in-Off-clause-does g c =
     let was = c.items.invariant in
     let (calls, endures, does) = c.in-Off.ensures.does in (
       was.calls ++ calls,
-      endures_then _ _ _ _ _ _ _ _ _ _ _ _ _ _ was.endures endures,
+      endures_then _ _ _ _ _ was.endures endures,
       (λ told stream k.
           let deals = does (rw (← was.sending.plays.told) at told) in
           record {

@@ -8,13 +8,14 @@ returns-in-Asked-clause-does g c =
     let x = c.answer.ensures in
     let a = x.answered in (
       record { ask = c.in-Asked.ask; outcome = a.outcome } ∷ [],
-      endures_answer c.in-Asked.ask c.answer.result _ _ _ _ _ _ _ _ (record {
+      endures_answer c.in-Asked.ask c.answer.result _ _ (record {
         answered = a;
         manner = x.manner;
         capacity = x.capacity;
         told = x.told;
         names = x.names;
         memory = λ e. ap g.S.Store.state (x.memory e);
+        calls = x.calls;
         within_stays = x.within_stays;
         exact_stays = x.exact_stays;
         passed = x.passed;
@@ -27,4 +28,4 @@ returns-in-Asked-clause-does g c =
     )
 
 pub returns-in-Constant-clause-does : goal.returns-in-Constant-clause-does
-returns-in-Constant-clause-does g c = ([], endures_none _ _ _ _, rw c.in-Constant.is (λ q n log log' live s. constant_deals n q c.in-Constant.fixed _ log log' live s))
+returns-in-Constant-clause-does g c = ([], endures_none _, rw c.in-Constant.is (λ q n log log' live s. constant_deals n q c.in-Constant.fixed _ log log' live s))

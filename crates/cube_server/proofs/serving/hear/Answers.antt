@@ -8,7 +8,7 @@ pub returns-in_default-clause-does : goal.returns-in_default-clause-does
 returns-in_default-clause-does g c =
     let none = c.in_default.ensures.none in (
       [],
-      endures_none _ _ _ _,
+      endures_none _,
       (λ told conns k. dropped_meets (g.D.Desk.manner c.args.desk.now) c.args.c c.args.piece.now c.args.lines.now.lines.items c.take.new.self.lines.items conns _ _ none.1 none.2 k (c.requires.live told)),
     )
 

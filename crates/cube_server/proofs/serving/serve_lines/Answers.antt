@@ -13,7 +13,7 @@ events-init g c = record {
   lines = c.requires.lines;
   fits = c.requires.fits;
   calls = [];
-  endures = endures_none _ _ _ _;
+  endures = endures_none _;
   sending = sends_none _;
   heard = λ told. rw (c.requires.log told) refl;
   stands = λ told. let n : c.args.events - 0 ≡ c.args.events = omega arith in
@@ -58,9 +58,9 @@ returns-then-left-eq0-clause-serves g c =
     let was = c.events.invariant in
     let (calls, endures, does) = c.in-More.ensures.does in (
       was.calls ++ calls,
-      endures_then _ _ _ _ _ _ _ _ _ _ _ _ _ _ was.endures endures,
+      endures_then _ _ _ _ _ was.endures endures,
       (λ told.
-          let takes = does refl (rw (← was.sending.plays.told) at told) in
+          let takes = does (rw (← was.sending.plays.told) at told) refl in
           let on = onward _ _ _ c.args.events c.events.taken _ _ _ _ _ _ (was.stands told) endures.manner c.events-test.true was.more takes in
           stands_done _ _ c.args.events (c.args.events - (c.events.taken + 1)) _ _ _ _ on.stands refl),
     )
@@ -68,7 +68,7 @@ returns-then-left-eq0-clause-serves g c =
 pub returns-then-left-eq0-clause-unended : goal.returns-then-left-eq0-clause-unended
 returns-then-left-eq0-clause-unended g c = λ told.
     let was = c.events.invariant in
-    let takes = c.in-More.ensures.does.2 refl (rw (← was.sending.plays.told) at told) in
+    let takes = c.in-More.ensures.does.2 (rw (← was.sending.plays.told) at told) refl in
     (onward _ _ _ c.args.events c.events.taken _ _ _ _ _ _ (was.stands told) c.in-More.ensures.does.1.manner c.events-test.true was.more takes).stands.unended
 
 pub returns-then-left-eq0-clause-spent : goal.returns-then-left-eq0-clause-spent
@@ -77,7 +77,7 @@ returns-then-left-eq0-clause-spent g c =
     let none : g.D.Desk.capacity c.take_event.new.desk ≡ 0 = sym c.left.ensures ∙ c.if-left-eq0.true in (
       omega (arith, c.in-More.ensures.does.1.counted, was.endures.counted, none, c.left-capacity.ensures),
       (λ told.
-          let takes = c.in-More.ensures.does.2 refl (rw (← was.sending.plays.told) at told) in
+          let takes = c.in-More.ensures.does.2 (rw (← was.sending.plays.told) at told) refl in
           (onward _ _ _ c.args.events c.events.taken _ _ _ _ _ _ (was.stands told) c.in-More.ensures.does.1.manner c.events-test.true was.more takes).longer
           ∙ ap (λ (n : ℕ). n + 1) (was.heard told)),
       omega (arith, c.events-test.true),
@@ -95,14 +95,14 @@ events-preserved g c =
       lines = more.lines;
       fits = more.fits;
       calls = was.calls ++ calls;
-      endures = endures_then _ _ _ _ _ _ _ _ _ _ _ _ _ _ was.endures endures;
+      endures = endures_then _ _ _ _ _ was.endures endures;
       sending = sends_then _ _ _ was.sending (record { plays = more.plays; faults = more.steady (λ e. cc); sends = more.sends });
       heard = λ told.
-          let takes = does refl (rw (← was.sending.plays.told) at told) in
+          let takes = does (rw (← was.sending.plays.told) at told) refl in
           (onward _ _ _ c.args.events c.events.taken _ _ _ _ _ _ (was.stands told) endures.manner c.events-test.true was.more takes).longer
           ∙ ap (λ (n : ℕ). n + 1) (was.heard told);
       stands = λ told.
-          let takes = does refl (rw (← was.sending.plays.told) at told) in
+          let takes = does (rw (← was.sending.plays.told) at told) refl in
           (onward _ _ _ c.args.events c.events.taken _ _ _ _ _ _ (was.stands told) endures.manner c.events-test.true was.more takes).stands;
     }
 

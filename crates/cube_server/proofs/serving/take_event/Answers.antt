@@ -32,17 +32,17 @@ taken e buf lines conns old new log mid after calls more heard meets = record {
 }
 
 pub returns-in-Err-clause-does : goal.returns-in-Err-clause-does
-returns-in-Err-clause-does g c = ([], endures_none _ _ _ _, (λ more. absurd (cc)))
+returns-in-Err-clause-does g c = ([], endures_none _, (λ told more. absurd (cc)))
 
 pub returns-then-is_end-clause-does : goal.returns-then-is_end-clause-does
-returns-then-is_end-clause-does g c = ([], endures_none _ _ _ _, (λ more. absurd (cc)))
+returns-then-is_end-clause-does g c = ([], endures_none _, (λ told more. absurd (cc)))
 
 pub returns-clause-does : goal.returns-clause-does
 returns-clause-does g c =
     let (calls, endures, meets) = c.meet.ensures.does in (
       calls,
       endures,
-      (λ more told conns k.
+      (λ told more conns k.
           let on : IsTrue (g.W.Wire.state c.next.new.self).told = rw c.in-Ok.ensures.plays.told told in
           taken c.in-Ok.event c.next.new.buf _ conns _ _ _ _ _ calls (sym c.is_end.ensures ∙ c.if-is_end.false) (c.in-Ok.ensures.log told) (meets on conns k)),
     )
