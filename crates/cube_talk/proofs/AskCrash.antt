@@ -1,8 +1,8 @@
 -- What is said to one line, and what a crash leaves meanwhile.
-use Rattle.std.proofs.Common.{◌≡◌, ◌≢◌, ◌⊎◌, ◌≤◌, ◌<◌, ℕ, ◌+◌, IsTrue, false, List, [], ◌∷◌, ◌++◌, drop, length, refl, sym, ap, subst, ◌∙◌, append-nil, arith, inl, inr, ⊎_elim}
+use Rattle.std.proofs.Common.{◌≡◌, ◌≢◌, ◌⊎◌, ◌≤◌, ◌<◌, ℕ, ◌+◌, ◌*◌, Bool, cond, IsTrue, true, false, List, [], ◌∷◌, ◌++◌, drop, length, refl, sym, ap, subst, ◌∙◌, append-nil, arith, inl, inr, ⊎_elim}
 use Rattle.std.proofs.lemmas.Bool.Decides.{nat_tests}
 use Rattle.cube_io.specs.Causes.{RoseBy}
-use Rattle.cube_io.specs.Desks.{IsConstant, Answered, ForeignStay, GivesRooms, LeavesAll, IsOneOf, faults_in}
+use Rattle.cube_io.specs.Desks.{IsConstant, Answered, ForeignStay, GivesRooms, LeavesAll, IsOneOf, faults_in, has_fault, most_calls}
 use Rattle.cube_io.specs.Seen.{StoreState}
 use Rattle.cube_io.specs.States.{State, Log, Gained}
 use Rattle.cube_io.proofs.Leaving.{leaves_all_none, leaves_all_map}
@@ -33,6 +33,7 @@ too_long_survives x ls = record {
   ends_exact = λ t none log e. e;
   in_hand = λ t log w. leaves_all_none (GivesRooms x.exact log) (IsLineInHand x.manner x.rooms ls []) (x.store.logs log) (x.store.logs log) refl;
   others = λ t log no. refl;
+  calls = λ t. omega arith;
 }
 
 pub too_long_serves : (x : Moment) (line : List ℕ) → 65536 < length line → 1 ≤ x.capacity → AnswersDurably x x (line ∷ []) too_large
@@ -58,6 +59,11 @@ risen_by : (o : Outcome) (before now : ℕ) → before ≤ now → (o ≡ Journa
 risen_by Given before now later rose = omega (arith, later)
 risen_by JournalFault before now later rose = rose refl
 risen_by NoMemory before now later rose = omega (arith, later)
+
+-- two calls or four
+at_most_four : (b : Bool) (x y : ℕ) → y ≤ x + cond b 4 2 → y ≤ x + 4 * 1
+at_most_four true x y f = omega (arith, f)
+at_most_four false x y f = omega (arith, f)
 
 answered_one : (x y : Moment) (line : List ℕ) (reply : Reply) → length line ≤ 65536 → y.manner ≡ x.manner → 1 ≤ x.capacity → y.capacity + 1 ≡ x.capacity
     → (a : Answered x.manner (ask_of line) x.rooms y.rooms x.outcomes y.outcomes x.store.faults y.store.faults reply) → AnswersAsks x y (line ∷ []) (reply_text reply)
@@ -87,9 +93,9 @@ pub one_serves : (x y : Moment) (line : List ℕ) (reply : Reply)
     → (y.outcomes ≢ x.outcomes ++ JournalFault ∷ [] → IsTrue x.store.told → (log : ℕ) → x.exact x.rooms log (x.store.logs log).state → y.exact y.rooms log (y.store.logs log).state)
     → ForeignStay x.within x.store y.store
     → (IsTrue x.store.told → (log : ℕ) → x.within x.rooms log (x.store.logs log).state → LeavesAll (GivesRooms x.exact log) (IsOneOf x.rooms (x.manner.next x.rooms (ask_of line) Given)) (x.store.logs log) (y.store.logs log))
-    → (y.outcomes ≡ x.outcomes ++ NoMemory ∷ [] → y.store ≡ x.store) → AnswersDurably x y (line ∷ []) (reply_text reply)
+    → (y.outcomes ≡ x.outcomes ++ NoMemory ∷ [] → y.store ≡ x.store) → (IsTrue x.store.told → y.store.calls ≤ x.store.calls + most_calls x.outcomes) → AnswersDurably x y (line ∷ []) (reply_text reply)
 unfolding answered_one
-one_serves x y line reply short same some left a tells named exactly wholly passed ends only others hand spared =
+one_serves x y line reply short same some left a tells named exactly wholly passed ends only others hand spared called =
     let answers = answered_one x y line reply short same some left a in (
       answers,
       record {
@@ -107,6 +113,7 @@ one_serves x y line reply short same some left a tells named exactly wholly pass
             (λ r bytes one g. (r, in_turn found r one, g)) (hand t log w))
             (memory_or_not a.outcome);
         others = others;
+        calls = λ t. at_most_four (has_fault x.outcomes) x.store.calls y.store.calls (called t);
       },
     )
   where
@@ -149,4 +156,4 @@ missed_serves x y line reply idle short same some left always is added stays exa
     (λ none t log e. subst (λ (l : Log). y.exact y.rooms log l.state) (sym (logs log)) ((exactly y.rooms log (x.store.logs log).state).1 (subst (λ (rs : List Room). x.exact rs log (x.store.logs log).state) (sym stays) e)))
     (λ t log no. logs log)
     (λ t log w. leaves_all_none (GivesRooms x.exact log) (IsOneOf x.rooms (x.manner.next x.rooms (ask_of line) Given)) (x.store.logs log) (y.store.logs log) (logs log))
-    (λ e. idle)
+    (λ e. idle) (λ t. let same = ap (λ (s : StoreState). s.calls) idle in omega (arith, same))

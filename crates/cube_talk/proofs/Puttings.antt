@@ -4,7 +4,7 @@ use Rattle.std.specs.declared.option.Option.{Option}
 use Rattle.std.specs.Io.KnownBytes.{Appends}
 use Rattle.cube_io.specs.Seen.{StoreState}
 use Rattle.cube_io.proofs.Told.{appends_then, appends_none, appends_same}
-use Rattle.cube_talk.specs.Putting.{IsNext, Permits, MayPut, MayAnswer, InSight}
+use Rattle.cube_talk.specs.Putting.{IsNext, says_over, Permits, MayPut, MayAnswer, InSight}
 use Rattle.cube_talk.specs.Piece.{PieceSays, HeardLine}
 use Rattle.cube_talk.specs.Talk.{Spoke}
 use Rattle.cube_talk.specs.declared.talk.Heard.{Heard}
@@ -89,16 +89,14 @@ behind_start sp kept a b w waiting none = record {
 -- what comes next of the answers to them and to one more line at most
 behind_next : {A B : Type 0} (sp : Speech A B) (kept : A → ℕ) (a a' a'' : A) (b b' b'' : B) (start now : Option (List ℕ)) (waiting : List ℕ) (last : List (List ℕ)) (reply bytes said piece rest : List ℕ)
     → Behind sp.says kept a b start a' b' now waiting → sp.says a' b' last a'' b'' reply → length last ≤ 1 → Appends now (Some bytes) said → waiting ++ reply ≡ said ++ (piece ++ rest)
-    → IsNext sp.says kept a b start a'' b'' (Some bytes) piece
+    → IsNext {X = A × B} (says_over sp.says) (λ x. kept x.0) (a, b) start (a'', b'') (Some bytes) piece
 behind_next sp kept a a' a'' b b' b'' start now waiting last reply bytes said piece rest k answer one put split = record {
   first = k.first;
-  after_first = k.after_first;
-  store_after_first = k.store_after_first;
+  after_first = (k.after_first, k.store_after_first);
   written = k.written;
   answered = k.answered;
   idle = k.idle;
-  after_idle = a';
-  store_after_idle = b';
+  after_idle = (a', b');
   text = k.text;
   kept_none = k.kept_none;
   same = k.same;
@@ -184,12 +182,10 @@ pub permits_on : {A B : Type 0} (sp : Speech A B) (kept : A → ℕ) (state : B 
 permits_on sp kept state allows a a' b b' start now ls text permits answered put = λ a'' b'' bytes piece told n. permits a'' b'' bytes piece told (record {
   first = ls ++ n.first;
   after_first = n.after_first;
-  store_after_first = n.store_after_first;
   written = text ++ n.written;
-  answered = sp.onward a a' n.after_first b b' n.store_after_first ls n.first text n.written answered n.answered;
+  answered = sp.onward a a' n.after_first.0 b b' n.after_first.1 ls n.first text n.written answered n.answered;
   idle = n.idle;
   after_idle = n.after_idle;
-  store_after_idle = n.store_after_idle;
   text = n.text;
   kept_none = n.kept_none;
   same = n.same;
@@ -221,13 +217,11 @@ pub permits_by : {X A B : Type 0} (f : X → A) (says : A → B → List (List �
     → Permits says kept state allows (f x) b start → Permits (λ (x : X) (s : B) (ls : List (List ℕ)) (y : X) (t : B) (text : List ℕ). says (f x) s ls (f y) t text) (λ (x : X). kept (f x)) state allows x b start
 permits_by f says kept state allows x b start permits = λ x' b' bytes piece told n. permits (f x') b' bytes piece told (record {
   first = n.first;
-  after_first = f n.after_first;
-  store_after_first = n.store_after_first;
+  after_first = (f n.after_first.0, n.after_first.1);
   written = n.written;
   answered = n.answered;
   idle = n.idle;
-  after_idle = f n.after_idle;
-  store_after_idle = n.store_after_idle;
+  after_idle = (f n.after_idle.0, n.after_idle.1);
   text = n.text;
   kept_none = n.kept_none;
   same = n.same;

@@ -172,6 +172,7 @@ survives_none x = record {
   ends_exact = λ t none log e. e;
   in_hand = λ t log w. leaves_all_none (GivesRooms x.exact log) (IsLineInHand x.manner x.rooms [] []) (x.store.logs log) (x.store.logs log) refl;
   others = λ t log no. refl;
+  calls = λ t. omega arith;
 }
 
 survives_onward : (x y z : Moment) (first more : List (List ℕ)) {text : List ℕ} (ps : List Outcome) (a : AnswersAsks x y first text) → Survives x y first a.added → Survives y z more ps → Survives x z (first ++ more) (a.added ++ ps)
@@ -199,6 +200,7 @@ survives_onward x y z first more ps a h k =
           (λ r bytes i g. (r, hand_second x.manner y.manner x.rooms y.rooms r first more a.added ps a.manner a.rooms_are a.matched i, (h.exact_stays r log (settled bytes)).0 g))
           (k.in_hand (tells t) log (h.ends_within t log w)));
       others = λ t log no. k.others (tells t) log (λ r s p. no r s ((h.within_stays r log s).0 p)) ∙ h.others t log no;
+      calls = λ t. let first = h.calls t in let then = k.calls (tells t) in let long = length-append a.added ps in omega (arith, first, then, long);
     }
 
 survives_alike : (x y : Moment) (line other : List ℕ) (os : List Outcome) → 65536 < length line → 65536 < length other → Survives x y (line ∷ []) os → Survives x y (other ∷ []) os
@@ -214,6 +216,7 @@ survives_alike x y line other os h k v = record {
   in_hand = λ t log w. leaves_all_map (GivesRooms x.exact log) (GivesRooms x.exact log) (IsLineInHand x.manner x.rooms (line ∷ []) os) (IsLineInHand x.manner x.rooms (other ∷ []) os) (x.store.logs log) (y.store.logs log)
       (λ r bytes i g. (r, inl (⊎_elim (λ p. way_alike x.manner x.rooms r line other os (too_long line h) (too_long other k) p) (λ n. absurd (next_alike x.manner x.rooms r line os (too_long line h) n)) i), g)) (v.in_hand t log w);
   others = v.others;
+  calls = v.calls;
 }
 
 pub serves_none : (x : Moment) → AnswersDurably x x [] []

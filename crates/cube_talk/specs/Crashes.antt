@@ -1,5 +1,5 @@
 -- What a crash may leave of a log while a desk answers the lines of `ask`.
-use Rattle.std.specs.Prelude.{◌≡◌, ◌≢◌, ◌⊎◌, ◌↔◌, ℕ, false, IsTrue, List, ◌∷◌, ◌++◌, length}
+use Rattle.std.specs.Prelude.{◌≡◌, ◌≢◌, ◌⊎◌, ◌↔◌, ◌≤◌, ◌+◌, ◌*◌, ℕ, false, IsTrue, List, ◌∷◌, ◌++◌, length}
 use Rattle.cube_io.specs.Causes.{RoseBy}
 use Rattle.cube_io.specs.Desks.{Manner, ForeignStay, GivesRooms, LeavesAll, faults_in}
 use Rattle.cube_io.specs.Seen.{SourceState, SinkState, Seen}
@@ -46,7 +46,7 @@ IsPassed m rooms ls os within log s = (here : List Room) × IsOnTheWay m rooms l
 
 -- While these lines were answered, every crash left the histories of some rooms on the way, one alone or with one more request; behind
 -- them those of the last, and just those where the journal never failed. Beyond what it could leave before, that request is one in hand.
--- Logs that keep no room's history stayed.
+-- Logs that keep no room's history stayed. The store was called four times at most for each ask.
 pub record Survives (before after : Moment) (ls : List (List ℕ)) (os : List Outcome) : Type 0 where
   pub told_stays : after.store.told ≡ before.store.told
   pub names_stay : IsTrue before.store.told → after.store.names ≡ before.store.names
@@ -59,6 +59,7 @@ pub record Survives (before after : Moment) (ls : List (List ℕ)) (os : List Ou
   pub in_hand : IsTrue before.store.told → (log : ℕ) → before.within before.rooms log (before.store.logs log).state
       → LeavesAll (GivesRooms before.exact log) (IsLineInHand before.manner before.rooms ls os) (before.store.logs log) (after.store.logs log)
   pub others : ForeignStay before.within before.store after.store
+  pub calls : IsTrue before.store.told → after.store.calls ≤ before.store.calls + 4 * length os
 
 -- some lines were answered, and a crash in between left what it may
 abbrev pub AnswersDurably : Moment → Moment → List (List ℕ) → List ℕ → Type 0

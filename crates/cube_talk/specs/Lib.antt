@@ -11,3 +11,4 @@ pub mod AskLaws
 pub mod Crashes
 pub mod CrashLaws
 pub mod Examples
+pub mod Failing

@@ -15,4 +15,4 @@ pub use replies::{Replies, Said};
 pub use responder::{MAX_LINE, Responder};
 pub use sums::{Sums, converse_by_sums};
 pub use talk::{Ending, TalkEnd, converse};
-pub use worked::{worked_faults, worked_lines, worked_talk};
+pub use worked::{worked_faults, worked_hand, worked_lines, worked_talk};

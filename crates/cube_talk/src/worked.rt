@@ -4,6 +4,8 @@ ghost use Rattle.cube_model.specs.declared.ask.Question.TheVariants.{Query, Shap
 ghost use Rattle.cube_model.specs.declared.outcome.Outcome.TheVariants.{Given as given, JournalFault, NoMemory};
 ghost use Rattle.cube_talk.specs.Asks.{FailedFresh, question_of, talk};
 ghost use Rattle.cube_talk.specs.Examples.{echo};
+ghost use Rattle.cube_talk.specs.Failing.{InHand};
+ghost use Rattle.cube_model.specs.Rooms.{Room};
 
 /// What the definition writes to some lines: an ask that finds no memory takes its outcome, behind the stated asks nothing is said,
 /// nor where an outcome is needed and none is left.
@@ -28,4 +30,13 @@ pub fn worked_faults()
     ensures first { ¬ FailedFresh echo [] (codes "a" ∷ codes "bc" ∷ []) (JournalFault ∷ given ∷ []) }
     ensures second { ¬ FailedFresh echo [] (codes "a" ∷ codes "bc" ∷ []) (given ∷ JournalFault ∷ []) }
     ensures none { FailedFresh echo [] (codes "a" ∷ codes "bc" ∷ []) (given ∷ NoMemory ∷ []) }
+{}
+
+/// What a crash may leave while two lines are answered, of which the journal fails for the first: nothing yet, or the request of the
+/// first alone, which was in hand, or that of the second alone; but not both.
+pub fn worked_hand()
+    ensures nothing { (r : Room) → InHand r [] }
+    ensures first { (r : Room) → InHand r (r ∷ []) }
+    ensures second { (r : Room) → InHand r (r ∷ r ∷ []) }
+    ensures both { (r : Room) → ¬ InHand r (r ∷ r ∷ r ∷ []) }
 {}

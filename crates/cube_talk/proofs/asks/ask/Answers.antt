@@ -15,7 +15,7 @@ returns-in-Ok-clause-serves g c =
     (λ (a : Ask). IsTrue x.store.told → (log : ℕ) → x.within x.rooms log (x.store.logs log).state → LeavesAll (GivesRooms x.exact log) (IsOneOf x.rooms (x.manner.next x.rooms a Given)) (x.store.logs log) (y.store.logs log))
     c.in-Ok.ensures c.answer.ensures.in_hand in
     one_serves x y c.args.line.now c.answer.result c.requires.short c.answer.ensures.manner c.requires.capacity c.answer.ensures.capacity answered c.answer.ensures.told c.answer.ensures.names c.answer.ensures.exact_stays c.answer.ensures.within_stays
-    c.answer.ensures.passed c.answer.ensures.within c.answer.ensures.exact c.answer.ensures.others hand (λ e. ap g.S.Store.state (c.answer.ensures.memory e))
+    c.answer.ensures.passed c.answer.ensures.within c.answer.ensures.exact c.answer.ensures.others hand (λ e. ap g.S.Store.state (c.answer.ensures.memory e)) c.answer.ensures.calls
 
 pub returns-in-Err-clause-serves : goal.returns-in-Err-clause-serves
 returns-in-Err-clause-serves g c =
