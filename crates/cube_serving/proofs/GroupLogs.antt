@@ -17,7 +17,7 @@ use Rattle.cube_engine.specs.Kept.{history_of, GivesHistory, IsExact, IsWithin}
 use Rattle.cube_engine.specs.Steps.{by_words, manner}
 use Rattle.cube_server.specs.Crashes.{after, OnTheWay, IsInHand, Endures}
 use Rattle.cube_server.specs.Logs.{Call as Reached}
-use Rattle.cube_server.specs.Seen.{DeskState}
+use Rattle.cube_server.specs.Seen.{DeskState, Moment}
 use Rattle.cube_starting.specs.Grouping.{AllOf}
 use Rattle.cube_starting.specs.NamedBooks.{room, rooms_of, AreNumbered, place, places_of, HoldsAt}
 use Rattle.cube_serving.specs.Serving.{turn_of, RoomHas}
@@ -112,11 +112,32 @@ own_at P front back g st numbered p =
 abbrev pub behind : Dims → List Reached → NamedBook → List Entry
 behind s calls b = (ended (by_words s) (map turn_of calls) (room b)).history
 
--- Books were asked over a wire: these asks led to those rooms, and this is what they leave of a store.
-pub record WereAsked (s : Dims) (calls : List Reached) (within exact : List Room → ℕ → State → Type 0) (stated : ℕ) (last : DeskState) (store store' : StoreState) (bs : List NamedBook) : Type 0 where
+-- Asks of books over a wire: the dimensions, the asks, for how many there was space, and the desk behind them with what it says of logs.
+pub record Asks : Type 1 where
+  pub dims : Dims
+  pub calls : List Reached
+  pub stated : ℕ
+  pub last : DeskState
+  pub exact : List Room → ℕ → State → Type 0
+  pub within : List Room → ℕ → State → Type 0
+
+-- the books before they were asked anything, and the desk behind the asks
+abbrev pub books_at : Asks → List NamedBook → StoreState → Moment
+books_at x bs store = record {
+  desk = record { manner = manner x.dims; rooms = rooms_of bs; capacity = x.stated; outcomes = [] };
+  exact = HoldsAt IsExact (places_of bs);
+  within = HoldsAt IsWithin (places_of bs);
+  store = store;
+}
+
+abbrev pub desk_behind_at : Asks → StoreState → Moment
+desk_behind_at x store = record { desk = x.last; exact = x.exact; within = x.within; store = store }
+
+-- The books were asked so: the asks led to the last rooms, and this is what they leave of a store.
+pub record WereAsked (x : Asks) (store store' : StoreState) (bs : List NamedBook) : Type 0 where
   pub numbered : AreNumbered 0 bs
-  pub leads : last.rooms ≡ after (manner s) (rooms_of bs) calls
-  pub endures : Endures (HoldsAt IsWithin (places_of bs)) within (HoldsAt IsExact (places_of bs)) exact (record { manner = manner s; rooms = rooms_of bs; capacity = stated; outcomes = [] }) last store store' calls
+  pub leads : x.last.rooms ≡ after (manner x.dims) (rooms_of bs) x.calls
+  pub endures : Endures (books_at x bs store) (desk_behind_at x store') x.calls
 
 -- what is in hand is behind some asks, of which the last may be the one in hand
 hand_calls : (m : Manner) (rooms : List Room) (calls : List Reached) (here : List Room) → IsInHand m rooms calls here → (cs : List Reached) × (here ≡ after m rooms cs)
@@ -138,8 +159,17 @@ history_first : (front back : List NamedBook) (g : NamedBook) → RoomHas (lengt
 history_first [] back g = refl
 history_first (x ∷ front) back g = history_first front back g
 
-module _ {S : Type 0} (s : Dims) (calls : List Reached) (within exact : List Room → ℕ → State → Type 0) (stated : ℕ) (last : DeskState) (mid : StoreState) (store : Seen StoreState S) (are : IsTrue mid.told)
-    (front back : List NamedBook) (g : NamedBook) (w : WereAsked s calls within exact stated last mid store.after (front ++ g ∷ back)) where
+module _ {S : Type 0} (x : Asks) (mid : StoreState) (store : Seen StoreState S) (are : IsTrue mid.told)
+    (front back : List NamedBook) (g : NamedBook) (w : WereAsked x mid store.after (front ++ g ∷ back)) where
+  abbrev s : Dims
+  s = x.dims
+
+  abbrev calls : List Reached
+  calls = x.calls
+
+  abbrev last : DeskState
+  last = x.last
+
   abbrev bs : List NamedBook
   bs = front ++ g ∷ back
 
@@ -147,22 +177,22 @@ module _ {S : Type 0} (s : Dims) (calls : List Reached) (within exact : List Roo
   k = length front
 
   on_the_way : (st : State) → OnTheWay (manner s) (HoldsAt IsWithin (places_of bs)) (rooms_of bs) last.rooms k st → (h : List Entry) × Extends g.book.history h × Extends h (behind s calls g) × IsWithin g.book.core g.book.policy h st
-  on_the_way st x =
-      let first = x.from.0 in
-      let then = x.to.0 in
+  on_the_way st y =
+      let first = y.from.0 in
+      let then = y.to.0 in
       let st_of = λ (cs : List Reached) (r : Room). ended (by_words s) (map turn_of cs) r in
       let public = shown g.book.core g.book.policy in
       let h = behind s first g in
-      let here : x.here ≡ map (st_of first) (rooms_of bs) = x.from.1 ∙ after_is s (rooms_of bs) first in
+      let here : y.here ≡ map (st_of first) (rooms_of bs) = y.from.1 ∙ after_is s (rooms_of bs) first in
       let both : map (st_of calls) (rooms_of bs) ≡ map (λ r. st_of then (st_of first r)) (rooms_of bs) =
-      sym (w.leads ∙ after_is s (rooms_of bs) calls) ∙ x.to.1 ∙ after_is s x.here then ∙ ap (map (st_of then)) here ∙ map_twice (st_of first) (st_of then) (λ r. st_of then (st_of first r)) (rooms_of bs) (λ r. refl) in
+      sym (w.leads ∙ after_is s (rooms_of bs) calls) ∙ y.to.1 ∙ after_is s y.here then ∙ ap (map (st_of then)) here ∙ map_twice (st_of first) (st_of then) (λ r. st_of then (st_of first r)) (rooms_of bs) (λ r. refl) in
       let both_books : map (λ b. st_of calls (room b)) bs ≡ map (λ b. st_of then (st_of first (room b))) bs =
       sym (map_twice room (st_of calls) (λ b. st_of calls (room b)) bs (λ b. refl)) ∙ both ∙ map_twice room (λ r. st_of then (st_of first r)) (λ b. st_of then (st_of first (room b))) bs (λ b. refl) in
       let same : behind s calls g ≡ end (by_words s) public h (turns_to g.name (map turn_of then)) = ap (λ (r : Room). r.history) (at_seam (λ b. st_of calls (room b)) (λ b. st_of then (st_of first (room b))) front back g both_books) in (
         h,
         turns_grow s public g.book.history (turns_to g.name (map turn_of first)),
         subst (Extends h) (sym same) (turns_grow s public h (turns_to g.name (map turn_of then))),
-        own_only IsWithin s first front back g st w.numbered (subst (λ (rs : List Room). HoldsAt IsWithin (places_of bs) rs k st) x.from.1 x.there),
+        own_only IsWithin s first front back g st w.numbered (subst (λ (rs : List Room). HoldsAt IsWithin (places_of bs) rs k st) y.from.1 y.there),
       )
 
   pub survived : IsExact g.book.core g.book.policy g.book.history (mid.logs k).state
@@ -178,8 +208,8 @@ module _ {S : Type 0} (s : Dims) (calls : List Reached) (within exact : List Roo
       let around = own_at IsWithin front back g (mid.logs k).state w.numbered (λ b image. inl (is_exact b image)) in
       record {
         passed = gained_then (IsBetween core policy old.state h (behind s calls g)) old (mid.logs k) new
-            (gained_map (IsInRecovery (history_of core policy) old.state) (IsBetween core policy old.state h (behind s calls g)) old (mid.logs k) (λ st x. inl x) opened)
-            (gained_map (OnTheWay (manner s) (HoldsAt IsWithin (places_of bs)) (rooms_of bs) last.rooms k) (IsBetween core policy old.state h (behind s calls g)) (mid.logs k) new (λ st x. inr (on_the_way st x)) (v.passed are k around));
+            (gained_map (IsInRecovery (history_of core policy) old.state) (IsBetween core policy old.state h (behind s calls g)) old (mid.logs k) (λ st y. inl y) opened)
+            (gained_map (OnTheWay (manner s) (HoldsAt IsWithin (places_of bs)) (rooms_of bs) last.rooms k) (IsBetween core policy old.state h (behind s calls g)) (mid.logs k) new (λ st y. inr (on_the_way st y)) (v.passed are k around));
         ends = own_only IsWithin s calls front back g new.state w.numbered (subst (λ (rs : List Room). HoldsAt IsWithin (places_of bs) rs k new.state) w.leads ((v.within_stays last.rooms k new.state).0 (v.stays_within are k around)));
         exact = λ none. own_only IsExact s calls front back g new.state w.numbered (subst (λ (rs : List Room). HoldsAt IsExact (places_of bs) rs k new.state) w.leads ((v.exact_stays last.rooms k new.state).0 (v.stays_exact none are k (own_at IsExact front back g (mid.logs k).state w.numbered is_exact))));
       }

@@ -15,9 +15,9 @@ use Rattle.cube_talk.specs.Talk.{max_input}
 use Rattle.cube_serving.specs.Serving.{served_status, Ends}
 
 -- the address was asked for, or the wire failed before
-pub heard_or_failed : (address : List ℕ) (old new : List (List ℕ)) (r : Report) → (new ≡ old) ⊎ (new ≡ old ++ address ∷ []) → r.status ≡ 8 → (new ≡ old ++ address ∷ []) ⊎ ((new ≡ old) × (r.status ≡ 8))
-heard_or_failed address old new r (inl e) status = inr (e, status)
-heard_or_failed address old new r (inr e) status = inl e
+pub heard_or_failed : (address : List ℕ) (idle : ℕ) (old new : List (List ℕ × ℕ)) (r : Report) → (new ≡ old) ⊎ (new ≡ old ++ (address, idle) ∷ []) → r.status ≡ 8 → (new ≡ old ++ (address, idle) ∷ []) ⊎ ((new ≡ old) × (r.status ≡ 8))
+heard_or_failed address idle old new r (inl e) status = inr (e, status)
+heard_or_failed address idle old new r (inr e) status = inl e
 
 -- ---- the status of a serving
 

@@ -1,6 +1,7 @@
 -- Groups that were opened, and served a wire or nothing.
-use Rattle.std.proofs.Common.{◌≡◌, ◌∙◌, ◌<◌, ◌≤◌, ◌+◌, refl, sym, subst, ℕ, suc, Bool, List, [], ◌∷◌, ◌++◌, length, map, IsTrue}
+use Rattle.std.proofs.Common.{◌≡◌, ◌∙◌, ◌<◌, ◌≤◌, ◌+◌, ◌*◌, refl, sym, ap, subst, arith, ℕ, suc, Bool, List, [], ◌∷◌, ◌++◌, length, map, IsTrue}
 use Rattle.std.specs.Prelude.{Result}
+use Rattle.std.proofs.lemmas.List.{length-map}
 use Rattle.cube_model.specs.Cores.{Core}
 use Rattle.cube_model.specs.Cubes.{Each}
 use Rattle.cube_groups.specs.declared.group.GroupFile.{GroupFile}
@@ -16,12 +17,12 @@ use Rattle.cube_opening.specs.Opening.{GotBehind}
 use Rattle.cube_opening.specs.Ruling.{MakeGroups, ruled_names}
 use Rattle.cube_opening.specs.declared.cube_files.RuledFiles.{RuledFiles}
 use Rattle.cube_opening.specs.declared.ruling.RuledGroup.{RuledGroup}
-use Rattle.cube_starting.specs.Grouping.{GroupRun, AllOf, AllRecover, AreHeld, AreStarted, ruled_by, AreRunsOf}
+use Rattle.cube_starting.specs.Grouping.{GroupRun, AllOf, AllRecover, AreHeld, AreStarted, OnlyFirst, OnlyFrom, OpensFew, ruled_by, AreRunsOf}
 use Rattle.cube_starting.specs.NamedBooks.{Groups}
 use Rattle.cube_serving.specs.Serving.{IsInTurn, HoldFrom, ServeWire, Served, Unserved, Wired}
 use Rattle.cube_starting.specs.Starting.{RecoversIn, SurvivedIn, HeldIn}
 use Rattle.cube_starting.specs.declared.named.NamedBook.{NamedBook}
-use Rattle.cube_starting.proofs.OpenGroups.{runs_at, still_runs, runs_exact, are_open, run_recovers, SealsLeft}
+use Rattle.cube_starting.proofs.OpenGroups.{runs_at, still_runs, runs_exact, runs_ruled, are_open, run_recovers, only_most, seals_alone}
 
 all_unmap : {X Y : Type 0} (P : ℕ → Y → Type 0) (f : X → Y) (k : ℕ) (xs : List X) → AllOf P k (map f xs) → AllOf (λ n x. P n (f x)) k xs
 all_unmap P f k [] a = tt
@@ -34,7 +35,11 @@ all_three P Q R k (x ∷ xs) f a b = (f.0 a.0 b.0, all_three P Q R (suc k) xs f.
 module _ {F S : Type 0} (cube : RuledFiles) (more : List (List ℕ)) (files : Seen FolderState F) (fs : List GroupFile) (core : Core) (gs : List RuledGroup) (tells : S → StoreState) (old mid : S) (bs : List NamedBook)
     (make : MakeGroups cube files.before core fs gs) (behind : GotBehind (ruled_names cube fs ++ more) files) (started : AreStarted core (seen tells old mid) 0 gs bs)
     (over : Each (λ b. b.book.core ≡ core) bs) (rules : Each (λ b. IsRuled b.book) bs)
-    (few : length gs ≤ 16) (held : AreHeld core gs (seen tells old mid)) where
+    (few : length gs ≤ 16) (held : AreHeld core gs (seen tells old mid)) (opens : OpensFew (length gs) (seen tells old mid)) where
+  -- there are as many of them
+  as_many : (rs : List GroupRun) → AreRunsOf bs rs → length gs ≡ length rs
+  as_many rs runs = ap (λ (xs : List RuledGroup). length xs) (sym (runs_ruled core (seen tells old mid) 0 gs bs rs started runs)) ∙ length-map rs ruled_by
+
   -- nothing was asked
   pub unserved : AllRecover core 0 gs (seen tells old mid) → Unserved cube more files (seen tells old mid)
   unserved passed = record {
@@ -43,12 +48,15 @@ module _ {F S : Type 0} (cube : RuledFiles) (more : List (List ℕ)) (files : Se
     opened = are_open cube more files fs core gs tells old mid bs make behind started over rules few held mid (runs_at bs) (still_runs bs) (λ told j low. refl);
     passed = run_recovers cube more files fs core gs tells old mid bs make behind started over rules few held (runs_at bs) (still_runs bs) passed;
     exact = λ told. runs_exact core (seen tells old mid) 0 gs bs (runs_at bs) started (still_runs bs) told;
+    others = subst (λ (n : ℕ). OnlyFirst n (tells old) (tells mid)) (as_many (runs_at bs) (still_runs bs)) opens.others;
   }
 
   -- a wire was served
-  pub served : (new : S) (e last : Groups) (end : Result (Unit {0}) ServeFault) (told heard_told : Bool) (log : List LogEntry) → bs ≡ e.books → heard_told ≡ told → SealsLeft tells old mid new → (tells mid).told ≡ (tells old).told → (tells mid).faults ≡ (tells old).faults
+  pub served : (new : S) (e last : Groups) (end : Result (Unit {0}) ServeFault) (told heard_told : Bool) (log : List LogEntry) → bs ≡ e.books → heard_told ≡ told → OnlyFrom 0 (length bs) (tells mid) (tells new) → (tells mid).faults ≡ (tells old).faults
       → AllRecover core 0 gs (seen tells old mid) → (w : ServeWire tells core e last end heard_told log mid new) → RoseBy (faults_in last.outcomes) (tells mid).faults (tells new).faults → Served cube more files (seen tells old new) w.asking end told log
-  served new e last end told heard_told log is same_heard stays told_same steady passed w failed =
+  served new e last end told heard_told log is same_heard frame steady passed w failed =
+      let told_same : (tells mid).told ≡ (tells old).told = opens.told in
+      let stays = seals_alone core tells old mid new gs bs few started told_same frame in
       let runs : AreRunsOf bs w.asking.groups = subst (λ (xs : List NamedBook). AreRunsOf xs w.asking.groups) (sym is) w.runs in
       let both : (v : Wired core w.asking end told log) × HoldFrom tells core w.asking.groups v.calls mid new =
       subst (λ (b : Bool). (v : Wired core w.asking end b log) × HoldFrom tells core w.asking.groups v.calls mid new) same_heard (w.wired, w.held) in
@@ -66,5 +74,8 @@ module _ {F S : Type 0} (cube : RuledFiles) (more : List (List ℕ)) (files : Se
               (runs_exact core (seen tells old mid) 0 gs bs w.asking.groups started runs are)
               (all_unmap (λ k (g : RuledGroup). RecoversIn k core g.policy (seen tells old mid)) ruled_by 0 w.asking.groups (run_recovers cube more files fs core gs tells old mid bs make behind started over rules few held w.asking.groups runs passed));
           failed = subst (λ (n : ℕ). RoseBy (faults_in w.asking.outcomes) n (tells new).faults) steady (subst (λ (os : List Outcome). RoseBy (faults_in os) (tells mid).faults (tells new).faults) (sym w.outcomes) failed);
+          few = λ are. let first = opens.calls are in let then = w.few (subst IsTrue (sym told_same) are) in let long = as_many w.asking.groups runs in omega (arith, first, then, long);
         };
+        others = subst (λ (n : ℕ). OnlyFirst n (tells old) (tells new)) (as_many w.asking.groups runs)
+            (only_most core tells old mid new gs bs few started told_same (length gs) (omega arith) opens.others frame);
       }

@@ -1,5 +1,5 @@
 -- What is told to the connections of a wire on which the groups of a cube are served. Who is under one policy is a group without a name.
-use Rattle.std.specs.Prelude.{◌≡◌, ◌≢◌, ◌⊎◌, ◌<◌, ◌+◌, ⊤, ℕ, zero, suc, Bool, true, false, IsTrue, List, [], ◌∷◌, ◌++◌, length, map, codes, decimal}
+use Rattle.std.specs.Prelude.{◌≡◌, ◌≢◌, ◌⊎◌, ◌<◌, ◌≤◌, ◌+◌, ◌*◌, ⊤, ℕ, zero, suc, Bool, true, false, IsTrue, List, [], ◌∷◌, ◌++◌, length, map, codes, decimal}
 use Rattle.std.specs.declared.result.Result.{Result}
 use Rattle.std.specs.declared.result.Result.TheVariants.{Ok, Err}
 use Rattle.cube_model.specs.declared.ask.Question.{Question}
@@ -27,7 +27,7 @@ use Rattle.cube_server.specs.Seen.{DeskState}
 use Rattle.cube_server.specs.Steps.{Serves, IsCounted, has_end, sends_in, luck_of, stated_at}
 use Rattle.cube_server.specs.declared.serving.ServeFault.{ServeFault}
 use Rattle.cube_server.specs.declared.serving.ServeFault.TheVariants.{WireFailed, Spent}
-use Rattle.cube_starting.specs.Grouping.{GroupRun, OnlyFrom, AllOf, AreKept, AreRunsOf, AllRecover, AreOpen, EndsClosedGroups, HaveJournals, ruled, first_room, first_rooms, last_rooms}
+use Rattle.cube_starting.specs.Grouping.{GroupRun, OnlyFirst, OnlyFrom, AllOf, AreKept, AreRunsOf, AllRecover, AreOpen, EndsClosedGroups, HaveJournals, ruled, first_room, first_rooms, last_rooms}
 use Rattle.cube_starting.specs.NamedBooks.{Groups}
 use Rattle.cube_starting.specs.Starting.{RecoversIn, SurvivedIn, HeldIn}
 use Rattle.cube_talk.specs.Talk.{max_input}
@@ -119,7 +119,7 @@ abbrev pub SurviveFrom : {S : Type 0} → (S → StoreState) → Core → Asking
 SurviveFrom {S} tells core a old new = IsTrue (tells old).told → (opened : S) → (tells opened).told ≡ (tells old).told
     → AllOf (λ k (g : GroupRun). IsExact core g.policy g.first ((tells old).logs k).state → RecoversIn k core g.policy (seen tells opened old) → SurvivedIn k core g.policy g.first g.last a.outcomes (seen tells opened new)) 0 a.groups
 
--- Groups over one core served a wire. They were asked nothing before.
+-- Groups over one core served a wire. They were asked nothing before, and the store is called four times at most for each ask.
 pub record ServeWire {S : Type 0} (tells : S → StoreState) (core : Core) (old new : Groups) (end : Result (Unit {0}) ServeFault) (told : Bool) (log : List LogEntry) (store store' : S) : Type 0 where
   pub asking : Asking
   pub runs : AreRunsOf old.books asking.groups
@@ -129,6 +129,7 @@ pub record ServeWire {S : Type 0} (tells : S → StoreState) (core : Core) (old 
   pub wired : Wired core asking end told log
   pub survived : SurviveFrom tells core asking store store'
   pub held : HoldFrom tells core asking.groups wired.calls store store'
+  pub few : IsTrue (tells store).told → (tells store').calls ≤ (tells store).calls + 4 * length asking.outcomes
 
 -- The wire allows that the next event is looked for at each moment of a serving of which all is true that is promised of one which ends there
 -- since the wire fails.
@@ -139,20 +140,24 @@ PermitsGroups {S} tells allows old store = (now : Groups) (t : S) (log : List Lo
 
 -- ---- the whole
 
--- A wire was served by open groups, and their journals kept what was answered.
+-- A wire was served by open groups, and their journals kept what was answered. No log was touched but where the groups file has a group of
+-- its number, and the seal beside it.
 pub record Served {F S : Type 0} (cube : RuledFiles) (more : List (List ℕ)) (files : Seen FolderState F) (store : Seen StoreState S) (a : Asking) (end : Result (Unit {0}) ServeFault) (told : Bool) (log : List LogEntry) : Type 0 where
   pub core : Core
   pub opened : AreOpen cube more files store core a.groups
   pub wired : Wired core a end told log
   pub kept : AreKept core a.groups a.outcomes (IsInTurn core a.groups wired.calls) store
+  pub others : OnlyFirst (length a.groups) store.before store.after
 
--- Groups were opened, and nothing was served: of each journal every crash leaves what recovers its history.
+-- Groups were opened, and nothing was served: of each journal every crash leaves what recovers its history. No log was touched but where
+-- the groups file has a group of its number, and the seal beside it.
 pub record Unserved {F S : Type 0} (cube : RuledFiles) (more : List (List ℕ)) (files : Seen FolderState F) (store : Seen StoreState S) : Type 0 where
   pub core : Core
   pub groups : List GroupRun
   pub opened : AreOpen cube more files store core groups
   pub passed : AllRecover core 0 (ruled groups) store
   pub exact : IsTrue store.before.told → AllOf (λ k (g : GroupRun). IsExact core g.policy g.first (store.after.logs k).state) 0 groups
+  pub others : OnlyFirst (length groups) store.before store.after
 
 -- A wire was served by at most so many asks, and what became of them is reported.
 pub record ServedUpTo {F S : Type 0} (cube : RuledFiles) (more : List (List ℕ)) (stated : ℕ) (files : Seen FolderState F) (store : Seen StoreState S) (told : Bool) (log : List LogEntry) (r : Report) : Type 0 where
@@ -174,9 +179,9 @@ pub record ServedConnections {F S W : Type 0} (cube : RuledFiles) (stated : ℕ)
   pub status : r.status ≡ served_status upto.end
   pub text : r.text ≡ served_text upto.end
 
--- the address was asked for, and where the wire failed it may lack
-abbrev pub Hears : {W : Type 0} → List ℕ → Seen WireState W → Report → Type 0
-Hears address wire r = IsTrue wire.before.told → (wire.after.heard ≡ wire.before.heard ++ address ∷ []) ⊎ ((wire.after.heard ≡ wire.before.heard) × (r.status ≡ 8))
+-- the address was asked for, with the seconds that a connection may be still there, and where the wire failed it may lack
+abbrev pub Hears : {W : Type 0} → List ℕ → ℕ → Seen WireState W → Report → Type 0
+Hears address idle wire r = IsTrue wire.before.told → (wire.after.heard ≡ wire.before.heard ++ (address, idle) ∷ []) ⊎ ((wire.after.heard ≡ wire.before.heard) × (r.status ≡ 8))
 
 -- a run ended where it was to listen: the wire failed, or memory ran out
 abbrev pub Unheard : {W : Type 0} → Seen WireState W → Report → Type 0

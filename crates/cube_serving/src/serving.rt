@@ -68,7 +68,7 @@ pub fn serve_cube<F: Folder, S: Store, I: Source, O: Sink, W: Wire>(
     requires permits { IsTrue (W.state world.old.wire).told → PermitsServing {F = F} {S = S} cube.now stated F.state S.state W.allows world.old.files world.old.store }
     ensures answers { ServeEnds cube.now stated (outside F.state S.state I.state O.state W.state world.old world.new) result }
     ensures names { (world.new.store ≡ world.old.store) ⊎ AsksStore journal.now (seen S.state world.old.store world.new.store) result }
-    ensures heard { (world.new.wire ≡ world.old.wire) ⊎ Hears endpoint.now.address.now (seen W.state world.old.wire world.new.wire) result }
+    ensures heard { (world.new.wire ≡ world.old.wire) ⊎ Hears endpoint.now.address.now endpoint.now.idle (seen W.state world.old.wire world.new.wire) result }
     ensures others { OnlyFirst (most_groups cube.now.rules) (S.state world.old.store) (S.state world.new.store) }
     ensures causes { HasCauses (counted (outside F.state S.state I.state O.state W.state world.old world.new)) result }
     ensures calls { result.status ≡ 9 → IsTrue (S.state world.old.store).told → (S.state world.new.store).calls ≤ (S.state world.old.store).calls + (1 + 11 * most_groups cube.now.rules) }

@@ -187,7 +187,8 @@ pub record EndsAtJournals {S : Type 0} (core : Core) (gs : List RuledGroup) (sto
   pub seals : AllSeals (digest_of_values core) store 0 (map journal_of gs)
   pub compared : AreComparedFirst core gs store
 
--- A run ended at the journals, over the core and the groups that the files make, behind the files of these further names.
+-- A run ended at the journals, over the core and the groups that the files make, behind the files of these further names. No log was
+-- touched but where the groups file has a group of its number, and the seal beside it.
 pub record EndsUnstartedGroups {F S : Type 0} (cube : RuledFiles) (more : List (List ℕ)) (files : Seen FolderState F) (store : Seen StoreState S) (r : Report) : Type 0 where
   pub core : Core
   pub listed : List GroupFile
@@ -195,6 +196,7 @@ pub record EndsUnstartedGroups {F S : Type 0} (cube : RuledFiles) (more : List (
   pub files_make : MakeGroups cube files.before core listed groups
   pub behind : GotBehind (ruled_names cube listed ++ more) files
   pub ended : EndsAtJournals core groups store r
+  pub others : OnlyFirst (length groups) store.before store.after
 
 -- A run ended before its cube was open: at a file, or at a journal behind the files.
 abbrev pub EndsClosedGroups : {F S : Type 0} → RuledFiles → List (List ℕ) → Seen FolderState F → Seen StoreState S → Report → Type 0
@@ -242,8 +244,10 @@ AreRunsOf (b ∷ bs) [] = ⊥
 AreRunsOf (b ∷ bs) (g ∷ gs) = ((b.name ≡ g.name) × (b.book.policy ≡ g.policy) × (b.book.history ≡ g.first)) × AreRunsOf bs gs
 
 -- The journals of groups kept what was answered, each by itself: beyond that a crash leaves in a journal the request in hand, and no other.
--- For each ask in which a journal failed the store's count of faults rose.
+-- For each ask in which a journal failed the store's count of faults rose. The store took few calls to open them, and four at most for each
+-- ask.
 pub record AreKept {S : Type 0} (core : Core) (gs : List GroupRun) (os : List Outcome) (in_hand : ℕ → List Entry → Type 0) (store : Seen StoreState S) : Type 0 where
   pub survived : IsTrue store.before.told → AllOf (λ k (g : GroupRun). SurvivedIn k core g.policy g.first g.last os store) 0 gs
   pub held : IsTrue store.before.told → AllOf (λ k (g : GroupRun). HeldIn k core g.policy (in_hand k) store) 0 gs
   pub failed : RoseBy (faults_in os) store.before.faults store.after.faults
+  pub few : IsTrue store.before.told → store.after.calls ≤ store.before.calls + (1 + 11 * length gs) + 4 * length os

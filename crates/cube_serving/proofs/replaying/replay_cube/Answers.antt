@@ -11,7 +11,7 @@ use Rattle.cube_starting.proofs.Causes.{at_journals}
 use Rattle.cube_serving.proofs.Causes.{at_play}
 use Rattle.cube_script.specs.Playing.{Playing, has_torn}
 use Rattle.cube_serving.specs.Replaying.{script_said, wire_of, room_for_sends}
-use Rattle.cube_starting.proofs.OpenGroups.{only_most, seals_alone}
+use Rattle.cube_starting.proofs.OpenGroups.{only_most}
 use Rattle.cube_serving.proofs.Opened.{served, unserved}
 use Rattle.cube_serving.proofs.Played.{whole, overran, unfailed, writes, finished, ends_none, ends_whole, rose_from, same_room}
 use Rattle.cube_serving.proofs.Unruled as unruled
@@ -67,6 +67,7 @@ returns-in-Err-open_groups-clause-answers g c =
         files_make = x.ok.1;
         behind = record { asked = asked_then (ruled_names c.args.cube.now x.ok.0) (c.args.script_name.now ∷ []) g.F.Folder.state c.args.world.now.files c.open_ruled.new.files c.open_script.new.files x.ok.2.asked z.asks; steady = z.reads.steady ∙ x.ok.2.steady };
         ended = c.in-Err-open_groups.ensures.err;
+        others = c.in-Err-open_groups.ensures.opens.others;
       }),
       refl,
     ))
@@ -82,7 +83,7 @@ returns-in_default-clause-answers g c =
     let files = seen g.F.Folder.state c.args.world.now.files c.open_script.new.files in
     let behind : GotBehind (ruled_names cube x.ok.0 ++ c.args.script_name.now ∷ []) files = record { asked = asked_then (ruled_names cube x.ok.0) (c.args.script_name.now ∷ []) g.F.Folder.state c.args.world.now.files c.open_ruled.new.files c.open_script.new.files x.ok.2.asked z.asks; steady = z.reads.steady ∙ x.ok.2.steady } in
     inr (inr (inl (
-      unserved cube (c.args.script_name.now ∷ []) files x.ok.0 ruled.core ruled.groups g.S.Store.state c.args.world.now.store c.open_groups.new.store c.in-Ok-open_groups.started.value.books x.ok.1 behind y.ok y.over y.rules x.rules.few y.held y.passed,
+      unserved cube (c.args.script_name.now ∷ []) files x.ok.0 ruled.core ruled.groups g.S.Store.state c.args.world.now.store c.open_groups.new.store c.in-Ok-open_groups.started.value.books x.ok.1 behind y.ok y.over y.rules x.rules.few y.held y.opens y.passed,
       (e.0, e.1, e.2 ∙ c.with.ensures ∙ ap (λ (t : List ℕ). t ++ codes "no memory\n") y.message),
       refl,
     )))
@@ -121,8 +122,8 @@ returns-clause-answers g c =
         stated_is = w.stated ∙ y.outcomes.1;
         outcomes_are = c.report_play.ensures.outcomes ∙ c.finish.ensures ∙ sym w.outcomes;
         end = end;
-        served = served cube (c.args.script_name.now ∷ []) files f.ok.0 ruled.core ruled.groups tells old mid e.books f.ok.1 behind y.ok y.over y.rules f.rules.few y.held new e last end
-            true true wire.log refl refl (seals_alone ruled.core tells old mid new ruled.groups e.books f.rules.few y.ok y.opens.told z.others) y.opens.told y.steady y.passed w z.asks;
+        served = served cube (c.args.script_name.now ∷ []) files f.ok.0 ruled.core ruled.groups tells old mid e.books f.ok.1 behind y.ok y.over y.rules f.rules.few y.held y.opens new e last end
+            true true wire.log refl refl z.others y.steady y.passed w z.asks;
       };
       said = subst (λ (fs : Option (List (List ℕ × List ℕ))). IfSome fs (λ known. FileSays script_said c.args.script_name.now known (Ok script.0))) f.reads.files script.3;
       plays = (plays, most);

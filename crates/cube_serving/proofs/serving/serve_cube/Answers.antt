@@ -9,7 +9,7 @@ use Rattle.cube_opening.proofs.Causes.{same, alone, later, never, wider, no_memo
 use Rattle.cube_starting.proofs.Causes.{at_journals}
 use Rattle.cube_serving.proofs.Causes.{at_serving}
 use Rattle.cube_serving.proofs.Listening.{heard_or_failed, not_seven, not_nine, all_served}
-use Rattle.cube_starting.proofs.OpenGroups.{only_most, seals_alone}
+use Rattle.cube_starting.proofs.OpenGroups.{only_most}
 use Rattle.cube_serving.proofs.Opened.{served, unserved}
 use Rattle.cube_serving.proofs.Unruled as unruled
 use Rattle.cube_starting.proofs.Unstarted as unstarted
@@ -38,9 +38,8 @@ returns-clause-answers g c =
         stated_is = w.stated ∙ y.outcomes.1;
         outcomes_are = c.report_serving.ensures.outcomes ∙ c.finish.ensures ∙ sym w.outcomes;
         end = end;
-        served = served cube [] files x.ok.0 ruled.core ruled.groups tells old mid e.books x.ok.1 behind y.ok y.over y.rules x.rules.few y.held new e last end
-            (g.W.Wire.state c.args.world.now.wire).told (g.W.Wire.state c.listen.new.self).told (g.W.Wire.state c.serve_groups-end.new.wire).log refl c.in-Ok-listen.ensures.told
-            (seals_alone ruled.core tells old mid new ruled.groups e.books x.rules.few y.ok y.opens.told z.others) y.opens.told y.steady y.passed w z.asks;
+        served = served cube [] files x.ok.0 ruled.core ruled.groups tells old mid e.books x.ok.1 behind y.ok y.over y.rules x.rules.few y.held y.opens new e last end
+            (g.W.Wire.state c.args.world.now.wire).told (g.W.Wire.state c.listen.new.self).told (g.W.Wire.state c.serve_groups-end.new.wire).log refl c.in-Ok-listen.ensures.told z.others y.steady y.passed w z.asks;
       };
       status = c.report_serving.ensures.status;
       text = c.report_serving.ensures.text;
@@ -60,8 +59,8 @@ serve_groups-end-requires-clause-permits g c = λ told last new log each others 
     let files = seen g.F.Folder.state c.args.world.now.files c.open_ruled.new.files in
     let behind = subst (λ (ns : List (List ℕ)). GotBehind ns files) (sym (append-nil (ruled_names cube x.ok.0))) x.ok.2 in
     c.requires.permits (subst IsTrue c.in-Ok-listen.ensures.told told) c.open_ruled.new.files new log w.asking (w.stated ∙ y.outcomes.1)
-    (served cube [] files x.ok.0 ruled.core ruled.groups tells old mid e.books x.ok.1 behind y.ok y.over y.rules x.rules.few y.held new e last (Err WireFailed)
-    true true log refl refl (seals_alone ruled.core tells old mid new ruled.groups e.books x.rules.few y.ok y.opens.told others) y.opens.told y.steady y.passed w rose)
+    (served cube [] files x.ok.0 ruled.core ruled.groups tells old mid e.books x.ok.1 behind y.ok y.over y.rules x.rules.few y.held y.opens new e last (Err WireFailed)
+    true true log refl refl others y.steady y.passed w rose)
 
 pub returns-in-Err-listen-clause-answers : goal.returns-in-Err-listen-clause-answers
 returns-in-Err-listen-clause-answers g c =
@@ -73,7 +72,7 @@ returns-in-Err-listen-clause-answers g c =
     let files = seen g.F.Folder.state c.args.world.now.files c.open_ruled.new.files in
     let behind = subst (λ (ns : List (List ℕ)). GotBehind ns files) (sym (append-nil (ruled_names cube x.ok.0))) x.ok.2 in
     inr (inl (
-      unserved cube [] files x.ok.0 ruled.core ruled.groups g.S.Store.state c.args.world.now.store c.open_groups.new.store c.in-Ok-open_groups.started.value.books x.ok.1 behind y.ok y.over y.rules x.rules.few y.held y.passed,
+      unserved cube [] files x.ok.0 ruled.core ruled.groups g.S.Store.state c.args.world.now.store c.open_groups.new.store c.in-Ok-open_groups.started.value.books x.ok.1 behind y.ok y.over y.rules x.rules.few y.held y.opens y.passed,
       inl ((e.0, e.1, e.2 ∙ c.with-in-Err-listen.ensures ∙ ap (λ (t : List ℕ). t ++ codes "wire failed\n") y.message), c.in-Err-listen.ensures.cause.failed),
       λ told. c.in-Err-listen.ensures.log told ∙ c.requires.quiet told,
     ))
@@ -88,7 +87,7 @@ returns-in_default-clause-answers g c =
     let files = seen g.F.Folder.state c.args.world.now.files c.open_ruled.new.files in
     let behind = subst (λ (ns : List (List ℕ)). GotBehind ns files) (sym (append-nil (ruled_names cube x.ok.0))) x.ok.2 in
     inr (inl (
-      unserved cube [] files x.ok.0 ruled.core ruled.groups g.S.Store.state c.args.world.now.store c.open_groups.new.store c.in-Ok-open_groups.started.value.books x.ok.1 behind y.ok y.over y.rules x.rules.few y.held y.passed,
+      unserved cube [] files x.ok.0 ruled.core ruled.groups g.S.Store.state c.args.world.now.store c.open_groups.new.store c.in-Ok-open_groups.started.value.books x.ok.1 behind y.ok y.over y.rules x.rules.few y.held y.opens y.passed,
       inr (e.0, e.1, e.2 ∙ c.with.ensures ∙ ap (λ (t : List ℕ). t ++ codes "no memory\n") y.message),
       c.requires.quiet,
     ))
@@ -110,6 +109,7 @@ returns-in-Err-open_groups-clause-answers g c =
         files_make = x.ok.1;
         behind = subst (λ (ns : List (List ℕ)). GotBehind ns files) (sym (append-nil (ruled_names cube x.ok.0))) x.ok.2;
         ended = c.in-Err-open_groups.ensures.err;
+        others = c.in-Err-open_groups.ensures.opens.others;
       }),
       refl,
     )
@@ -124,7 +124,7 @@ returns-in-Err-clause-complete g c = λ all kept some files store wire. inr (unr
 
 pub returns-in-Err-listen-clause-heard : goal.returns-in-Err-listen-clause-heard
 returns-in-Err-listen-clause-heard g c =
-    inr (λ told. heard_or_failed c.args.endpoint.now.address.now (g.W.Wire.state c.args.world.now.wire).heard (g.W.Wire.state c.listen.new.self).heard c.close-in-Err-listen.result (c.in-Err-listen.ensures.heard told) c.close-in-Err-listen.ensures.0)
+    inr (λ told. heard_or_failed c.args.endpoint.now.address.now c.args.endpoint.now.idle (g.W.Wire.state c.args.world.now.wire).heard (g.W.Wire.state c.listen.new.self).heard c.close-in-Err-listen.result (c.in-Err-listen.ensures.heard told) c.close-in-Err-listen.ensures.0)
 
 pub returns-clause-calls : goal.returns-clause-calls
 returns-clause-calls g c = λ nine. absurd (not_nine c.serve_groups-end.result (sym c.report_serving.ensures.status ∙ nine))
