@@ -1,6 +1,5 @@
 -- All that `sum` and `ask` do with the lines of the input.
-use Rattle.std.specs.Prelude.{◌≡◌, ◌≢◌, ◌≤◌, ◌⊎◌, ℕ, true, IsTrue, List, [], ◌∷◌, ◌++◌, length, Option, Some, IfSome, IsSomeAnd, IsOk, Ok}
-use Rattle.std.specs.Io.KnownBytes.{Appends}
+use Rattle.std.specs.Prelude.{◌≡◌, ◌≢◌, ◌⊎◌, ℕ, true, IsTrue, List, [], ◌∷◌, ◌++◌, length, Option, Some, IfSome, IsSomeAnd, IsOk, Ok}
 use Rattle.cube_model.specs.declared.entry.Entry.{Entry}
 use Rattle.cube_model.specs.declared.outcome.Outcome.{Outcome}
 use Rattle.cube_model.specs.declared.policy.Policy.{Policy}
@@ -17,6 +16,7 @@ use Rattle.cube_engine.specs.Worlds.{first_history}
 use Rattle.cube_talk.specs.Asks as asking
 use Rattle.cube_talk.specs.Asks.{Talk, FailedFresh, asks_in, said, rooms_behind}
 use Rattle.cube_talk.specs.Crashes.{IsLineInHand}
+use Rattle.cube_talk.specs.Putting.{IsNext}
 use Rattle.cube_talk.specs.Sums.{Talked}
 use Rattle.cube_talk.specs.declared.talk.TalkEnd.{TalkEnd}
 use Rattle.cube_opening.specs.Opening.{flat_said, FileSays, EndsAt, GotBehind, HasAll, names_of}
@@ -84,42 +84,35 @@ pub record Asked {S I O : Type 0} (cube : CubeFiles) (files : FolderState) (stor
 
 -- ---- what is put of the answers, and when
 
--- some lines were answered over these rooms by this text, each ask among them with an outcome
-pub record Answered (m : Manner) (rooms rooms' : List Room) (ls : List (List ℕ)) (os : List Outcome) (text : List ℕ) : Type 0 where
-  pub matched : length os ≡ asks_in ls
-  pub text_is : text ≡ said m rooms ls os
-  pub rooms_are : rooms' ≡ rooms_behind m rooms ls os
+-- How far the lines of the input were answered: which lines, what became of their asks, and the rooms that these leave.
+pub record Stage : Type 0 where
+  pub lines : List (List ℕ)
+  pub outcomes : List Outcome
+  pub rooms : List Room
 
--- A piece is put of the answers of an open cube. The answers to the first of the lines stand written. Behind those came lines of which
--- nothing was kept, and then one line at most. Of the answers to these some part stands written, and the piece comes next. The journal has
--- kept what was answered: all that is said of it where a run ends holds now, with the history that all these lines leave.
+-- some more lines were answered by this text, each ask among them with an outcome
+pub record Answered (m : Manner) (before : Stage) (ls : List (List ℕ)) (after : Stage) (text : List ℕ) : Type 0 where
+  pub lines_are : after.lines ≡ before.lines ++ ls
+  pub added : List Outcome
+  pub outcomes_are : after.outcomes ≡ before.outcomes ++ added
+  pub in_turn : length added ≡ asks_in ls
+  pub text_is : text ≡ said m before.rooms ls added
+  pub rooms_are : after.rooms ≡ rooms_behind m before.rooms ls added
+
+-- where no line was answered yet
+abbrev pub first_stage : Core → Policy → List Entry → Stage
+first_stage core policy history = record { lines = []; outcomes = []; rooms = alone (world core policy) history }
+
+-- A piece is put of the answers of an open cube, which comes next of what is said to the lines up to this stage. The journal has kept what
+-- was answered: all that is said of it where a run ends holds now, with the history that all these lines leave.
 pub record IsPut {S : Type 0} (cube : CubeFiles) (files : FolderState) (store : Seen StoreState S) (start : Option (List ℕ)) (bytes piece : List ℕ) : Type 0 where
   pub core : Core
   pub policy : Policy
   pub history : List Entry
   pub opened : IsOpen cube files store core policy history
-  pub written : List (List ℕ)
-  pub idle : List (List ℕ)
-  pub line : List (List ℕ)
-  pub one : length line ≤ 1
-  pub os : List Outcome
-  pub idle_os : List Outcome
-  pub line_os : List Outcome
-  pub rooms : List Room
-  pub idle_rooms : List Room
-  pub line_rooms : List Room
-  pub text : List ℕ
-  pub idle_text : List ℕ
-  pub line_text : List ℕ
-  pub answered : Answered (manner core.dims) (alone (world core policy) history) rooms written os text
-  pub answered_idle : Answered (manner core.dims) rooms idle_rooms idle idle_os idle_text
-  pub kept_none : entries idle_rooms ≡ entries rooms
-  pub answered_line : Answered (manner core.dims) idle_rooms line_rooms line line_os line_text
-  pub part : List ℕ
-  pub stands : Appends start (Some bytes) (text ++ part)
-  pub rest : List ℕ
-  pub next : idle_text ++ line_text ≡ part ++ (piece ++ rest)
-  pub kept : AreKept core (record { name = []; policy = policy; first = history; last = first_history line_rooms } ∷ []) (os ++ (idle_os ++ line_os)) (λ k. IsInLine core policy history (written ++ (idle ++ line)) (os ++ (idle_os ++ line_os))) store
+  pub stage : Stage
+  pub next : IsNext {X = Stage} (Answered (manner core.dims)) (λ (s : Stage). entries s.rooms) (first_stage core policy history) start stage (Some bytes) piece
+  pub kept : AreKept core (record { name = []; policy = policy; first = history; last = first_history stage.rooms } ∷ []) stage.outcomes (λ k. IsInLine core policy history stage.lines stage.outcomes) store
 
 -- Over a store that tells what it holds, the output allows each piece that is put so.
 abbrev pub PermitsAsking : {S : Type 0} → CubeFiles → FolderState → (S → StoreState) → (StoreState → List ℕ → List ℕ → Type 0) → S → Option (List ℕ) → Type 0

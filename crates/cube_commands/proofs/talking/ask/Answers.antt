@@ -1,5 +1,5 @@
 use Rattle.std.proofs.Common.{◌∙◌, ◌++◌, ℕ, List, inl, inr, refl, sym, ap, subst, arith, IsTrue}
-use Rattle.std.specs.Prelude.{codes, Some}
+use Rattle.std.specs.Prelude.{codes}
 use Rattle.cube_io.specs.Causes.{RoseBy}
 use Rattle.cube_io.specs.Desks.{faults_in}
 use Rattle.cube_io.specs.Seen.{seen}
@@ -12,8 +12,7 @@ use Rattle.cube_starting.proofs.OpenGroups.{SealsLeft}
 use Rattle.cube_starting.proofs.Started.{groups_are, opened, still_open}
 use Rattle.cube_opening.proofs.Accepted.{all_accepted}
 use Rattle.cube_commands.proofs.Lives.{moment_of, elsewhere, survived, held_lines}
-use Rattle.cube_talk.specs.Putting.{IsNext}
-use Rattle.cube_commands.proofs.Putting.{serving, held_in, is_put}
+use Rattle.cube_commands.proofs.Putting.{IsServedNext, is_put}
 use Rattle.cube_commands.proofs.Worlds.{hides}
 use Rattle.cube_opening.proofs.Causes.{same, alone, never, wider, no_memory, at_file, at_files}
 use Rattle.cube_starting.proofs.Causes.{at_journals}
@@ -68,6 +67,7 @@ returns-clause-answers g c =
           survived = λ told. (survived core policy h j c.args.stated last end (tells mid) store zeroth (told_mid told) (y.begun.begun.started.exact told) (y.passed told) talked, tt);
           held = λ told. (held_lines core policy h j c.args.stated last end (tells mid) store zeroth (told_mid told) (y.begun.begun.started.exact told) (y.passed told) talked, tt);
           failed = subst (λ n. RoseBy (faults_in last.outcomes) n (tells new).faults) y.steady talked.risen;
+          few = λ told. let first = y.opens.calls told in let then = talked.survives.calls (told_mid told) in omega (arith, first, then);
         };
         fresh = talked.fresh;
       },
@@ -90,8 +90,8 @@ converse_by_asks-groups-requires-clause-permits g c = λ now t bytes piece told 
     let start = (g.O.Sink.state c.args.world.now.out).written in
     let at_start = opened cube files core policy (seen tells old mid) book c.in-Ok.ensures.ok.1 y.begun.begun y.held in
     c.requires.permits t bytes piece told (is_put cube files tells old mid core policy book.history book.journal c.args.stated start at_start y.begun.begun.started.log_is y.opens.told y.steady
-    (λ first. y.begun.begun.started.exact first) (λ first. y.passed first) now t bytes piece
-    (subst (λ (x : Groups). IsNext (serving tells) held_in x mid start now t (Some bytes) piece) (groups_are core policy c.args.stated (seen tells old mid) e y.begun) next))
+    (λ first. y.begun.begun.started.exact first) (λ first. y.passed first) y.opens.calls now t bytes piece
+    (subst (λ (x : Groups). IsServedNext tells x mid start now t bytes piece) (groups_are core policy c.args.stated (seen tells old mid) e y.begun) next))
 
 pub returns-clause-sight : goal.returns-clause-sight
 returns-clause-sight g c = λ told. c.converse_by_asks-groups.ensures.sight (subst IsTrue (sym c.in-Ok-open_alone.ensures.opens.told) told)
