@@ -7,7 +7,8 @@ use Rattle.cube_model.specs.Dims.{Dims, plains}
 use Rattle.cube_model.specs.Requests.{row_at, rows}
 use Rattle.cube_model.specs.Safe.{finest}
 use Rattle.cube_source.specs.Blocks.{whole}
-use Rattle.cube_source.proofs.Cuts.{cell, row_covers, keys_whole}
+use Rattle.cube_source.proofs.Cuts.{row_covers, keys_whole}
+use Rattle.cube_source.proofs.Fewer.{cell}
 use Rattle.cube_advise.specs.Lone.{has_one_fact, is_lone, lone_count}
 use Rattle.cube_advise.proofs.Narrowing.{get_or_in}
 use Rattle.cube_advise.proofs.Opening.{listed_levels}

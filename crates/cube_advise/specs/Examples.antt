@@ -10,7 +10,7 @@ use Rattle.cube_model.specs.Cubes.{Public}
 use Rattle.cube_core.specs.Worked.{pay_core}
 
 abbrev pub pay_policy : Policy
-pay_policy = record { methods = Lattice ∷ Parity ∷ []; objects = record { measure = 0; levels = 0 ∷ 0 ∷ []; slice = [] } ∷ [] }
+pay_policy = record { methods = Lattice ∷ Parity ∷ []; objects = record { measure = 0; levels = 0 ∷ 0 ∷ []; slice = []; fewer = None } ∷ [] }
 
 abbrev pub pay_shown : Public
 pay_shown = shown pay_core pay_policy

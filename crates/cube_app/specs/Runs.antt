@@ -45,7 +45,7 @@ Does (Carry cube older journal out) objects r = CarryRun cube older journal obje
 Does (Why cube journal query reason) objects r = ReasonRun cube journal query reason objects r
 Does (Audit cube transcript) objects r = AuditRun cube transcript objects r
 Does (Advise cube journal workload) objects r = AdviseRun cube journal workload objects r
-Does (Serve cube journal address stated idle) objects r = ServeRun cube journal address stated objects r
+Does (Serve cube journal address stated idle) objects r = ServeRun cube journal address stated idle objects r
 Does (Replay cube journal script stated) objects r = ReplayRun cube journal script stated objects r
 Does (Demo making) objects r = DemoRun making objects r
 

@@ -41,9 +41,9 @@ lattice_fits c p m t ok policy way within =
     let rules : IsObject c.dims p it.0 = Each-at (IsObject c.dims p) it.0 p.objects policy.objects it.1 in
     let levels : are_levels (plains c.dims) t.levels ≡ true = finer_levels (plains c.dims) t.levels it.0.levels it.3 rules.levels in
     let long : length t.levels ≡ length c.dims.dimensions = length-levels (plains c.dims) t.levels levels ∙ simp length-map in
-    let place = point_at c p it.4 ok (count_from_has it.4 0 (length c.shape.points) (omega arith) (let below = it.5 in omega (arith, below))) in
+    let place = point_at c p it.5 ok (count_from_has it.5 0 (length c.shape.points) (omega arith) (let below = it.6 in omega (arith, below))) in
     let there = key_there c.dims t.levels _ ok.dims long place in
-    let key : key_at (shown c p) t.levels it.4 ≡ t.key = same_eq (key_at (shown c p) t.levels it.4) t.key it.7 in
+    let key : key_at (shown c p) t.levels it.5 ≡ t.key = same_eq (key_at (shown c p) t.levels it.5) t.key it.8 in
     record { levels = long; key = ap length (sym key) ∙ there.0; there = subst (KeyFits c.dims t.levels) key there.1 }
 
 module _ (c : Core) (p : Policy) (ok : IsCore c) (policy : IsPolicy c.dims p) (h : List Entry) where

@@ -1,5 +1,5 @@
 -- The pay cube of the worked examples, what is said of small transcripts, and what an audit of them tells.
-use Rattle.std.specs.Prelude.{ℕ, List, [], ◌∷◌, codes, Result, Ok, Err}
+use Rattle.std.specs.Prelude.{ℕ, List, [], ◌∷◌, codes, None, Result, Ok, Err}
 use Rattle.cube_model.specs.declared.policy.Method.TheVariants.{Lattice, Parity}
 use Rattle.cube_model.specs.declared.policy.Policy.{Policy}
 use Rattle.cube_core.specs.Worked.{pay_core}
@@ -12,7 +12,7 @@ use Rattle.cube_audit.specs.declared.transcript.TranscriptItem.{TranscriptItem}
 
 -- pay is under the source rule and hours under the parity rule; each cell of a city in a month is protected
 abbrev pub pay_policy : Policy
-pay_policy = record { methods = Lattice ∷ Parity ∷ []; objects = record { measure = 0; levels = 0 ∷ 0 ∷ []; slice = [] } ∷ [] }
+pay_policy = record { methods = Lattice ∷ Parity ∷ []; objects = record { measure = 0; levels = 0 ∷ 0 ∷ []; slice = []; fewer = None } ∷ [] }
 
 abbrev pub item : List ℕ → ℕ → List ℕ → TranscriptItem
 item query status body = record { query = query; status = status; body = body }

@@ -16,7 +16,7 @@ use Rattle.cube_answers.specs.Examples.{grouped}
 abbrev pub pay_policy : Policy
 pay_policy = record {
   methods = Lattice ∷ Plain ∷ [];
-  objects = record { measure = 0; levels = 0 ∷ 0 ∷ []; slice = [] } ∷ [];
+  objects = record { measure = 0; levels = 0 ∷ 0 ∷ []; slice = []; fewer = None } ∷ [];
 }
 
 -- the pay cube behind a history, as the one room of a desk

@@ -36,14 +36,19 @@ low Parity level h = omega (arith, h)
 levels_fine : (level : ℕ) → level ≤ 2 → are_levels (plains pay_core.dims) (two level 0) ≡ true
 levels_fine level l = and_from (leb level 2) true (le-leb level 2 l) refl
 
+-- an object without a number of facts has none out of range
+unbounded : (o : Option ℕ) → o ≡ None → (n : ℕ) → o ≡ Some n → (2 ≤ n) × (n ≤ 1000)
+unbounded o none n e = absurd (cc)
+
 object_fine : (pay hours : Method) (p : Policy) (m level : ℕ) (area : Option ℕ) → p.methods ≡ pay ∷ hours ∷ [] → IsArea area → CanHoldAt pay hours m level
-    → IsObject pay_core.dims p (record { measure = m; levels = two level 0; slice = within area })
+    → IsObject pay_core.dims p (record { measure = m; levels = two level 0; slice = within area; fewer = None })
 object_fine pay hours p zero level area e a h = record {
   measure = omega arith;
   levels = levels_fine level (low pay level h);
   slice = slice_fine area a;
   in_turn = turn_fine area;
   method = method_fine (get_or p.methods 0 Plain) level (subst (λ (m : Method). CanHold m level) (sym (ap (λ (l : List Method). get_or l 0 Plain) e)) h);
+  fewer = unbounded None refl;
 }
 object_fine pay hours p (suc zero) level area e a h = record {
   measure = omega arith;
@@ -51,6 +56,7 @@ object_fine pay hours p (suc zero) level area e a h = record {
   slice = slice_fine area a;
   in_turn = turn_fine area;
   method = method_fine (get_or p.methods 1 Plain) level (subst (λ (m : Method). CanHold m level) (sym (ap (λ (l : List Method). get_or l 1 Plain) e)) h);
+  fewer = unbounded None refl;
 }
 object_fine pay hours p (suc (suc m)) level area e a h = absurd h
 

@@ -13,9 +13,9 @@ abbrev pub within : Option ℕ → List Within
 within None = []
 within (Some area) = record { dimension = 0; level = 1; members = area ∷ [] } ∷ []
 
--- an object at a level of regions and at months
+-- an object at a level of regions and at months, whatever the number of facts
 abbrev pub object_of : Guard → Object
-object_of g = record { measure = g.measure; levels = two g.level 0; slice = within g.area }
+object_of g = record { measure = g.measure; levels = two g.level 0; slice = within g.area; fewer = None }
 
 -- the methods of pay and of hours, with objects
 abbrev pub policy_of : Method → Method → List Guard → Policy

@@ -46,6 +46,7 @@ fn object(alloc: Global, guard: &Guard) -> Result<Object, NoMemory>
         measure: guard.measure,
         levels,
         slice,
+        fewer: None,
     })
 }
 

@@ -1,5 +1,5 @@
 -- What the made dimension file and the made policy say, and what the made facts and queries are.
-use Rattle.std.specs.Prelude.{ℕ, ◌+◌, ◌*◌, ◌/◌, ◌%◌, List, [], ◌∷◌, map, codes}
+use Rattle.std.specs.Prelude.{ℕ, ◌+◌, ◌*◌, ◌/◌, ◌%◌, List, [], ◌∷◌, map, codes, None}
 use Rattle.cube_model.specs.Cubes.{count_from}
 use Rattle.cube_model.specs.Dims.{NamedDimension, NamedMeasure, Dims}
 use Rattle.cube_model.specs.declared.policy.Method.TheVariants.{Plain, Lattice, Parity}
@@ -60,5 +60,5 @@ dims_said s = record {
 abbrev pub policy_said : Policy
 policy_said = record {
   methods = Lattice ∷ Parity ∷ Plain ∷ [];
-  objects = record { measure = 0; levels = 0 ∷ 0 ∷ 0 ∷ []; slice = record { dimension = 2; level = 0; members = 5 ∷ [] } ∷ [] } ∷ [];
+  objects = record { measure = 0; levels = 0 ∷ 0 ∷ 0 ∷ []; slice = record { dimension = 2; level = 0; members = 5 ∷ [] } ∷ []; fewer = None } ∷ [];
 }

@@ -15,7 +15,7 @@ static FILE_KEYS: [&[u8]; 2] = [b"measure", b"object"];
 
 static MEASURE_KEYS: [&[u8]; 2] = [b"name", b"method"];
 
-static OBJECT_KEYS: [&[u8]; 3] = [b"measure", b"below", b"slice"];
+static OBJECT_KEYS: [&[u8]; 4] = [b"measure", b"below", b"slice", b"fewer"];
 
 static SLICE_KEYS: [&[u8]; 2] = [b"level", b"members"];
 

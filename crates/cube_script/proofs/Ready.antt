@@ -353,7 +353,7 @@ next_none script k r past =
     let is = taken_is script k r in
     none_coming (has_torn k.roll.log) script (length (events_in k.roll.log)) (λ none. rw is (past (r.torn ∙ none)))
 
-pub playing : (script : List Arrival) (k : Kept) (heard : List (List ℕ))
+pub playing : (script : List Arrival) (k : Kept) (heard : List (List ℕ × ℕ))
     → IsReady script k
     → IsPlaying (record { script = script; log = k.roll.log; heard = heard; most = k.most; spilled = k.spilled; faults = k.faults; send_faults = k.send_faults })
 playing script k heard r =

@@ -62,17 +62,17 @@ pub record IsReady (script : List Arrival) (kept : Kept) : Type 0 where
   pub torn : kept.overrun ≡ has_torn kept.roll.log
   pub steady : has_torn kept.roll.log ≡ false → kept.spilled ≡ false → kept.taken < length script → kept.faults ≡ 0
 
--- the address that an entry keeps, as bytes that came
-abbrev pub address_in : LogEntry → List ℕ
-address_in (Heard (Opened c)) = []
-address_in (Heard (Came c bytes)) = bytes
-address_in (Heard (Closed c)) = []
-address_in (Heard End) = []
-address_in (Sent c bytes) = []
-address_in (Torn c bytes size) = []
-address_in (Shut c) = []
+-- the address that an entry keeps, as bytes that came, with the seconds that a connection may be still there, as the number of one
+abbrev pub address_in : LogEntry → List ℕ × ℕ
+address_in (Heard (Opened c)) = ([], 0)
+address_in (Heard (Came idle bytes)) = (bytes, idle)
+address_in (Heard (Closed c)) = ([], 0)
+address_in (Heard End) = ([], 0)
+address_in (Sent c bytes) = ([], 0)
+address_in (Torn c bytes size) = ([], 0)
+address_in (Shut c) = ([], 0)
 
 -- the space for addresses
 pub record IsListening (roll : Roll) : Type 0 where
   pub few : length (map address_in roll.log) + roll.entries_left ≡ max_addresses
-  pub short : sum_by length (map address_in roll.log) + roll.bytes_left ≡ max_address_bytes
+  pub short : sum_by (λ heard. length heard.0) (map address_in roll.log) + roll.bytes_left ≡ max_address_bytes

@@ -41,12 +41,12 @@ is_settled (Sent c bytes) = true
 is_settled (Torn c bytes size) = length bytes == 0
 is_settled (Shut c) = true
 
--- A wire that plays a script: all that it plays, its log, the addresses that were heard, the space for sends that go well, whether an
--- address was refused, and how often calls failed, and sends.
+-- A wire that plays a script: all that it plays, its log, the addresses that were heard, each with the seconds that a connection may be
+-- still there, the space for sends that go well, whether an address was refused, and how often calls failed, and sends.
 pub record Playing : Type 0 where
   pub script : List Arrival
   pub log : List LogEntry
-  pub heard : List (List ℕ)
+  pub heard : List (List ℕ × ℕ)
   pub most : SendCapacity
   pub spilled : Bool
   pub faults : ℕ
@@ -94,7 +94,7 @@ max_address_bytes = 1024
 
 -- there is space for an address
 abbrev pub has_capacity_for : Playing → List ℕ → Bool
-has_capacity_for w address = nat_lt (length w.heard) max_addresses && nat_le (sum_by length w.heard + length address) max_address_bytes
+has_capacity_for w address = nat_lt (length w.heard) max_addresses && nat_le (sum_by (λ heard. length heard.0) w.heard + length address) max_address_bytes
 
 -- A send failed, and the first that did would have passed the space for sends behind what went out before it. Behind it no send goes
 -- well, and no event comes.

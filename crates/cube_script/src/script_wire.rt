@@ -4,7 +4,7 @@ ghost use Rattle.std.specs.Io.KnownBytes.{Appends};
 ghost use Rattle.cube_model.specs.Answers.{Answers};
 ghost use Rattle.cube_io.specs.Causes.{HasCause};
 ghost use Rattle.cube_io.specs.Content.{AppendsPrefix};
-ghost use Rattle.cube_io.specs.Told.{AsksFor};
+ghost use Rattle.cube_io.specs.Told.{ListensOn};
 ghost use Rattle.cube_io.specs.Wires.{FitsBuffer, IsOpen, IsSound, SendTells, NextTells, arrival_of, render, events_in};
 ghost use Rattle.cube_io.specs.Wires.LogEntry.{Heard, Sent, Torn, Shut};
 ghost use Rattle.cube_script.specs.Playing.{Playing, IsPlaying, IsFresh, started, has_torn, next_of, is_refused, has_capacity_for};
@@ -157,13 +157,13 @@ impl Wire for ScriptWire {
 
     ghost allows = { λ store log. ⊤ };
 
-    fn listen(&mut self, address: &Text, _idle: u32) -> Result<(), Failed>
+    fn listen(&mut self, address: &Text, idle: u32) -> Result<(), Failed>
         ensures cause { HasCause self.old.faults self.new.faults result }
         ensures sends { self.new.send_faults ≡ self.old.send_faults }
         ensures log { self.new.log ≡ self.old.log }
-        ensures heard { AsksFor result self.old.heard self.new.heard address.now }
+        ensures heard { ListensOn result self.old.heard self.new.heard address.now idle }
         ensures capacity { is_ok result ≡ has_capacity_for self.old address.now }
-        ensures ok { OnOk result (self.new ≡ record self.old { heard = self.old.heard ++ address.now ∷ [] }) }
+        ensures ok { OnOk result (self.new ≡ record self.old { heard = self.old.heard ++ (address.now, idle) ∷ [] }) }
         ensures err { OnErr result (self.new ≡ record self.old { spilled = true; faults = min (self.old.faults + 1) (2 ^ 64 - 1) }) }
     {
         let name = address.as_slice();
@@ -172,7 +172,7 @@ impl Wire for ScriptWire {
             self.faults = self.faults.saturating_add(1);
             return Err(Failed);
         }
-        self.addresses.add(Note::Came(0), name);
+        self.addresses.add(Note::Came(idle), name);
         Ok(())
     }
 

@@ -1,5 +1,5 @@
 -- The pay cube of the worked examples: a fact at each point, pay under the source rule, each city's month of it protected.
-use Rattle.std.specs.Prelude.{ℕ, List, [], ◌∷◌, pos}
+use Rattle.std.specs.Prelude.{ℕ, List, [], ◌∷◌, None, pos}
 use Rattle.cube_model.specs.declared.cell.Cell.{Cell}
 use Rattle.cube_model.specs.declared.change.Change.{Change}
 use Rattle.cube_model.specs.declared.entry.Entry.{Entry}
@@ -16,7 +16,7 @@ abbrev pub pay_cube : Core
 pay_cube = record pay_core { shape = record { points = pay_core.shape.points; facts = 1 ∷ 1 ∷ 1 ∷ 1 ∷ 1 ∷ [] } }
 
 abbrev pub pay_policy : Policy
-pay_policy = record { methods = Lattice ∷ Parity ∷ []; objects = record { measure = 0; levels = two 0 0; slice = [] } ∷ [] }
+pay_policy = record { methods = Lattice ∷ Parity ∷ []; objects = record { measure = 0; levels = two 0 0; slice = []; fewer = None } ∷ [] }
 
 -- a city in a month
 abbrev pub cell : ℕ → ℕ → Cell
