@@ -68,7 +68,11 @@ class Cube:
         method = next(m["method"] for m in self.policy["measure"] if m["name"] == measure)
         if method == "parity" and not objects:
             return True
-        return any(self.under(o, levels) and any(self.sliced(o, p) for p in inside) for o in objects)
+        return any(self.under(o, levels) and self.few(o, inside) and any(self.sliced(o, p) for p in inside) for o in objects)
+
+    def few(self, o, inside):
+        points = set(inside)
+        return "fewer" not in o or sum(place in points for place in self.places) < o["fewer"]
 
     def under(self, o, levels):
         tops = [d["levels"] + ["all"] for d in self.dims]
